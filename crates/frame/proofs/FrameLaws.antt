@@ -1,0 +1,80 @@
+-- Laws of a frame that is put together from its parts: what the reader's definitions find in it. Assumes nothing.
+use Prim.Native.Nat.{ℕ, zero, suc, _+_, _-_, _*_, _≤_, _<_}
+use native.Mathlib.Omega.{arith}
+use native.Mathlib.Nat.{add-zero}
+use mathlib.Core.Path.{_≡_, refl, sym, ap, ap₂, _∙_, subst}
+use mathlib.Core.Bool.{Bool, true, false, not, _&&_, cond}
+use mathlib.Core.List.{List, [], _∷_, _++_, append-assoc}
+use lib.ListN.{length, take, drop, length-append}
+use lib.Seq.{drop-at, take-at, take-length}
+use lib.Dec.{eqb, ltb, leb, lit<}
+use borrow.Author.Tests.{eq-eqb, le-ltb, lt-ltb, le-leb, lt-leb}
+use Rattle.line.specs.Octets.{sameOctets, highFirstAt, highFirst, between}
+use Rattle.line.specs.Table.{first}
+use Rattle.line.proofs.Octets.{sameOctets-refl, highFirst-read, between-middle}
+use Rattle.line.proofs.Tables.{first-here, first-next, first-other}
+use Rattle.fcs.specs.Fcs.{fcs}
+use Rattle.frame.specs.Tags.{isTagKind, mostTags, tagRun, tagCount}
+use Rattle.frame.specs.Frame.{firstField, fieldPlace, field, dataPlace, frameData, covered, lastFour, wrongFcs}
+use Rattle.frame.specs.Length.{kept, wrongLength, handedLength, clientData}
+
+-- ---- the FCS
+
+pub fcs-four : (b : List ℕ) → length (fcs b) ≡ 4
+unfolding fcs
+fcs-four b = refl
+
+-- a frame that ends in the check of what stands before it is not wrong: no property of the division is used
+pub fcs-right : (b : List ℕ) → wrongFcs (b ++ fcs b) ≡ false
+unfolding wrongFcs covered lastFour
+fcs-right b =
+    let n : length b ≡ length (b ++ fcs b) - 4 = omega (arith, length-append b (fcs b), fcs-four b) in
+    ap₂ (λ (x y : List ℕ). not (sameOctets x (fcs y))) (drop-at b (fcs b) (length (b ++ fcs b) - 4) n) (take-at b (fcs b) (length (b ++ fcs b) - 4) n)
+    ∙ ap not (sameOctets-refl (fcs b))
+
+-- ---- tags: `a` is the two addresses
+
+pub tags-none : (a : List ℕ) (n : ℕ) (r : List ℕ) → length a ≡ 12 → n < 65536 → isTagKind n ≡ false → tagCount (a ++ (highFirst n ++ r)) ≡ 0
+unfolding tagCount mostTags tagRun
+tags-none a n r e lt h =
+    ap (tagRun 1) (drop-at a (highFirst n ++ r) 12 e) ∙ rw (highFirst-read [] n r 0 refl lt, h, tagRun)
+
+pub tags-one : (a : List ℕ) (r : List ℕ) → length a ≡ 12 → tagCount (a ++ (highFirst 0x8100 ++ r)) ≡ 1
+unfolding tagCount mostTags tagRun isTagKind highFirstAt highFirst
+tags-one a r e = ap (tagRun 1) (drop-at a (highFirst 0x8100 ++ r) 12 e)
+
+-- ---- field, data, length: `h` is what stands before the field
+module _ (h : List ℕ) (n : ℕ) (p q : List ℕ) (t : ℕ) (ht : tagCount (h ++ (highFirst n ++ (p ++ q))) ≡ t) (hl : length h ≡ 12 + 4 * t) (lt : n < 65536) (ql : length q ≡ 4) where
+  pub frame-length : length (h ++ (highFirst n ++ (p ++ q))) ≡ 18 + 4 * t + length p
+  unfolding highFirst
+  frame-length = simp length-append (omega arith)
+
+  pub frame-field : field (h ++ (highFirst n ++ (p ++ q))) ≡ n
+  unfolding field fieldPlace
+  frame-field = highFirst-read h n (p ++ q) (12 + 4 * tagCount (h ++ (highFirst n ++ (p ++ q)))) (hl ∙ ap (λ (k : ℕ). 12 + 4 * k) (sym ht)) lt
+
+  pub frame-payload : frameData (h ++ (highFirst n ++ (p ++ q))) ≡ p
+  unfolding frameData dataPlace fieldPlace
+  frame-payload =
+      let two : length (h ++ highFirst n) ≡ 14 + 4 * t = (unfold highFirst in simp length-append (omega arith)) in
+      let k = frame-length in
+      ap (λ (l : List ℕ). between l (12 + 4 * tagCount (h ++ (highFirst n ++ (p ++ q))) + 2) (length (h ++ (highFirst n ++ (p ++ q))) - 4)) (sym (append-assoc h (highFirst n) (p ++ q)))
+      ∙ between-middle (h ++ highFirst n) p q (12 + 4 * tagCount (h ++ (highFirst n ++ (p ++ q))) + 2) (length (h ++ (highFirst n ++ (p ++ q))) - 4) (omega arith) (omega arith)
+
+-- ---- the length rule
+
+pub kept-type : (n k : ℕ) → 1536 ≤ n → kept n k ≡ true
+unfolding kept
+kept-type n k h = first-here true _ (le-leb 1536 n h)
+
+pub kept-long : (n : ℕ) → 46 ≤ n → n ≤ 1500 → kept n n ≡ true
+unfolding kept
+kept-long n h g =
+    first-next true _ (lt-leb 1536 n (omega arith)) ∙ first-next false _ (lt-leb 1501 n (omega arith)) ∙ first-here (eqb n n) _ (le-leb 46 n h)
+    ∙ eq-eqb n n refl
+
+pub kept-short : (n k : ℕ) → n < 46 → k ≡ 46 → kept n k ≡ true
+unfolding kept
+kept-short n k h e =
+    first-next true _ (lt-leb 1536 n (omega arith)) ∙ first-next false _ (lt-leb 1501 n (omega arith)) ∙ first-next (eqb k n) _ (lt-leb 46 n h)
+    ∙ first-other (eqb k 46) ∙ eq-eqb k 46 e

@@ -1,0 +1,79 @@
+-- "Client data is a part of the captured octets themselves": the part that a reading answers, cut out of the captured octets, is
+-- the client data by definition. The statement is `handed-is-client-data`. Assumes nothing.
+use Prim.Native.Nat.{ℕ, zero, suc, _+_, _-_}
+use native.Mathlib.Omega.{arith}
+use mathlib.Core.Path.{_≡_, refl, sym, ap, ap₂, _∙_, subst}
+use mathlib.Core.Bool.{Bool, true, false, _&&_, cond}
+use mathlib.Core.List.{List, [], _∷_, _++_, append-assoc, append-nil}
+use lib.ListN.{length, take, drop, take-append-drop}
+use lib.Seq.{take-append-seam, drop-drop}
+use lib.Dec.{ltb}
+use Rattle.line.specs.Line.{Symbol, capture, isData, run}
+use Rattle.line.specs.Octets.{between}
+use Rattle.line.proofs.Symbols.{by-test, run-data, run-control}
+use Rattle.line.proofs.Buffers.{drop-capture}
+use Rattle.frame.specs.Frame.{field, dataPlace, frameData}
+use Rattle.frame.specs.Length.{clientData, handedLength}
+use Rattle.receive.specs.Outcomes.{frameOf}
+
+-- x stands at the front of y
+abbrev Front : List ℕ → List ℕ → Type 0
+Front x y = (z : List ℕ) × (y ≡ x ++ z)
+
+front-refl : (x : List ℕ) → Front x x
+front-refl x = ([], sym (append-nil x))
+
+front-take : (n : ℕ) (y : List ℕ) → Front (take n y) y
+front-take n y = (drop n y, sym (take-append-drop n y))
+
+front-trans : (x y w : List ℕ) → Front x y → Front y w → Front x w
+front-trans x y w p q = (p .0 ++ q .0, q .1 ∙ ap (λ (l : List ℕ). l ++ q .0) (p .1) ∙ append-assoc x (p .0) (q .0))
+
+drop-split : (n : ℕ) (x z : List ℕ) → Front (drop n x) (drop n (x ++ z))
+drop-split zero x z = (z, refl)
+drop-split (suc n) [] z = (drop (suc n) z, refl)
+drop-split (suc n) (a ∷ x) z = drop-split n x z
+
+front-drop : (n : ℕ) (x y : List ℕ) → Front x y → Front (drop n x) (drop n y)
+front-drop n x y p = subst (λ (l : List ℕ). Front (drop n x) (drop n l)) (sym (p .1)) (drop-split n x (p .0))
+
+-- a run stands at the front of the octets
+run-front : (os ms : List ℕ) → Front (run (capture os ms)) os
+unfolding capture run
+run-front [] ms = ([], refl)
+run-front (o ∷ os) [] = (o ∷ os, refl)
+run-front (o ∷ os) (m ∷ ms) =
+    let x : Symbol = record { octet = o; mark = m } in
+    let ih = run-front os ms in
+    by-test (isData x)
+    (λ h. (ih .0, ap (λ (l : List ℕ). o ∷ l) (ih .1) ∙ ap (λ (l : List ℕ). l ++ ih .0) (sym (run-data x (capture os ms) h))))
+    (λ h. (o ∷ os, ap (λ (l : List ℕ). l ++ (o ∷ os)) (sym (run-control x (capture os ms) h))))
+
+client-front : (ck : Bool) (f : List ℕ) → Front (clientData ck f) (frameData f)
+unfolding clientData
+client-front ck f = go (ck && ltb (field f) 46)
+  where
+    go : (b : Bool) → Front (cond b (take (field f) (frameData f)) (frameData f)) (frameData f)
+    go true = front-take (field f) (frameData f)
+    go false = front-refl (frameData f)
+
+payload-front : (f : List ℕ) → Front (frameData f) (drop (dataPlace f) f)
+unfolding frameData between
+payload-front f = front-take (length f - 4 - dataPlace f) (drop (dataPlace f) f)
+
+-- a Start at place i of the capture, `f` the frame of its run
+pub handed-is-client-data : (ck : Bool) (os ms : List ℕ) (i : ℕ)
+    → let f : List ℕ = frameOf (run (drop (i + 1) (capture os ms))) in take (handedLength ck f) (drop (i + 8 + dataPlace f) os) ≡ clientData ck f
+unfolding frameOf handedLength
+handed-is-client-data ck os ms i =
+    let r : List ℕ = run (drop (i + 1) (capture os ms)) in
+    let f : List ℕ = drop 7 r in
+    let a : ℕ = dataPlace f in
+    let fr : Front r (drop (i + 1) os) = subst (λ (l : List Symbol). Front (run l) (drop (i + 1) os)) (sym (drop-capture (i + 1) os ms)) (run-front (drop (i + 1) os) (drop (i + 1) ms)) in
+    let all : Front (clientData ck f) (drop a (drop 7 (drop (i + 1) os))) =
+    front-trans (clientData ck f) (frameData f) (drop a (drop 7 (drop (i + 1) os))) (client-front ck f)
+    (front-trans (frameData f) (drop a f) (drop a (drop 7 (drop (i + 1) os))) (payload-front f) (front-drop a f (drop 7 (drop (i + 1) os)) (front-drop 7 r (drop (i + 1) os) fr))) in
+    let eight : i + 1 + 7 + a ≡ i + 8 + a = omega arith in
+    let place : drop a (drop 7 (drop (i + 1) os)) ≡ drop (i + 8 + a) os =
+    ap (drop a) (drop-drop 7 (i + 1) os) ∙ drop-drop a (i + 1 + 7) os ∙ ap (λ (n : ℕ). drop n os) eight in
+    ap (take (length (clientData ck f))) (sym place ∙ all .1) ∙ take-append-seam (clientData ck f) (all .0)

@@ -1,0 +1,46 @@
+-- Document 01, "Reading one Start": the table of outcomes.
+use Prim.Native.Nat.{ℕ}
+use mathlib.Core.Bool.{Bool, not, _||_}
+use mathlib.Core.List.{List}
+use lib.ListN.{length, take, drop}
+use lib.Dec.{eqb, ltb}
+use Rattle.line.specs.Line.{terminate, preamble}
+use Rattle.line.specs.Octets.{sameOctets}
+use Rattle.line.specs.Table.{Table, _⇒_, _∣_, otherwise, first}
+use Rattle.station.specs.declared.Settings.{Settings}
+use Rattle.station.specs.declared.Outcome.{Outcome}
+use Rattle.station.specs.declared.Outcome.the-variants.{Cut, BadPreamble, Undersized, Oversized, WrongFcs, WrongLength, Filtered, PauseTaken, PfcTaken, ControlDropped, HandedOut}
+use Rattle.frame.specs.Frame.{undersized, oversized, wrongFcs}
+use Rattle.frame.specs.Length.{wrongLength}
+use Rattle.flow.specs.Control.{filtered, takesPause, takesPfc, dropsControl}
+
+-- rule 1: "ended by anything but Terminate"
+unfoldable pub cut : ℕ → Bool
+cut by = not (eqb by terminate)
+
+-- rule 2: "run under 7 octets, or the first 7 wrong"
+unfoldable pub badPreamble : List ℕ → Bool
+badPreamble run = ltb (length run) 7 || not (sameOctets (take 7 run) preamble)
+
+-- "the frame from destination to FCS", of a run
+unfoldable pub frameOf : List ℕ → List ℕ
+frameOf run = drop 7 run
+
+-- the table, for a run ended by the control octet `by`, whose frame is `f`
+unfoldable pub outcomes : Settings → List ℕ → ℕ → List ℕ → Table Outcome
+outcomes s run by f =
+    cut by ⇒ Cut
+    ∣ badPreamble run ⇒ BadPreamble
+    ∣ undersized f ⇒ Undersized
+    ∣ oversized (s .limit) f ⇒ Oversized
+    ∣ wrongFcs f ⇒ WrongFcs
+    ∣ wrongLength (s .checking) f ⇒ WrongLength
+    ∣ filtered s f ⇒ Filtered
+    ∣ takesPause s f ⇒ PauseTaken
+    ∣ takesPfc s f ⇒ PfcTaken
+    ∣ dropsControl s f ⇒ ControlDropped
+    ∣ otherwise HandedOut
+
+-- "the first rule that holds gives the outcome"
+unfoldable pub outcome : Settings → List ℕ → ℕ → Outcome
+outcome s run by = first (outcomes s run by (frameOf run))

@@ -1,0 +1,91 @@
+-- Document 01, "Reading one Start" and, for reading, "Refusals and their order": what a reading gives, exact for refusals too.
+use Prim.Native.Nat.{ℕ, _+_, _-_}
+use mathlib.Core.Bool.{Bool, true, false, _&&_, cond}
+use mathlib.Core.List.{List, []}
+use lib.ListN.{length, take, drop}
+use lib.Dec.{leb}
+use Rattle.line.specs.declared.Found.{Found}
+use Rattle.line.specs.declared.Found.the-variants.{At}
+use Rattle.line.specs.Line.{Symbol, capture, findStart, AfterStart, unended, ended, afterStart}
+use Rattle.line.specs.Table.{Table, _⇒_, _∣_, otherwise, first}
+use Rattle.station.specs.declared.Settings.{Settings}
+use Rattle.station.specs.declared.State.{State}
+use Rattle.station.specs.declared.Part.{Part}
+use Rattle.station.specs.declared.Outcome.{Outcome}
+use Rattle.station.specs.declared.Refusal.the-variants.{BadSettings, BadBuffers, BadPlace}
+use Rattle.station.specs.declared.Checked.{Checked}
+use Rattle.station.specs.declared.Checked.the-variants.{Fine, Refused}
+use Rattle.station.specs.Numbers.{byOutcome}
+use Rattle.station.specs.Station.{badSettings, badBuffers, badPlace, counted}
+use Rattle.frame.specs.Frame.{dataPlace}
+use Rattle.frame.specs.Length.{handedLength}
+use Rattle.flow.specs.Timers.{timersAfter}
+use Rattle.receive.specs.declared.Answer.{Answer}
+use Rattle.receive.specs.declared.Answer.the-variants.{Open, Counted}
+use Rattle.receive.specs.declared.Reading.{Reading}
+use Rattle.receive.specs.Outcomes.{outcome, frameOf}
+use Rattle.receive.specs.Status.{status}
+
+-- ---- Reading one Start
+
+-- "The state is these eleven counters and the eight timers below": after a Start with this outcome, whose frame is `f`
+unfoldable pub stateAfter : Outcome → List ℕ → State → State
+stateAfter o f st = record { counters = counted o (st .counters); timers = timersAfter o f (st .timers) }
+
+abbrev pub emptyPart : Part
+emptyPart = record { at = 0; len = 0 }
+
+-- "Client data is a part of the captured octets themselves", of a frame `f` that begins at place `at`; "Outcomes 1 to 10 hand out an empty part."
+unfoldable pub handedPart : Settings → Outcome → ℕ → List ℕ → Part
+handedPart s o at f =
+    byOutcome o emptyPart emptyPart emptyPart emptyPart (record { at = at + dataPlace f; len = handedLength (s .checking) f })
+
+-- "Else the next place is that of the ending control symbol": a Start at place i, and the outcome of its run. The frame begins after the Start and
+-- the preamble.
+unfoldable pub readRun : Settings → State → ℕ → List ℕ → Outcome → Reading
+readRun s st i run o =
+    record {
+      answer = Counted o (status s o (frameOf run)) (handedPart s o (i + 8) (frameOf run));
+      start = i;
+      next = i + 1 + length run;
+      state = stateAfter o (frameOf run) st;
+    }
+
+-- "If there is no such symbol, the answer is `open`, nothing is counted, and the next place is that Start's."
+unfoldable pub readStart : Settings → State → ℕ → AfterStart → Reading
+readStart s st i unended = record { answer = Open; start = i; next = i; state = st }
+readStart s st i (ended run by) = readRun s st i run (outcome s run by)
+
+-- "A capture with no further Start gives `none` and the capture's length as both places."
+unfoldable pub readFound : Settings → State → List Symbol → Found → Reading
+readFound s st c Found.Nothing = record { answer = Answer.Nothing; start = length c; next = length c; state = st }
+readFound s st c (At i) = readStart s st i (afterStart (drop (i + 1) c))
+
+-- "A reading at a place finds the first Start at that place or later."
+unfoldable pub readAt : Settings → State → List Symbol → ℕ → Reading
+readAt s st c place = readFound s st c (findStart c place)
+
+-- ---- Refusals and their order
+
+-- "Lowest number first"; "Reading can give 1 to 3"
+unfoldable pub readRefusals : Settings → List ℕ → List ℕ → ℕ → Table Checked
+readRefusals s os ms place =
+    badSettings s ⇒ Refused BadSettings
+    ∣ badBuffers os ms ⇒ Refused BadBuffers
+    ∣ badPlace os place ⇒ Refused BadPlace
+    ∣ otherwise Fine
+
+-- "A refusal gives its number, status 0, an empty part, the place it was called with (in a reading, as both places), the old state"
+unfoldable pub readChecked : Checked → Settings → State → List ℕ → List ℕ → ℕ → Reading
+readChecked (Refused x) s st os ms place = record { answer = Answer.Refused x; start = place; next = place; state = st }
+readChecked Fine s st os ms place = readAt s st (capture os ms) place
+
+-- a reading, of any octets, marks and place
+unfoldable pub reading : Settings → State → List ℕ → List ℕ → ℕ → Reading
+reading s st os ms place = readChecked (first (readRefusals s os ms place)) s st os ms place
+
+-- ---- Client data: "a call of its own may hand out that part"
+
+-- the octets of a part; none where it does not lie inside the octets, which a reading's part always does
+unfoldable pub partOf : List ℕ → Part → List ℕ
+partOf os p = cond (leb (p .at) (length os) && leb (p .len) (length os - p .at)) (take (p .len) (drop (p .at) os)) []

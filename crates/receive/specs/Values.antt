@@ -1,0 +1,42 @@
+-- Document 01's number and values for each case of an answer ("Expected forms by place", the last paragraph).
+use Prim.Native.Nat.{ℕ}
+use mathlib.Core.Bool.{Bool, true, false}
+use Rattle.station.specs.declared.Part.{Part}
+use Rattle.station.specs.Numbers.{outcomeNumber, refusalNumber}
+use Rattle.receive.specs.declared.Answer.{Answer}
+use Rattle.receive.specs.declared.Answer.the-variants.{Refused, Nothing, Open, Counted}
+use Rattle.receive.specs.Reading.{emptyPart}
+
+-- the outcome's number; 0 for `none`, `open` and a refused reading
+abbrev pub answerOutcome : Answer → ℕ
+answerOutcome (Refused x) = 0
+answerOutcome Nothing = 0
+answerOutcome Open = 0
+answerOutcome (Counted o w p) = outcomeNumber o
+
+-- the refusal's number, or 0
+abbrev pub answerRefusal : Answer → ℕ
+answerRefusal (Refused x) = refusalNumber x
+answerRefusal Nothing = 0
+answerRefusal Open = 0
+answerRefusal (Counted o w p) = 0
+
+-- "`none` and `open` … give status 0 and no data"; "A refusal gives … status 0, an empty part"
+abbrev pub answerStatus : Answer → ℕ
+answerStatus (Refused x) = 0
+answerStatus Nothing = 0
+answerStatus Open = 0
+answerStatus (Counted o w p) = w
+
+abbrev pub answerPart : Answer → Part
+answerPart (Refused x) = emptyPart
+answerPart Nothing = emptyPart
+answerPart Open = emptyPart
+answerPart (Counted o w p) = p
+
+-- a Start was counted
+abbrev pub isCounted : Answer → Bool
+isCounted (Refused x) = false
+isCounted Nothing = false
+isCounted Open = false
+isCounted (Counted o w p) = true

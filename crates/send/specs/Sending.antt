@@ -1,0 +1,137 @@
+-- Document 01, "Sending" and, for sending, "Refusals and their order": the four calls. Each is a table of refusals and the symbols it writes;
+-- what is common to them stands here once.
+use Prim.Native.Nat.{ℕ, _+_, _-_}
+use mathlib.Core.Bool.{Bool, true, false, not, _||_}
+use mathlib.Core.List.{List, []}
+use lib.ListN.{length}
+use lib.Dec.{eqb, ltb}
+use Rattle.line.specs.Line.{Symbol, octetsOf, marksOf, overwrite}
+use Rattle.line.specs.Table.{Table, _⇒_, _∣_, otherwise, first}
+use Rattle.station.specs.declared.Settings.{Settings}
+use Rattle.station.specs.declared.State.{State}
+use Rattle.station.specs.declared.Quanta.{Quanta}
+use Rattle.station.specs.declared.Refusal.the-variants.{BadSettings, BadBuffers, BadPlace, OtherFlow, BadClass, BadType, LongData, NoRoom, Held}
+use Rattle.station.specs.declared.Checked.{Checked}
+use Rattle.station.specs.declared.Checked.the-variants.{Fine, Refused}
+use Rattle.station.specs.Station.{badSettings, badBuffers, badPlace, isPauseMode, isPfcMode}
+use Rattle.flow.specs.Timers.{timer, lowered}
+use Rattle.send.specs.declared.Client.{Client}
+use Rattle.send.specs.declared.Classes.{Classes}
+use Rattle.send.specs.declared.Form.{Form}
+use Rattle.send.specs.declared.Form.the-variants.{ByLength, ByType}
+use Rattle.send.specs.declared.Went.{Went}
+use Rattle.send.specs.declared.Went.the-variants.{Wrote}
+use Rattle.send.specs.declared.Sent.{Sent}
+use Rattle.send.specs.Frames.{clientSymbols, pauseSymbols, pfcSymbols, idleSymbols}
+
+-- ---- Sending: what a call gives and leaves, by its refusal and the symbols it would write
+
+-- a call's answer with its place and state, and both lent buffers: a record, so that a promise is one equation
+pub record Sending : Type 0 where
+  pub given : Sent
+  pub octets : List ℕ
+  pub marks : List ℕ
+
+abbrev pub sending : Sent → List ℕ → List ℕ → Sending
+sending r os ms = record { given = r; octets = os; marks = ms }
+
+-- the symbols that a call writes: none where it is refused
+unfoldable pub written : Checked → List Symbol → List Symbol
+written (Refused x) new = []
+written Fine new = new
+
+-- "gives its own place plus the number of symbols it wrote"; "lowers each timer by n"; "from the place the caller names on; every other symbol
+-- stays". "A refusal gives its number, …, the place it was called with …, the old state, and untouched buffers."
+unfoldable pub sendChecked : Checked → State → List ℕ → List ℕ → ℕ → List Symbol → Sending
+sendChecked (Refused x) st os ms place new = sending (record { answer = Went.Refused x; place = place; state = st }) os ms
+sendChecked Fine st os ms place new =
+    sending
+    (record {
+      answer = Wrote;
+      place = place + length new;
+      state = record { counters = st .counters; timers = lowered (length new) (st .timers) };
+    })
+    (overwrite os place (octetsOf new))
+    (overwrite ms place (marksOf new))
+
+-- ---- Refusals and their order: the tests of 5 to 9
+
+-- 5: "class above 7"
+unfoldable pub badClass : Client → Bool
+badClass c = ltb 7 (c .class)
+
+-- 6: "type form under 1536, or 0x8100 or 0x8808"
+unfoldable pub badType : Form → Bool
+badType ByLength = false
+badType (ByType t) = ltb t 1536 || eqb t 0x8100 || eqb t 0x8808
+
+-- 7: "data over 1500 (length form) or over M - 18 (type form)"
+unfoldable pub longData : ℕ → Form → List ℕ → Bool
+longData m ByLength d = ltb 1500 (length d)
+longData m (ByType t) d = ltb (m - 18) (length d)
+
+-- 8: "fewer symbols from the place to the end of the buffers than needed"
+unfoldable pub noRoom : List ℕ → ℕ → List Symbol → Bool
+noRoom os place new = ltb (length os - place) (length new)
+
+-- 9: "client frame, timer of its class above zero"
+unfoldable pub held : State → ℕ → Bool
+held st class = ltb 0 (timer (st .timers) class .0)
+
+-- ---- Refusals and their order: the tables, "Lowest number first", and the calls
+
+-- "client sending 1 to 3 and 5 to 9"
+unfoldable pub clientRefusals : Settings → State → List ℕ → List ℕ → ℕ → Client → List ℕ → Table Checked
+clientRefusals s st os ms place c d =
+    badSettings s ⇒ Refused BadSettings
+    ∣ badBuffers os ms ⇒ Refused BadBuffers
+    ∣ badPlace os place ⇒ Refused BadPlace
+    ∣ badClass c ⇒ Refused BadClass
+    ∣ badType (c .form) ⇒ Refused BadType
+    ∣ longData (s .limit) (c .form) d ⇒ Refused LongData
+    ∣ noRoom os place (clientSymbols s c d) ⇒ Refused NoRoom
+    ∣ held st (c .class) ⇒ Refused Held
+    ∣ otherwise Fine
+
+-- "pause and PFC 1 to 4 and 8": `inMode` says whether the flow mode is the one asked for
+unfoldable pub controlRefusals : Settings → List ℕ → List ℕ → ℕ → Bool → List Symbol → Table Checked
+controlRefusals s os ms place inMode new =
+    badSettings s ⇒ Refused BadSettings
+    ∣ badBuffers os ms ⇒ Refused BadBuffers
+    ∣ badPlace os place ⇒ Refused BadPlace
+    ∣ not inMode ⇒ Refused OtherFlow
+    ∣ noRoom os place new ⇒ Refused NoRoom
+    ∣ otherwise Fine
+
+-- "Idle fill 2, 3 and 8"
+unfoldable pub idleRefusals : List ℕ → List ℕ → ℕ → List Symbol → Table Checked
+idleRefusals os ms place new =
+    badBuffers os ms ⇒ Refused BadBuffers
+    ∣ badPlace os place ⇒ Refused BadPlace
+    ∣ noRoom os place new ⇒ Refused NoRoom
+    ∣ otherwise Fine
+
+unfoldable pub clientChecked : Settings → State → List ℕ → List ℕ → ℕ → Client → List ℕ → Checked
+clientChecked s st os ms place c d = first (clientRefusals s st os ms place c d)
+
+unfoldable pub pauseChecked : Settings → List ℕ → List ℕ → ℕ → Quanta → Checked
+pauseChecked s os ms place q = first (controlRefusals s os ms place (isPauseMode (s .flow)) (pauseSymbols s q))
+
+unfoldable pub pfcChecked : Settings → List ℕ → List ℕ → ℕ → Classes → Checked
+pfcChecked s os ms place k = first (controlRefusals s os ms place (isPfcMode (s .flow)) (pfcSymbols s k))
+
+unfoldable pub idleChecked : List ℕ → List ℕ → ℕ → ℕ → Checked
+idleChecked os ms place n = first (idleRefusals os ms place (idleSymbols n))
+
+-- the four calls, of any octets, marks and place
+unfoldable pub clientSending : Settings → State → List ℕ → List ℕ → ℕ → Client → List ℕ → Sending
+clientSending s st os ms place c d = sendChecked (clientChecked s st os ms place c d) st os ms place (clientSymbols s c d)
+
+unfoldable pub pauseSending : Settings → State → List ℕ → List ℕ → ℕ → Quanta → Sending
+pauseSending s st os ms place q = sendChecked (pauseChecked s os ms place q) st os ms place (pauseSymbols s q)
+
+unfoldable pub pfcSending : Settings → State → List ℕ → List ℕ → ℕ → Classes → Sending
+pfcSending s st os ms place k = sendChecked (pfcChecked s os ms place k) st os ms place (pfcSymbols s k)
+
+unfoldable pub idleSending : State → List ℕ → List ℕ → ℕ → ℕ → Sending
+idleSending st os ms place n = sendChecked (idleChecked os ms place n) st os ms place (idleSymbols n)

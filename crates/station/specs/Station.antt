@@ -1,0 +1,66 @@
+-- Settings and state: the counters and the fresh state ("Reading one Start"), the flow mode ("Sending"), refusals 1 to 3.
+use Prim.Native.Nat.{ℕ, _+_, _-_, _%_, _^_}
+use mathlib.Core.Bool.{Bool, true, false, not, _&&_, _||_}
+use mathlib.Core.List.{List, [], _∷_}
+use lib.ListN.{length, getD, set, replicate}
+use lib.Dec.{eqb, ltb, leb}
+use Rattle.station.specs.declared.Settings.{Settings}
+use Rattle.station.specs.declared.State.{State}
+use Rattle.station.specs.declared.Slots.{Slots}
+use Rattle.station.specs.declared.Flow.{Flow}
+use Rattle.station.specs.declared.Flow.the-variants.{Off, Pause, Pfc}
+use Rattle.station.specs.declared.Outcome.{Outcome}
+use Rattle.station.specs.Numbers.{outcomeNumber}
+
+-- ---- Reading one Start
+
+-- "Each outcome has a 32-bit counter that rolls over to zero". Item 6 of document 02 changes this one name.
+abbrev pub counterSize : ℕ
+counterSize = 2 ^ 32
+
+-- the counter of an outcome
+unfoldable pub counter : Outcome → List ℕ → ℕ
+counter o cs = getD cs (outcomeNumber o - 1) 0
+
+-- an outcome's counter "rises by one", and no other does
+unfoldable pub counted : Outcome → List ℕ → List ℕ
+counted o cs = set cs (outcomeNumber o - 1) ((counter o cs + 1) % counterSize)
+
+-- "the eleven counters together"
+unfoldable pub total : List ℕ → ℕ
+total [] = 0
+total (c ∷ cs) = c + total cs
+
+-- "a fresh state is all zeros"
+unfoldable pub fresh : State
+fresh = record { counters = replicate 11 0; timers = replicate 8 (record { 0 = 0 }) }
+
+-- ---- Sending: "Flow mode is none, `pause` or `PFC`."
+
+abbrev pub isPauseMode : Flow → Bool
+isPauseMode Off = false
+isPauseMode Pause = true
+isPauseMode Pfc = false
+
+abbrev pub isPfcMode : Flow → Bool
+isPfcMode Off = false
+isPfcMode Pause = false
+isPfcMode Pfc = true
+
+-- ---- Refusals and their order
+
+-- "group bit (lowest bit of the first octet)"
+unfoldable pub isGroup : List ℕ → Bool
+isGroup address = eqb (getD address 0 0 % 2) 1
+
+-- 1: "own address has its group bit …, listed count above 4, or M outside 1518 to 9618"
+unfoldable pub badSettings : Settings → Bool
+badSettings s = isGroup (s .own .0) || ltb 4 (s .count) || ltb (s .limit) 1518 || ltb 9618 (s .limit)
+
+-- 2: "octet and mark buffers differ in length, or exceed 65,536"
+unfoldable pub badBuffers : List ℕ → List ℕ → Bool
+badBuffers os ms = not (eqb (length os) (length ms)) || ltb 65536 (length os)
+
+-- 3: "place beyond the buffers' length"
+unfoldable pub badPlace : List ℕ → ℕ → Bool
+badPlace os place = ltb (length os) place
