@@ -77,6 +77,23 @@ met-found c p (x ∷ xs) i d e =
     ∙ ap (λ (n : ℕ). record { place = n; follows = afterStart (drop (n + 1) c) } ∷ metStarts (n + 1) (drop (n + 1) c)) q)
     (λ h. met-other p x xs h ∙ met-found c (p + 1) xs i d′ (sym (where-later isStart p x xs h) ∙ e))
 
+-- where a search ended, and where a run did: inside what was looked through
+pub where-range : (test : Symbol → Bool) (at : ℕ) (l : List Symbol) (i : ℕ) → firstWhere test at l ≡ At i → (at ≤ i) × (i < at + length l)
+unfolding firstWhere
+where-range test at [] i e = let z : Nothing ≡ At i = refl ∙ e in let bad : _≡_ {A = ℕ} 0 1 = cc in absurd (omega arith)
+where-range test at (x ∷ xs) i e =
+    by-test (test x)
+    (λ h. let z : At at ≡ At i = sym (where-here test at x xs h) ∙ e in let q : at ≡ i = cc in (omega arith, omega arith))
+    (λ h. let ih = where-range test (at + 1) xs i (sym (where-later test at x xs h) ∙ e) in (omega arith, omega arith))
+
+pub ending-inside : (l : List Symbol) (y : Symbol) → ending l ≡ some y → length (run l) < length l
+unfolding ending
+ending-inside [] y e = let bad : _≡_ {A = ℕ} 0 1 = cc in absurd (omega arith)
+ending-inside (x ∷ xs) y e =
+    by-test (isData x)
+    (λ h. let ih = ending-inside xs y (sym (ending-data x xs h) ∙ e) in let k = ap length (run-data x xs h) in omega arith)
+    (λ h. let k = ap length (run-control x xs h) in omega arith)
+
 -- ---- a seam: what stands before a Start, or before the end
 
 -- the end of the line, or a Start

@@ -1,0 +1,9 @@
+-- Claim 1: the starred cases of "Both sides of the limits", one list under one statement, closed by computation. Assumes nothing.
+use lib.Dec.{T}
+use Rattle.receive.specs.Computed as receive
+use Rattle.send.specs.Computed as send
+use Rattle.mac.specs.Limits.{station, settings, symbolsSent, bodyWith, unchecked, told, reads, outcomeRead, outcomesRead, starred, allTrue}
+
+pub limits : T (allTrue starred)
+unfolding receive.computed send.computed station settings symbolsSent bodyWith unchecked told reads outcomeRead outcomesRead starred allTrue
+limits = tt

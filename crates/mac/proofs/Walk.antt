@@ -1,0 +1,193 @@
+-- Claim 3, demand 2: a walk by next places from place 0 meets every Start symbol once and in order, each but a last open one is counted, and it
+-- ends with `none` or `open`. The statements are `walk-meets`, `walk-whole` and `walk-opens`. Assumes nothing.
+use Prim.Native.Nat.{ℕ, zero, suc, _+_, _-_, _≤_, _<_}
+use native.Mathlib.Omega.{arith}
+use mathlib.Core.Path.{_≡_, refl, sym, ap, ap₂, _∙_, subst}
+use mathlib.Core.Bool.{Bool, true, false, _||_, not, true≢false}
+use mathlib.Core.List.{List, [], _∷_, _++_}
+use mathlib.Core.Option.{Option, none, some}
+use lib.ListN.{length, drop, length-drop}
+use lib.Dec.{eqb, ltb}
+use lib.Seq.{drop-drop}
+use borrow.Author.Tests.{eqb-true, ltb-false, le-ltb}
+use Rattle.line.specs.declared.Found.{Found}
+use Rattle.line.specs.declared.Found.the-variants.{At}
+use Rattle.line.specs.Line.{Symbol, capture, findStart, run, ending, AfterStart, unended, ended, endedBy, afterStart, isStart, MetStart, metStarts}
+use Rattle.line.specs.Table.{first}
+use Rattle.line.proofs.Symbols.{by-test, met-start, met-other}
+use Rattle.line.proofs.Starts.{skip-run, open-none, met-nothing, met-found, where-range, ending-inside}
+use Rattle.line.proofs.Buffers.{length-capture}
+use Rattle.station.specs.declared.Settings.{Settings}
+use Rattle.station.specs.declared.State.{State}
+use Rattle.station.specs.declared.Checked.{Checked}
+use Rattle.station.specs.declared.Checked.the-variants.{Fine}
+use Rattle.receive.specs.declared.Answer.the-variants.{Nothing, Open, Counted}
+use Rattle.receive.specs.declared.Reading.{Reading}
+use Rattle.receive.specs.Outcomes.{outcome, frameOf}
+use Rattle.receive.specs.Status.{status}
+use Rattle.receive.specs.Reading.{readRun, readStart, readFound, readAt, readRefusals, readChecked, reading, handedPart}
+use Rattle.receive.specs.Values.{isCounted}
+use Rattle.receive.specs.Walk.{readingsFrom, walk}
+use Rattle.receive.proofs.Refusals.{Passed, passed, still-fine}
+use Rattle.mac.specs.Demand2.{Readable, placeFound, placesFound, startPlaces, Whole, ends-none, ends-open, counts, isOpen, endsOpen, isUnended, lastUnended}
+
+-- ---- the walk over the Starts that a capture has
+
+-- the reading of each Start in turn, and `none` at the end; an open one is the last
+unfoldable pub through : Settings → State → ℕ → List MetStart → List Reading
+through s st n [] = record { answer = Nothing; start = n; next = n; state = st } ∷ []
+through s st n (m ∷ ms) =
+    let r : Reading = readStart s st (m .place) (m .follows) in
+    r ∷ elim (isCounted (r .answer)) [ true ↦ through s (r .state) n ms | false ↦ [] ]
+
+-- the reading of a Start whose run is ended, and of one whose run is not
+module _ (s : Settings) (st : State) (n : ℕ) where
+  pub through-ended : (i : ℕ) (r : List ℕ) (by : ℕ) (ms : List MetStart)
+      → through s st n (record { place = i; follows = ended r by } ∷ ms) ≡ readStart s st i (ended r by) ∷ through s (readStart s st i (ended r by) .state) n ms
+  unfolding through readStart readRun
+  through-ended i r by ms = refl
+
+  pub through-unended : (i : ℕ) (ms : List MetStart)
+      → through s st n (record { place = i; follows = unended } ∷ ms) ≡ record { answer = Open; start = i; next = i; state = st } ∷ []
+  unfolding through readStart
+  through-unended i ms = refl
+
+module _ (s : Settings) (os ms : List ℕ) (fine : Readable s os ms) where
+  abbrev c : List Symbol
+  c = capture os ms
+
+  same-length : length c ≡ length os
+  same-length = length-capture os ms (passed s os ms 0 fine .even)
+
+  -- a reading that is not refused
+  reading-is : (st : State) (p : ℕ) → p ≤ length os → reading s st os ms p ≡ readAt s st c p
+  unfolding reading readChecked
+  reading-is st p h = ap (λ (k : Checked). readChecked k s st os ms p) (still-fine s os ms 0 p fine h)
+
+  -- the readings that follow a reading r
+  abbrev then : ℕ → Reading → List Reading
+  then most r = r ∷ elim (isCounted (r .answer)) [ true ↦ readingsFrom most s (r .state) os ms (r .next) | false ↦ [] ]
+
+  abbrev Rest : ℕ → Type 0
+  Rest most = (st : State) (p : ℕ) → p ≤ length c → length c < p + most → readingsFrom most s st os ms p ≡ through s st (length c) (metStarts p (drop p c))
+
+  at-start : (most : ℕ) → Rest most → (st : State) (i : ℕ) → length c < i + suc most → (e : Option Symbol) → ending (drop (i + 1) c) ≡ e
+      → then most (readStart s st i (endedBy (run (drop (i + 1) c)) e))
+      ≡ through s st (length c) (record { place = i; follows = endedBy (run (drop (i + 1) c)) e } ∷ metStarts (i + 1) (drop (i + 1) c))
+  unfolding endedBy through readStart readRun
+  at-start most ih st i enough none h = refl
+  at-start most ih st i enough (some y) h =
+      let t : List Symbol = drop (i + 1) c in
+      let r : Reading = readStart s st i (ended (run t) (y .octet)) in
+      let inside = ending-inside t y h in
+      let left = length-drop (i + 1) c in
+      let skipped : metStarts (i + 1) t ≡ metStarts (i + 1 + length (run t)) (drop (i + 1 + length (run t)) c) =
+      skip-run (i + 1) t ∙ ap (metStarts (i + 1 + length (run t))) (drop-drop (length (run t)) (i + 1) c) in
+      ap (λ (l : List Reading). r ∷ l)
+      (ih (r .state) (i + 1 + length (run t)) (omega arith) (omega arith) ∙ ap (through s (r .state) (length c)) (sym skipped))
+
+  found : (most : ℕ) → Rest most → (st : State) (p : ℕ) → length c < p + suc most → (f : Found) → findStart c p ≡ f
+      → then most (readFound s st c f) ≡ through s st (length c) (metStarts p (drop p c))
+  unfolding readFound findStart afterStart through
+  found most ih st p enough Found.Nothing e = sym (ap (through s st (length c)) (met-nothing p (drop p c) e))
+  found most ih st p enough (At i) e =
+      let k = where-range isStart p (drop p c) i e in
+      at-start most ih st i (omega arith) (ending (drop (i + 1) c)) refl ∙ sym (ap (through s st (length c)) (met-found c p (drop p c) i refl e))
+
+  from-place : (most : ℕ) → Rest most
+  unfolding readingsFrom readAt
+  from-place zero st p h enough = absurd (omega arith)
+  from-place (suc most) st p h enough =
+      ap (then most) (reading-is st p (let e = same-length in omega arith)) ∙ found most (from-place most) st p enough (findStart c p) refl
+
+  -- the walk is the reading of each Start in turn
+  pub walk-through : (st : State) → walk s st os ms ≡ through s st (length c) (metStarts 0 c)
+  unfolding walk
+  walk-through st = let e = same-length in from-place (length os + 1) st 0 (omega arith) (omega arith)
+
+-- ---- no Start stands after an open one
+
+unfoldable pub OpenLast : List MetStart → Type 0
+OpenLast [] = Unit {0}
+OpenLast (m ∷ ms) = (m .follows ≡ unended → ms ≡ []) × OpenLast ms
+
+not-unended : {P : Type 0} (r : List ℕ) (by : ℕ) → ended r by ≡ unended → P
+not-unended r by h = let bad : _≡_ {A = ℕ} 0 1 = cc in absurd (omega arith)
+
+one-open : (at : ℕ) (xs : List Symbol) (e : Option Symbol) → ending xs ≡ e → endedBy (run xs) e ≡ unended → metStarts at xs ≡ []
+unfolding endedBy
+one-open at xs none h u = open-none at xs h
+one-open at xs (some y) h u = not-unended (run xs) (y .octet) u
+
+pub open-last : (at : ℕ) (l : List Symbol) → OpenLast (metStarts at l)
+unfolding OpenLast metStarts afterStart
+open-last at [] = tt
+open-last at (x ∷ xs) =
+    by-test (isStart x)
+    (λ h. subst OpenLast (sym (met-start at x xs h)) (one-open (at + 1) xs (ending xs) refl, open-last (at + 1) xs))
+    (λ h. subst OpenLast (sym (met-other at x xs h)) (open-last (at + 1) xs))
+
+-- ---- what a walk meets, and how it ends
+
+not-last : {P : Type 0} (m : MetStart) (ms : List MetStart) → m ∷ ms ≡ [] → P
+not-last m ms h = let bad : _≡_ {A = ℕ} 0 1 = cc in absurd (omega arith)
+
+module _ (s : Settings) (n : ℕ) where
+  -- a Start in front: `f` is what follows it
+  meets-one : (st : State) (i : ℕ) (f : AfterStart) (ms : List MetStart) → (f ≡ unended → ms ≡ [])
+      → ((st : State) → placesFound (through s st n ms) ≡ startPlaces ms)
+      → placesFound (through s st n (record { place = i; follows = f } ∷ ms)) ≡ i ∷ startPlaces ms
+  unfolding through placesFound placeFound startPlaces readStart readRun
+  meets-one st i unended ms l ih = ap (λ (k : List MetStart). i ∷ startPlaces k) (sym (l refl))
+  meets-one st i (ended r by) ms l ih = ap (λ (k : List ℕ). i ∷ k) (ih (readStart s st i (ended r by) .state))
+
+  meets : (st : State) (ms : List MetStart) → OpenLast ms → placesFound (through s st n ms) ≡ startPlaces ms
+  unfolding through placesFound placeFound startPlaces OpenLast
+  meets st [] w = refl
+  meets st (m ∷ ms) w = meets-one st (m .place) (m .follows) ms (w .0) (λ st′. meets st′ ms (w .1))
+
+  whole-one : (st : State) (i : ℕ) (f : AfterStart) (ms : List MetStart) → ((st : State) → Whole (through s st n ms))
+      → Whole (through s st n (record { place = i; follows = f } ∷ ms))
+  unfolding through readStart readRun
+  whole-one st i unended ms ih = ends-open refl
+  whole-one st i (ended r by) ms ih =
+      let f : List ℕ = frameOf r in
+      let o = outcome s r by in
+      counts o (status s o f) (handedPart s o (i + 8) f) refl (ih (readStart s st i (ended r by) .state))
+
+  whole : (st : State) (ms : List MetStart) → Whole (through s st n ms)
+  unfolding through
+  whole st [] = ends-none refl
+  whole st (m ∷ ms) = whole-one st (m .place) (m .follows) ms (λ st′. whole st′ ms)
+
+  opens-one : (st : State) (i : ℕ) (f : AfterStart) (ms : List MetStart) → (f ≡ unended → ms ≡ [])
+      → ((st : State) → endsOpen (through s st n ms) ≡ lastUnended ms)
+      → endsOpen (through s st n (record { place = i; follows = f } ∷ ms)) ≡ lastUnended (record { place = i; follows = f } ∷ ms)
+  unfolding through endsOpen lastUnended isOpen isUnended readStart readRun
+  opens-one st i unended [] l ih = refl
+  opens-one st i unended (m ∷ ms) l ih = not-last m ms (l refl)
+  opens-one st i (ended r by) [] l ih = refl
+  opens-one st i (ended r by) (m ∷ ms) l ih = ih (readStart s st i (ended r by) .state)
+
+  opens : (st : State) (ms : List MetStart) → OpenLast ms → endsOpen (through s st n ms) ≡ lastUnended ms
+  unfolding through endsOpen lastUnended isOpen OpenLast
+  opens st [] w = refl
+  opens st (m ∷ ms) w = opens-one st (m .place) (m .follows) ms (w .0) (λ st′. opens st′ ms (w .1))
+
+-- ---- the claim
+
+module _ (s : Settings) (st : State) (os ms : List ℕ) (fine : Readable s os ms) where
+  abbrev met : List MetStart
+  met = metStarts 0 (capture os ms)
+
+  -- going by next places from 0 meets every Start symbol exactly once and in order
+  pub walk-meets : placesFound (walk s st os ms) ≡ startPlaces met
+  walk-meets = ap placesFound (walk-through s os ms fine st) ∙ meets s (length (capture os ms)) st met (open-last 0 (capture os ms))
+
+  -- each but a last open one gets one outcome; the walk ends with `none` or `open`
+  pub walk-whole : Whole (walk s st os ms)
+  walk-whole = subst Whole (sym (walk-through s os ms fine st)) (whole s (length (capture os ms)) st met)
+
+  -- with `open` exactly when the last Start's run has not ended
+  pub walk-opens : endsOpen (walk s st os ms) ≡ lastUnended met
+  walk-opens = ap endsOpen (walk-through s os ms fine st) ∙ opens s (length (capture os ms)) st met (open-last 0 (capture os ms))

@@ -1,0 +1,83 @@
+-- Demand 2: what the claims on a walk speak of. The theorems are proofs/Walk.antt and proofs/Sum.antt.
+use Prim.Native.Nat.{ℕ, _+_}
+use mathlib.Core.Path.{_≡_}
+use mathlib.Core.Bool.{Bool, true, false, cond}
+use mathlib.Core.List.{List, [], _∷_, _++_}
+use lib.Dec.{eqb}
+use Rattle.line.specs.Line.{Symbol, AfterStart, unended, ended, MetStart, metStarts}
+use Rattle.line.specs.Table.{first}
+use Rattle.station.specs.declared.Settings.{Settings}
+use Rattle.station.specs.declared.Outcome.{Outcome}
+use Rattle.station.specs.declared.Part.{Part}
+use Rattle.station.specs.declared.Checked.the-variants.{Fine}
+use Rattle.station.specs.Numbers.{outcomeNumber}
+use Rattle.receive.specs.declared.Answer.{Answer}
+use Rattle.receive.specs.declared.Answer.the-variants.{Refused, Nothing, Open, Counted}
+use Rattle.receive.specs.declared.Reading.{Reading}
+use Rattle.receive.specs.Outcomes.{outcome}
+use Rattle.receive.specs.Reading.{readRefusals}
+
+-- a capture and settings with which no reading from place 0 on is refused: refusals 1 and 2 do not hold
+abbrev pub Readable : Settings → List ℕ → List ℕ → Type 0
+Readable s os ms = first (readRefusals s os ms 0) ≡ Fine
+
+-- ---- "Each Start in a capture, but for a last one whose run hasn't ended, gets the one outcome"
+
+-- the places of the Starts that readings found, in order
+unfoldable pub placeFound : Answer → ℕ → List ℕ
+placeFound (Refused x) place = []
+placeFound Nothing place = []
+placeFound Open place = place ∷ []
+placeFound (Counted o w p) place = place ∷ []
+
+unfoldable pub placesFound : List Reading → List ℕ
+placesFound [] = []
+placesFound (r ∷ rs) = placeFound (r .answer) (r .start) ++ placesFound rs
+
+-- the places of the Start symbols of a capture, in order
+unfoldable pub startPlaces : List MetStart → List ℕ
+startPlaces [] = []
+startPlaces (m ∷ ms) = m .place ∷ startPlaces ms
+
+-- readings that each count a Start, and then one that is `none` or `open`
+pub data Whole : List Reading → Type 0 where
+  ends-none : {r : Reading} → r .answer ≡ Nothing → Whole (r ∷ [])
+  ends-open : {r : Reading} → r .answer ≡ Open → Whole (r ∷ [])
+  counts : {r : Reading} {rs : List Reading} (o : Outcome) (w : ℕ) (p : Part) → r .answer ≡ Counted o w p → Whole rs → Whole (r ∷ rs)
+
+-- the last reading was `open`
+unfoldable pub isOpen : Answer → Bool
+isOpen (Refused x) = false
+isOpen Nothing = false
+isOpen Open = true
+isOpen (Counted o w p) = false
+
+unfoldable pub endsOpen : List Reading → Bool
+endsOpen [] = false
+endsOpen (r ∷ []) = isOpen (r .answer)
+endsOpen (r ∷ q ∷ rs) = endsOpen (q ∷ rs)
+
+-- the run of the last Start has not ended
+unfoldable pub isUnended : AfterStart → Bool
+isUnended unended = true
+isUnended (ended run by) = false
+
+unfoldable pub lastUnended : List MetStart → Bool
+lastUnended [] = false
+lastUnended (m ∷ []) = isUnended (m .follows)
+lastUnended (m ∷ n ∷ ms) = lastUnended (n ∷ ms)
+
+-- ---- "its counter rises by one modulo 2^32"
+
+-- "less one if the walk ended `open`"
+unfoldable pub oneIf : Bool → ℕ
+oneIf b = cond b 1 0
+
+-- the number of Starts that have an outcome
+unfoldable pub has : Settings → Outcome → AfterStart → Bool
+has s o unended = false
+has s o (ended run by) = eqb (outcomeNumber (outcome s run by)) (outcomeNumber o)
+
+unfoldable pub startsWith : Settings → Outcome → List MetStart → ℕ
+startsWith s o [] = 0
+startsWith s o (m ∷ ms) = oneIf (has s o (m .follows)) + startsWith s o ms

@@ -1,0 +1,123 @@
+-- Document 01, "Both sides of the limits": the cases with a star, as one list of tests of the definitions. The statement is proofs/Limits.antt.
+use Prim.Native.Nat.{ℕ}
+use mathlib.Core.Bool.{Bool, true, false, not, _&&_}
+use mathlib.Core.List.{List, [], _∷_, _++_, map}
+use lib.ListN.{length, replicate}
+use lib.Dec.{eqb}
+use Rattle.line.specs.Line.{Symbol, asData, asControl, start, terminate, preamble, octetsOf, marksOf}
+use Rattle.line.specs.Octets.{sameOctets, highFirst}
+use Rattle.station.specs.declared.Settings.{Settings}
+use Rattle.station.specs.declared.Quanta.{Quanta}
+use Rattle.station.specs.declared.Flow.{Flow}
+use Rattle.station.specs.declared.Flow.the-variants.{Off, Pause, Pfc}
+use Rattle.station.specs.Station.{fresh}
+use Rattle.frame.specs.Length.{kept}
+use Rattle.flow.specs.Timers.{slotsOf}
+use Rattle.receive.specs.declared.Answer.{Answer}
+use Rattle.receive.specs.declared.Reading.{Reading}
+use Rattle.receive.specs.Values.{answerOutcome, answerStatus, answerPart}
+use Rattle.receive.specs.Reading.{reading}
+use Rattle.receive.specs.Walk.{walk}
+use Rattle.send.specs.declared.Client.{Client}
+use Rattle.send.specs.declared.Classes.{Classes}
+use Rattle.send.specs.declared.Tag.{Tag}
+use Rattle.send.specs.declared.Tag.the-variants.{Untagged, Tagged}
+use Rattle.send.specs.declared.Form.the-variants.{ByLength}
+use Rattle.send.specs.Frames.{onLine, clientSymbols, pauseSymbols, pfcSymbols}
+
+-- ---- what the cases are about
+
+unfoldable pub station : List ℕ
+station = 0x02 ∷ 0 ∷ 0 ∷ 0 ∷ 0 ∷ 1 ∷ []
+
+-- "The printing program", its settings, in a flow mode
+unfoldable pub settings : Flow → Settings
+settings mode =
+    record {
+      own = record { 0 = station };
+      listed = replicate 4 (record { 0 = replicate 6 0 });
+      count = 0;
+      broadcast = true;
+      promiscuous = false;
+      checking = true;
+      limit = 1518;
+      flow = mode;
+      passing = false;
+    }
+
+-- how many symbols a client frame in the length form takes, with a tag and a number of data octets
+unfoldable pub symbolsSent : Tag → ℕ → ℕ
+symbolsSent tag n =
+    length (clientSymbols (settings Off) (record { dest = record { 0 = station }; tag = tag; form = ByLength; class = 0 }) (replicate n 0xA5))
+
+-- a frame to the station with a field and a number of data octets, as the FCS covers it
+unfoldable pub bodyWith : ℕ → ℕ → List ℕ
+bodyWith field n = station ++ (station ++ (highFirst field ++ replicate n 0xA5))
+
+-- a frame with whatever stands in the place of its FCS
+unfoldable pub unchecked : List ℕ → List Symbol
+unchecked f = asControl start ∷ (map asData (preamble ++ f) ++ (asControl terminate ∷ []))
+
+-- ---- what they look at
+
+-- an answer's outcome, status word and number of octets handed out
+unfoldable pub told : Answer → List ℕ
+told a = answerOutcome a ∷ answerStatus a ∷ answerPart a .len ∷ []
+
+unfoldable pub reads : Flow → List Symbol → List ℕ
+reads mode c = told (reading (settings mode) fresh (octetsOf c) (marksOf c) 0 .answer)
+
+-- the outcome alone
+unfoldable pub outcomeRead : List Symbol → ℕ
+outcomeRead c = answerOutcome (reading (settings Off) fresh (octetsOf c) (marksOf c) 0 .answer)
+
+-- the outcomes of a walk, 0 where it ended
+unfoldable pub outcomesRead : List Symbol → List ℕ
+outcomesRead c = map (λ (r : Reading). answerOutcome (r .answer)) (walk (settings Off) fresh (octetsOf c) (marksOf c))
+
+-- ---- the cases, in the order of the document
+
+unfoldable pub starred : List Bool
+starred =
+    -- "length form, data 0, 46, 47, 1500: 84, 84, 85, 1538 symbols; tagged data 0: 88"
+    eqb (symbolsSent Untagged 0) 84
+    ∷ eqb (symbolsSent Untagged 46) 84
+    ∷ eqb (symbolsSent Untagged 47) 85
+    ∷ eqb (symbolsSent Untagged 1500) 1538
+    ∷ eqb (symbolsSent (Tagged 7) 0) 88
+    -- "field 45 with 46 octets: rule kept, 45 handed out; field 45 with 47: broken"
+    ∷ kept 45 46
+    ∷ sameOctets (reads Off (onLine (bodyWith 45 46))) (11 ∷ 0x400040002D ∷ 45 ∷ [])
+    ∷ not (kept 45 47)
+    ∷ eqb (outcomeRead (onLine (bodyWith 45 47))) 6
+    -- "field 1500 with 1500: kept; field 1501 with 1501: broken"
+    ∷ kept 1500 1500
+    ∷ not (kept 1501 1501)
+    -- "field 1535: wrong length; 1536: a type"
+    ∷ not (kept 1535 1535)
+    ∷ eqb (outcomeRead (onLine (bodyWith 1535 46))) 6
+    ∷ kept 1536 46
+    ∷ eqb (outcomeRead (onLine (bodyWith 1536 46))) 11
+    -- "Start, Start, Terminate: 1, then 2"
+    ∷ sameOctets (outcomesRead (asControl start ∷ asControl start ∷ asControl terminate ∷ [])) (1 ∷ 2 ∷ 0 ∷ [])
+    -- "63 octets: 3, FCS not looked at": with a wrong one and with the right one
+    ∷ sameOctets (reads Off (unchecked (bodyWith 46 49))) (3 ∷ 0 ∷ 0 ∷ [])
+    ∷ sameOctets (reads Off (onLine (bodyWith 46 45))) (3 ∷ 0 ∷ 0 ∷ [])
+    -- "M 1518: untagged 1519 is 4; tagged 1522 isn't": the next rule decides, since no FCS stands there
+    ∷ eqb (outcomeRead (unchecked (bodyWith 0x0800 1505))) 4
+    ∷ eqb (outcomeRead (unchecked (bodyWith 0x8100 1508))) 5
+    -- "one quantum is 64 slots; 65,535 are 4,194,240"
+    ∷ eqb (slotsOf (record { 0 = 1 }) .0) 64
+    ∷ eqb (slotsOf (record { 0 = 65535 }) .0) 4194240
+    -- "pause to the reserved group, 64 octets: status 0x2C0040002E; PFC: 0xA40040002E"
+    ∷ sameOctets (reads Pause (pauseSymbols (settings Pause) (record { 0 = 5 }))) (8 ∷ 0x2C0040002E ∷ 0 ∷ [])
+    ∷ sameOctets (reads Pfc (pfcSymbols (settings Pfc) (record { named = 0x81; quanta = replicate 8 (record { 0 = 5 }) }))) (9 ∷ 0xA40040002E ∷ 0 ∷ [])
+    -- "unicast, length form, data 0, handed out: 0x4000400000"
+    ∷ sameOctets
+    (reads Off (clientSymbols (settings Off) (record { dest = record { 0 = station }; tag = Untagged; form = ByLength; class = 0 }) []))
+    (11 ∷ 0x4000400000 ∷ 0 ∷ [])
+    ∷ []
+
+unfoldable pub allTrue : List Bool → Bool
+allTrue [] = true
+allTrue (b ∷ bs) = b && allTrue bs
