@@ -129,7 +129,7 @@ open-last at (x ∷ xs) =
 
 -- ---- what a walk meets, and how it ends
 
-not-last : {P : Type 0} (m : MetStart) (ms : List MetStart) → m ∷ ms ≡ [] → P
+pub not-last : {P : Type 0} (m : MetStart) (ms : List MetStart) → m ∷ ms ≡ [] → P
 not-last m ms h = let bad : _≡_ {A = ℕ} 0 1 = cc in absurd (omega arith)
 
 module _ (s : Settings) (n : ℕ) where

@@ -1,0 +1,188 @@
+-- Claim 4, demand 2: after a walk the eleven counters together have risen by the number of Start symbols, less one if open, modulo 2^32, and each
+-- counter by the number of Starts with its outcome. The statements are `walk-counts`, `counters-rise` and `counter-rises`. Assumes nothing.
+use Prim.Native.Nat.{ℕ, zero, suc, _+_, _-_, _%_, _^_, _≤_, _<_}
+use native.Mathlib.Omega.{arith}
+use native.Mathlib.Nat.{not-suc-le-zero, le-of-suc-le-suc, mod-add-mod}
+use mathlib.Core.Path.{_≡_, refl, sym, ap, ap₂, _∙_, subst}
+use mathlib.Core.Bool.{Bool, true, false, cond}
+use mathlib.Core.List.{List, [], _∷_}
+use lib.ListN.{length, getD, set, length-set}
+use lib.Seq.{getD-set-same, getD-set-other}
+use lib.Dec.{eqb, lit<}
+use borrow.Author.Tests.{eqb-true, eqb-false}
+use Rattle.line.specs.Line.{Symbol, capture, AfterStart, unended, ended, MetStart, metStarts, startCount}
+use Rattle.line.proofs.Symbols.{by-test}
+use Rattle.line.proofs.Starts.{met-starts}
+use Rattle.station.specs.declared.Settings.{Settings}
+use Rattle.station.specs.declared.State.{State}
+use Rattle.station.specs.declared.Outcome.{Outcome}
+use Rattle.station.specs.declared.Outcome.the-variants.{Cut, BadPreamble, Undersized, Oversized, WrongFcs, WrongLength, Filtered, PauseTaken, PfcTaken, ControlDropped, HandedOut}
+use Rattle.station.specs.Numbers.{outcomeNumber}
+use Rattle.station.specs.Station.{counterSize, counter, counted, total}
+use Rattle.receive.specs.declared.Reading.{Reading}
+use Rattle.receive.specs.declared.Walked.{Walked}
+use Rattle.receive.specs.declared.Walked.the-variants.{Ended}
+use Rattle.receive.specs.declared.Walk.{Walk}
+use Rattle.receive.specs.Outcomes.{outcome, frameOf}
+use Rattle.receive.specs.Reading.{stateAfter, readRun, readStart}
+use Rattle.receive.specs.Walk.{walk, walkOf, walked}
+use Rattle.mac.specs.Demand2.{Readable, isUnended, lastUnended, oneIf, has, startsWith}
+use Rattle.mac.proofs.Walk.{through, OpenLast, open-last, walk-through, not-last}
+
+-- ---- remainders, for any width (item 6 of document 02 makes it 2 ^ 64)
+
+more : (w a b k : ℕ) → a % w ≡ b % w → (a + k) % w ≡ (b + k) % w
+more w a b k e = sym (mod-add-mod a w k) ∙ ap (λ (x : ℕ). (x + k) % w) e ∙ mod-add-mod b w k
+
+-- after one Start x, and then the others z: `one` and `rest` are their rises
+chain : (w c a z one rest : ℕ) → a % w ≡ (c + one) % w → z % w ≡ (a + rest) % w → z % w ≡ (c + (one + rest)) % w
+chain w c a z one rest p q = q ∙ more w a (c + one) rest p ∙ ap (λ (x : ℕ). x % w) (let e : c + one + rest ≡ c + (one + rest) = omega arith in e)
+
+-- ---- one counter
+
+row : (o : Outcome) → (0 < outcomeNumber o) × (outcomeNumber o - 1 < 11)
+row Cut = (lit< tt, lit< tt)
+row BadPreamble = (lit< tt, lit< tt)
+row Undersized = (lit< tt, lit< tt)
+row Oversized = (lit< tt, lit< tt)
+row WrongFcs = (lit< tt, lit< tt)
+row WrongLength = (lit< tt, lit< tt)
+row Filtered = (lit< tt, lit< tt)
+row PauseTaken = (lit< tt, lit< tt)
+row PfcTaken = (lit< tt, lit< tt)
+row ControlDropped = (lit< tt, lit< tt)
+row HandedOut = (lit< tt, lit< tt)
+
+total-set : (cs : List ℕ) (i : ℕ) → i < length cs → total (set cs i ((getD cs i 0 + 1) % counterSize)) % counterSize ≡ (total cs + 1) % counterSize
+unfolding total
+total-set [] i h = absurd (not-suc-le-zero h)
+total-set (c ∷ cs) zero h = omega arith
+total-set (c ∷ cs) (suc i) h = let e = total-set cs i (le-of-suc-le-suc h) in omega arith
+
+total-counted : (o : Outcome) (cs : List ℕ) → length cs ≡ 11 → total (counted o cs) % counterSize ≡ (total cs + 1) % counterSize
+unfolding counted counter
+total-counted o cs e = total-set cs (outcomeNumber o - 1) (subst (λ (n : ℕ). outcomeNumber o - 1 < n) (sym e) (row o .1))
+
+-- the counter of an outcome, when a Start with the outcome p is counted
+counter-counted : (o p : Outcome) (cs : List ℕ) → length cs ≡ 11
+    → counter o (counted p cs) % counterSize ≡ (counter o cs + oneIf (eqb (outcomeNumber p) (outcomeNumber o))) % counterSize
+unfolding counter counted oneIf
+counter-counted o p cs e =
+    let lt : outcomeNumber p - 1 < length cs = subst (λ (n : ℕ). outcomeNumber p - 1 < n) (sym e) (row p .1) in
+    let new : ℕ = (getD cs (outcomeNumber p - 1) 0 + 1) % counterSize in
+    let twice : new % counterSize ≡ (getD cs (outcomeNumber p - 1) 0 + 1) % counterSize = omega arith in
+    by-test (eqb (outcomeNumber p) (outcomeNumber o))
+    (λ t. let same : outcomeNumber p ≡ outcomeNumber o = eqb-true (outcomeNumber p) (outcomeNumber o) t in
+    ap (λ (n : ℕ). getD (set cs (outcomeNumber p - 1) new) (n - 1) 0 % counterSize) (sym same)
+    ∙ ap (λ (n : ℕ). n % counterSize) (getD-set-same cs (outcomeNumber p - 1) new 0 lt)
+    ∙ twice
+    ∙ ap₂ (λ (n : ℕ) (b : Bool). (getD cs (n - 1) 0 + cond b 1 0) % counterSize) same (sym t))
+    (λ t. let other : outcomeNumber p ≡ outcomeNumber o → ⊥ = eqb-false (outcomeNumber p) (outcomeNumber o) t in
+    let apart : outcomeNumber o - 1 ≡ outcomeNumber p - 1 → ⊥ = (λ q. other (let a = row o .0 in let b = row p .0 in omega arith)) in
+    ap (λ (n : ℕ). n % counterSize) (getD-set-other cs (outcomeNumber p - 1) (outcomeNumber o - 1) new 0 apart)
+    ∙ ap (λ (n : ℕ). n % counterSize) (let z : getD cs (outcomeNumber o - 1) 0 ≡ getD cs (outcomeNumber o - 1) 0 + 0 = omega arith in z)
+    ∙ ap (λ (b : Bool). (getD cs (outcomeNumber o - 1) 0 + cond b 1 0) % counterSize) (sym t))
+
+-- ---- the Starts of a walk, one after the other
+
+-- how many of them are counted
+unfoldable countedOnes : List MetStart → ℕ
+countedOnes ms = length ms - oneIf (lastUnended ms)
+
+-- with an ended Start in front, and with an open one, which is the last
+last-ended : (i : ℕ) (r : List ℕ) (by : ℕ) (ms : List MetStart) → lastUnended (record { place = i; follows = ended r by } ∷ ms) ≡ lastUnended ms
+unfolding lastUnended isUnended
+last-ended i r by [] = refl
+last-ended i r by (m ∷ ms) = refl
+
+some-last : (ms : List MetStart) → oneIf (lastUnended ms) ≤ length ms
+unfolding lastUnended oneIf isUnended
+some-last [] = omega arith
+some-last (m ∷ ms) = go (lastUnended (m ∷ ms))
+  where
+    go : (b : Bool) → cond b 1 0 ≤ suc (length ms)
+    go true = omega arith
+    go false = omega arith
+
+ones-ended : (i : ℕ) (r : List ℕ) (by : ℕ) (ms : List MetStart) → countedOnes (record { place = i; follows = ended r by } ∷ ms) ≡ 1 + countedOnes ms
+unfolding countedOnes
+ones-ended i r by ms =
+    ap (λ (b : Bool). suc (length ms) - oneIf b) (last-ended i r by ms) ∙ (let k = some-last ms in omega arith)
+
+-- what one walk over these Starts leaves: how many were counted, the sum of the counters, and the counter of each outcome
+record Rises (s : Settings) (k : ℕ) (st : State) (ms : List MetStart) (w : Walk) : Type 0 where
+  count : w .answer ≡ Ended (k + countedOnes ms) (lastUnended ms)
+  sum : total (w .state .counters) % counterSize ≡ (total (st .counters) + countedOnes ms) % counterSize
+  each : (o : Outcome) → counter o (w .state .counters) % counterSize ≡ (counter o (st .counters) + startsWith s o ms) % counterSize
+
+module _ (s : Settings) (n : ℕ) where
+  one : (k : ℕ) (st : State) (i : ℕ) (f : AfterStart) (ms : List MetStart) → length (st .counters) ≡ 11 → (f ≡ unended → ms ≡ [])
+      → ((st : State) → length (st .counters) ≡ 11 → Rises s (k + 1) st ms (walkOf (k + 1) st (through s st n ms)))
+      → Rises s k st (record { place = i; follows = f } ∷ ms) (walkOf k st (through s st n (record { place = i; follows = f } ∷ ms)))
+  unfolding walkOf through readStart readRun stateAfter has startsWith lastUnended isUnended oneIf
+  one k st i unended [] e l ih =
+      let none : countedOnes (record { place = i; follows = unended } ∷ []) ≡ 0 = (unfold countedOnes lastUnended isUnended oneIf in refl) in
+      record {
+        count = ap (λ (j : ℕ). Ended j true) (let z : k ≡ k + countedOnes (record { place = i; follows = unended } ∷ []) = omega arith in z);
+        sum = ap (λ (j : ℕ). j % counterSize) (let z : total (st .counters) ≡ total (st .counters) + countedOnes (record { place = i; follows = unended } ∷ []) = omega arith in z);
+        each = λ o. ap (λ (j : ℕ). j % counterSize) (let z : counter o (st .counters) ≡ counter o (st .counters) + 0 = omega arith in z);
+      }
+  one k st i unended (m ∷ ms) e l ih = not-last m ms (l refl)
+  one k st i (ended r by) ms e l ih =
+      let o : Outcome = outcome s r by in
+      let st′ : State = stateAfter o (frameOf r) st in
+      let x = ih st′ (unfold counted in simp length-set e) in
+      let ones = ones-ended i r by ms in
+      record {
+        count = x .count ∙ ap₂ Ended (let z : k + 1 + countedOnes ms ≡ k + countedOnes (record { place = i; follows = ended r by } ∷ ms) = omega arith in z) (sym (last-ended i r by ms));
+        sum =
+            chain counterSize (total (st .counters)) (total (st′ .counters)) (total (walkOf (k + 1) st′ (through s st′ n ms) .state .counters)) 1 (countedOnes ms)
+            (total-counted o (st .counters) e)
+            (x .sum)
+            ∙ ap (λ (j : ℕ). (total (st .counters) + j) % counterSize) (sym ones);
+        each = λ p.
+            chain counterSize (counter p (st .counters)) (counter p (st′ .counters)) (counter p (walkOf (k + 1) st′ (through s st′ n ms) .state .counters))
+            (oneIf (eqb (outcomeNumber o) (outcomeNumber p))) (startsWith s p ms)
+            (counter-counted p o (st .counters) e)
+            (x .each p);
+      }
+
+  all : (k : ℕ) (st : State) (ms : List MetStart) → length (st .counters) ≡ 11 → OpenLast ms → Rises s k st ms (walkOf k st (through s st n ms))
+  unfolding walkOf through OpenLast startsWith lastUnended
+  all k st [] e w =
+      let none : countedOnes [] ≡ 0 = (unfold countedOnes lastUnended oneIf in refl) in
+      record {
+        count = ap (λ (j : ℕ). Ended j false) (let z : k ≡ k + countedOnes [] = omega arith in z);
+        sum = ap (λ (j : ℕ). j % counterSize) (let z : total (st .counters) ≡ total (st .counters) + countedOnes [] = omega arith in z);
+        each = λ o. ap (λ (j : ℕ). j % counterSize) (let z : counter o (st .counters) ≡ counter o (st .counters) + 0 = omega arith in z);
+      }
+  all k st (m ∷ ms) e w = one k st (m .place) (m .follows) ms e (w .0) (λ st′ e′. all (k + 1) st′ ms e′ (w .1))
+
+-- ---- the claim, for any state of eleven counters
+
+module _ (s : Settings) (st : State) (os ms : List ℕ) (fine : Readable s os ms) (eleven : length (st .counters) ≡ 11) where
+  abbrev c : List Symbol
+  c = capture os ms
+
+  abbrev met : List MetStart
+  met = metStarts 0 c
+
+  rises : Rises s 0 st met (walked s st os ms)
+  unfolding walked
+  rises = subst (λ (l : List Reading). Rises s 0 st met (walkOf 0 st l)) (sym (walk-through s os ms fine st)) (all s (length c) 0 st met eleven (open-last 0 c))
+
+  ones : countedOnes met ≡ startCount c - oneIf (lastUnended met)
+  unfolding countedOnes
+  ones = ap (λ (n : ℕ). n - oneIf (lastUnended met)) (met-starts 0 c)
+
+  -- the walk in one call says how many Starts it counted, and whether it ended `open`
+  pub walk-counts : walked s st os ms .answer ≡ Ended (startCount c - oneIf (lastUnended met)) (lastUnended met)
+  walk-counts = rises .count ∙ ap (λ (n : ℕ). Ended n (lastUnended met)) (let e : 0 + countedOnes met ≡ countedOnes met = omega arith in e ∙ ones)
+
+  -- "the eleven counters together have risen, modulo 2^32, by the number of Start symbols in the capture, less one if the walk ended `open`"
+  pub counters-rise : total (walked s st os ms .state .counters) % counterSize ≡ (total (st .counters) + (startCount c - oneIf (lastUnended met))) % counterSize
+  counters-rise = rises .sum ∙ ap (λ (n : ℕ). (total (st .counters) + n) % counterSize) ones
+
+  -- and each single counter by the number of Starts with its outcome
+  pub counter-rises : (o : Outcome) → counter o (walked s st os ms .state .counters) % counterSize ≡ (counter o (st .counters) + startsWith s o met) % counterSize
+  counter-rises o = rises .each o
