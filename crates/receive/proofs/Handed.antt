@@ -1,20 +1,23 @@
--- "Client data is a part of the captured octets themselves": the part that a reading answers, cut out of the captured octets, is
--- the client data by definition. The statement is `handed-is-client-data`. Assumes nothing.
-use Prim.Native.Nat.{ℕ, zero, suc, _+_, _-_}
+-- "Client data is a part of the captured octets themselves": the part that a reading answers lies inside the captured octets, and its octets are
+-- the client data by definition. The statement is `handed-part`. Assumes nothing.
+use Prim.Native.Nat.{ℕ, zero, suc, _+_, _-_, _≤_, min}
 use native.Mathlib.Omega.{arith}
 use mathlib.Core.Path.{_≡_, refl, sym, ap, ap₂, _∙_, subst}
 use mathlib.Core.Bool.{Bool, true, false, _&&_, cond}
 use mathlib.Core.List.{List, [], _∷_, _++_, append-assoc, append-nil}
-use lib.ListN.{length, take, drop, take-append-drop}
-use lib.Seq.{take-append-seam, drop-drop}
-use lib.Dec.{ltb}
+use lib.ListN.{length, take, drop, length-take, length-drop, take-append-drop, drop-of-length-le}
+use lib.Seq.{take-append-seam, drop-drop, take-nil}
+use lib.Dec.{ltb, leb}
+use borrow.Author.Tests.{leb-true, leb-false, le-leb, lt-leb}
 use Rattle.line.specs.Line.{Symbol, capture, isData, run}
 use Rattle.line.specs.Octets.{between}
 use Rattle.line.proofs.Symbols.{by-test, run-data, run-control}
 use Rattle.line.proofs.Buffers.{drop-capture}
 use Rattle.frame.specs.Frame.{field, dataPlace, frameData}
 use Rattle.frame.specs.Length.{clientData, handedLength}
+use Rattle.station.specs.declared.Part.{Part}
 use Rattle.receive.specs.Outcomes.{frameOf}
+use Rattle.receive.specs.Reading.{partOf}
 
 -- x stands at the front of y
 abbrev Front : List ℕ → List ℕ → Type 0
@@ -62,7 +65,7 @@ unfolding frameData between
 payload-front f = front-take (length f - 4 - dataPlace f) (drop (dataPlace f) f)
 
 -- a Start at place i of the capture, `f` the frame of its run
-pub handed-is-client-data : (ck : Bool) (os ms : List ℕ) (i : ℕ)
+handed-is-client-data : (ck : Bool) (os ms : List ℕ) (i : ℕ)
     → let f : List ℕ = frameOf (run (drop (i + 1) (capture os ms))) in take (handedLength ck f) (drop (i + 8 + dataPlace f) os) ≡ clientData ck f
 unfolding frameOf handedLength
 handed-is-client-data ck os ms i =
@@ -77,3 +80,22 @@ handed-is-client-data ck os ms i =
     let place : drop a (drop 7 (drop (i + 1) os)) ≡ drop (i + 8 + a) os =
     ap (drop a) (drop-drop 7 (i + 1) os) ∙ drop-drop a (i + 1 + 7) os ∙ ap (λ (n : ℕ). drop n os) eight in
     ap (take (length (clientData ck f))) (sym place ∙ all .1) ∙ take-append-seam (clientData ck f) (all .0)
+
+-- a part that is no longer than what stands from its place on
+pub part-inside : (os : List ℕ) (p : Part) → p .len ≤ length os - p .at → partOf os p ≡ take (p .len) (drop (p .at) os)
+unfolding partOf
+part-inside os p h =
+    by-test (leb (p .at) (length os))
+    (λ e. rw (e, le-leb (p .len) (length os - p .at) h))
+    (λ e. rw e (sym (ap (take (p .len)) (drop-of-length-le os {i = p .at} (let g = leb-false (p .at) (length os) e in omega arith)) ∙ take-nil (p .len))))
+
+pub handed-part : (ck : Bool) (os ms : List ℕ) (i : ℕ)
+    → let f : List ℕ = frameOf (run (drop (i + 1) (capture os ms))) in partOf os (record { at = i + 8 + dataPlace f; len = handedLength ck f }) ≡ clientData ck f
+unfolding handedLength
+handed-part ck os ms i =
+    let f : List ℕ = frameOf (run (drop (i + 1) (capture os ms))) in
+    let at : ℕ = i + 8 + dataPlace f in
+    let n : ℕ = length (clientData ck f) in
+    let e : take n (drop at os) ≡ clientData ck f = handed-is-client-data ck os ms i in
+    let fits : min n (length (drop at os)) ≡ n = sym (length-take n (drop at os)) ∙ ap length e in
+    part-inside os (record { at = at; len = n }) (let k = length-drop at os in omega arith) ∙ e

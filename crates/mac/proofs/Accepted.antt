@@ -1,0 +1,230 @@
+-- A client frame, encoded and read back, is handed out. Assumes nothing.
+use Prim.Native.Nat.{ℕ, zero, suc, _+_, _-_, _*_, _≤_, _<_}
+use native.Mathlib.Omega.{arith}
+use mathlib.Core.Path.{_≡_, refl, sym, ap, ap₂, _∙_, subst}
+use mathlib.Core.Bool.{Bool, true, false, not, _&&_, _||_, cond, and-false, true≢false}
+use mathlib.Core.List.{List, [], _∷_, _++_, append-assoc, append-nil}
+use lib.ListN.{length, take, drop, replicate, length-append, length-replicate}
+use lib.Seq.{drop-at, take-at, take-length}
+use lib.Dec.{eqb, ltb, leb, lit<}
+use borrow.Author.Tests.{eq-eqb, ne-eqb, le-ltb, lt-ltb, ltb-true, ltb-false, eqb-false}
+use Rattle.line.specs.Line.{start, terminate, preamble, ended}
+use Rattle.line.specs.Octets.{sameOctets, highFirstAt, highFirst}
+use Rattle.line.specs.Table.{first}
+use Rattle.line.proofs.Symbols.{by-test}
+use Rattle.line.proofs.Tables.{first-next, first-other}
+use Rattle.fcs.specs.Fcs.{fcs}
+use Rattle.station.specs.declared.Settings.{Settings}
+use Rattle.station.specs.declared.Outcome.{Outcome}
+use Rattle.station.specs.declared.Outcome.the-variants.{Cut, BadPreamble, Undersized, Oversized, WrongFcs, WrongLength, Filtered, PauseTaken, PfcTaken, ControlDropped, HandedOut}
+use Rattle.frame.specs.Tags.{isTagKind, tagCount}
+use Rattle.frame.specs.Frame.{destination, firstField, field, frameData, wrongFcs, undersized, oversized}
+use Rattle.frame.specs.Length.{kept, wrongLength, clientData}
+use Rattle.frame.specs.Address.{accepts}
+use Rattle.frame.proofs.FrameLaws.{fcs-four, fcs-right, frame-length, frame-field, frame-payload, kept-type, kept-long, kept-short}
+use Rattle.flow.specs.Control.{isControlFrame, filtered, takesPause, takesPfc, dropsControl}
+use Rattle.receive.specs.Outcomes.{cut, badPreamble, frameOf, outcomes, outcome}
+use Rattle.send.specs.declared.Client.{Client}
+use Rattle.send.specs.declared.Tag.{Tag}
+use Rattle.send.specs.declared.Form.{Form}
+use Rattle.send.specs.declared.Form.the-variants.{ByLength, ByType}
+use Rattle.send.specs.Frames.{padded, tagOctets, tagsSent, fieldSent, clientBody}
+use Rattle.send.proofs.TagLaws.{tag-length, tags-are, not-control}
+use Rattle.send.specs.Sending.{badType, longData}
+use Rattle.mac.specs.Demand3.{Frame, Carried, Bits16, delivered}
+
+-- what the reader finds in a frame
+record Facts (f dst : List ℕ) (n : ℕ) (p : List ℕ) (t : ℕ) : Type 0 where
+  tag : tagCount f ≡ t
+  size : length f ≡ 18 + 4 * t + length p
+  field-is : field f ≡ n
+  data-is : frameData f ≡ p
+  to : destination f ≡ dst
+  plain : isControlFrame f ≡ false
+  right : wrongFcs f ≡ false
+
+-- ---- the table, from the facts
+module _ (s : Settings) (f dst : List ℕ) (n : ℕ) (p : List ℕ) (t : ℕ) (x : Facts f dst n p t) where
+  not-bad-preamble : badPreamble (preamble ++ f) ≡ false
+  unfolding badPreamble preamble sameOctets
+  not-bad-preamble = ap (λ (b : Bool). b || false) (le-ltb (length (preamble ++ f)) 7 (omega arith))
+
+  not-undersized : 46 ≤ length p → undersized f ≡ false
+  unfolding undersized
+  not-undersized h = le-ltb (length f) 64 (let k = x .size in omega arith)
+
+  not-wrong-length : kept n (length p) ≡ true → wrongLength (s .checking) f ≡ false
+  unfolding wrongLength
+  not-wrong-length h = go (s .checking) (ap₂ (λ (a : ℕ) (b : List ℕ). kept a (length b)) (x .field-is) (x .data-is) ∙ h)
+    where
+      go : (c : Bool) → kept (field f) (length (frameData f)) ≡ true → (c && not (kept (field f) (length (frameData f)))) ≡ false
+      go true e = ap not e
+      go false e = refl
+
+  not-filtered : accepts s dst ≡ true → filtered s f ≡ false
+  unfolding filtered
+  not-filtered h = rw (x .plain, x .to, h)
+
+  not-pause : takesPause s f ≡ false
+  unfolding takesPause
+  not-pause = rw (x .plain)
+
+  not-pfc : takesPfc s f ≡ false
+  unfolding takesPfc
+  not-pfc = rw (x .plain)
+
+  not-dropped : dropsControl s f ≡ false
+  unfolding dropsControl
+  not-dropped = rw (x .plain)
+
+  handed-out : 46 ≤ length p → oversized (s .limit) f ≡ false → kept n (length p) ≡ true → accepts s dst ≡ true
+      → outcome s (preamble ++ f) terminate ≡ HandedOut
+  unfolding outcome outcomes
+  handed-out long allowed keep heard =
+      let same-frame : frameOf (preamble ++ f) ≡ f = (unfold frameOf preamble in refl) in
+      ap (λ (g : List ℕ). first (outcomes s (preamble ++ f) terminate g)) same-frame
+      ∙ first-next Cut _ (unfold cut in refl)
+      ∙ first-next BadPreamble _ not-bad-preamble
+      ∙ first-next Undersized _ (not-undersized long)
+      ∙ first-next Oversized _ allowed
+      ∙ first-next WrongFcs _ (x .right)
+      ∙ first-next WrongLength _ (not-wrong-length keep)
+      ∙ first-next Filtered _ (not-filtered heard)
+      ∙ first-next PauseTaken _ not-pause
+      ∙ first-next PfcTaken _ not-pfc
+      ∙ first-next ControlDropped _ not-dropped
+      ∙ first-other HandedOut
+
+-- ---- the facts, of a client frame: `a` the two addresses, `n` the field, `p` the data with its padding
+
+-- from the parts: `h` is all that stands before the field
+parts : (b a r h : List ℕ) (n : ℕ) (p : List ℕ) (t : ℕ) (dst own : List ℕ) → length dst ≡ 6 → a ≡ dst ++ own → length h ≡ 12 + 4 * t → n < 65536
+    → b ++ fcs b ≡ a ++ r → b ++ fcs b ≡ h ++ (highFirst n ++ (p ++ fcs b)) → tagCount (b ++ fcs b) ≡ t → isControlFrame (b ++ fcs b) ≡ false
+    → Facts (b ++ fcs b) dst n p t
+unfolding destination
+parts b a r h n p t dst own six ea hl lt e₁ e₂ et ec =
+    let ht : tagCount (h ++ (highFirst n ++ (p ++ fcs b))) ≡ t = ap tagCount (sym e₂) ∙ et in
+    record {
+      tag = et;
+      size = ap length e₂ ∙ frame-length h n p (fcs b) t ht hl lt (fcs-four b);
+      field-is = ap field e₂ ∙ frame-field h n p (fcs b) t ht hl lt (fcs-four b);
+      data-is = ap frameData e₂ ∙ frame-payload h n p (fcs b) t ht hl lt (fcs-four b);
+      to = ap (take 6) (e₁ ∙ ap (λ (l : List ℕ). l ++ r) ea ∙ append-assoc dst own r) ∙ take-at dst (own ++ r) 6 six;
+      plain = ec;
+      right = fcs-right b;
+    }
+
+module _ (dst own : List ℕ) (six : length dst ≡ 6) (ownSix : length own ≡ 6) (tg : Tag) (n : ℕ) (lt : n < 65536) (p : List ℕ) where
+  twelve : length (dst ++ own) ≡ 12
+  twelve = simp length-append (omega arith)
+
+  found : isTagKind n ≡ false → eqb n 0x8808 ≡ false
+      → let b : List ℕ = dst ++ (own ++ (tagOctets tg ++ (highFirst n ++ p))) in Facts (b ++ fcs b) dst n p (tagsSent tg)
+  found h g =
+      let b : List ℕ = dst ++ (own ++ (tagOctets tg ++ (highFirst n ++ p))) in
+      let r : List ℕ = p ++ fcs b in
+      let e₁ : b ++ fcs b ≡ dst ++ own ++ (tagOctets tg ++ (highFirst n ++ r)) = simp append-assoc in
+      let e₂ : b ++ fcs b ≡ dst ++ (own ++ tagOctets tg) ++ (highFirst n ++ r) = simp append-assoc in
+      parts b (dst ++ own) (tagOctets tg ++ (highFirst n ++ r)) (dst ++ (own ++ tagOctets tg)) n p (tagsSent tg) dst own six refl
+      (simp length-append (omega (arith, tag-length tg))) lt e₁ e₂
+      (ap tagCount e₁ ∙ tags-are tg (dst ++ own) n r twelve lt h)
+      (ap isControlFrame e₁ ∙ not-control tg (dst ++ own) n r twelve lt g)
+
+-- ---- the conditions, in numbers
+
+or-left : (a b : Bool) → (a || b) ≡ false → a ≡ false
+or-left true b h = h
+or-left false b h = refl
+
+or-right : (a b : Bool) → (a || b) ≡ false → b ≡ false
+or-right true b h = absurd (true≢false h)
+or-right false b h = h
+
+padded-length : (d : List ℕ) → length (padded d) ≡ length d + (46 - length d)
+unfolding padded
+padded-length d = simp (length-append, length-replicate)
+
+-- "Data under 46 octets is padded": no other is
+pub padded-long : (d : List ℕ) → 46 ≤ length d → padded d ≡ d
+unfolding padded
+padded-long d h = ap (λ (k : ℕ). d ++ replicate k 0) (let e : 46 - length d ≡ 0 = omega arith in e) ∙ append-nil d
+
+-- a type that is not refused: what each test of `badType` leaves
+type-tests : (t : ℕ) → badType (ByType t) ≡ false → (1536 ≤ t) × (eqb t 0x8100 ≡ false) × (eqb t 0x8808 ≡ false)
+unfolding badType
+type-tests t h =
+    let ab = or-left (ltb t 1536 || eqb t 0x8100) (eqb t 0x8808) h in
+    (ltb-false t 1536 (or-left (ltb t 1536) (eqb t 0x8100) ab), or-right (ltb t 1536) (eqb t 0x8100) ab, or-right (ltb t 1536 || eqb t 0x8100) (eqb t 0x8808) h)
+
+-- a field that is neither a tag's nor a control frame's
+no-tag : (g : Form) (d : List ℕ) → badType g ≡ false → (m : ℕ) → longData m g d ≡ false → (isTagKind (fieldSent g d) ≡ false) × (eqb (fieldSent g d) 0x8808 ≡ false)
+unfolding longData fieldSent isTagKind
+no-tag ByLength d h m g =
+    let k : length d ≤ 1500 = ltb-false 1500 (length d) g in
+    (ne-eqb (length d) 0x8100 (λ e. omega arith), ne-eqb (length d) 0x8808 (λ e. omega arith))
+no-tag (ByType t) d h m g = let k = type-tests t h in (k .1, k .2)
+
+-- the field has 16 bits
+field-bits : (g : Form) (d : List ℕ) (m : ℕ) → Bits16 g → longData m g d ≡ false → fieldSent g d < 65536
+unfolding longData fieldSent Bits16
+field-bits ByLength d m b h = let k : length d ≤ 1500 = ltb-false 1500 (length d) h in omega arith
+field-bits (ByType t) d m b h = b
+
+keeps : (g : Form) (d : List ℕ) (m : ℕ) → badType g ≡ false → longData m g d ≡ false → kept (fieldSent g d) (length (padded d)) ≡ true
+unfolding longData fieldSent
+keeps ByLength d m h g =
+    let k : length d ≤ 1500 = ltb-false 1500 (length d) g in
+    let j = padded-length d in
+    by-test (ltb (length d) 46)
+    (λ e. kept-short (length d) (length (padded d)) (ltb-true (length d) 46 e) (let i = ltb-true (length d) 46 e in omega arith))
+    (λ e. let i = ltb-false (length d) 46 e in ap (λ (l : List ℕ). kept (length d) (length l)) (padded-long d i) ∙ kept-long (length d) i k)
+keeps (ByType t) d m h g = kept-type t (length (padded d)) (type-tests t h .0)
+
+-- what is taken of the padded data, with lengths checked
+taken : (g : Form) (d : List ℕ) → badType g ≡ false → cond (ltb (fieldSent g d) 46) (take (fieldSent g d) (padded d)) (padded d) ≡ delivered g d
+unfolding fieldSent delivered
+taken ByLength d h =
+    by-test (ltb (length d) 46)
+    (λ e. ap (λ (b : Bool). cond b (take (length d) (padded d)) (padded d)) e ∙ (unfold padded in take-at d (replicate (46 - length d) 0) (length d) refl))
+    (λ e. ap (λ (b : Bool). cond b (take (length d) (padded d)) (padded d)) e ∙ padded-long d (ltb-false (length d) 46 e))
+taken (ByType t) d h =
+    let big : 1536 ≤ t = type-tests t h .0 in
+    ap (λ (b : Bool). cond b (take t (padded d)) (padded d)) (le-ltb t 46 (omega arith))
+
+-- ---- the two together
+
+module _ (tx rx : Settings) (fr : Frame) (w : Carried tx rx fr) where
+  abbrev dst : List ℕ
+  dst = fr .client .dest .0
+
+  abbrev n : ℕ
+  n = fieldSent (fr .client .form) (fr .octets)
+
+  abbrev p : List ℕ
+  p = padded (fr .octets)
+
+  abbrev body : List ℕ
+  body = clientBody tx (fr .client) (fr .octets)
+
+  facts : Facts (body ++ fcs body) dst n p (tagsSent (fr .client .tag))
+  unfolding clientBody
+  facts =
+      let k = no-tag (fr .client .form) (fr .octets) (w .form) (tx .limit) (w .short) in
+      found dst (tx .own .0) (w .typed .six) (w .typed .ownSix) (fr .client .tag) n
+      (field-bits (fr .client .form) (fr .octets) (tx .limit) (w .typed .bits) (w .short))
+      p (k .0) (k .1)
+
+  pub accepted : outcome rx (preamble ++ (body ++ fcs body)) terminate ≡ HandedOut
+  accepted =
+      handed-out rx (body ++ fcs body) dst n p (tagsSent (fr .client .tag)) facts
+      (let j = padded-length (fr .octets) in omega arith)
+      (w .allowed)
+      (keeps (fr .client .form) (fr .octets) (tx .limit) (w .form) (w .short))
+      (w .heard)
+
+  pub read-back : clientData true (body ++ fcs body) ≡ delivered (fr .client .form) (fr .octets)
+  unfolding clientData
+  read-back =
+      let x = facts in
+      ap₂ (λ (a : ℕ) (l : List ℕ). cond (ltb a 46) (take a l) l) (x .field-is) (x .data-is)
+      ∙ taken (fr .client .form) (fr .octets) (w .form)

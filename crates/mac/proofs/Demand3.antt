@@ -1,0 +1,158 @@
+-- Claim 5, demand 3, for the calls as they are made: any symbols, then any number of client frames back to back; the readings from place 0, each
+-- at the next place of the one before, hand out what the damaged part hands out by itself, and then the frames' data in order, each once.
+-- The statements are `demand3` and, with anything after the frames, `demand3-within`. Assumes nothing.
+use Prim.Native.Nat.{ℕ, _+_, _≤_}
+use native.Mathlib.Omega.{arith}
+use mathlib.Core.Path.{_≡_, refl, sym, ap, ap₂, _∙_, subst}
+use mathlib.Core.Bool.{Bool, true, false}
+use mathlib.Core.List.{List, [], _∷_, _++_, map, append-assoc, append-nil}
+use lib.ListN.{length, replicate, length-append}
+use lib.Dec.{eqb, ltb}
+use borrow.Author.Tests.{eq-eqb, le-ltb}
+use Rattle.line.specs.Line.{Symbol, capture, octetsOf, marksOf, isControl, asData, asControl, idle, start, terminate, preamble, isData, isStart, AfterStart, ended, afterStart, MetStart, metStarts}
+use Rattle.line.specs.Table.{first}
+use Rattle.line.proofs.Symbols.{met-start}
+use Rattle.line.proofs.Starts.{look-frame, met-data, Begins}
+use Rattle.line.proofs.Buffers.{capture-of, length-capture, length-octetsOf, length-marksOf}
+use Rattle.line.proofs.Tables.{first-next, first-other}
+use Rattle.fcs.specs.Fcs.{fcs}
+use Rattle.station.specs.declared.Settings.{Settings}
+use Rattle.station.specs.declared.State.{State}
+use Rattle.station.specs.declared.Outcome.{Outcome}
+use Rattle.station.specs.declared.Refusal.the-variants.{BadSettings, BadBuffers, BadPlace}
+use Rattle.station.specs.declared.Checked.the-variants.{Fine, Refused}
+use Rattle.station.specs.Numbers.{byOutcome}
+use Rattle.station.specs.Station.{badBuffers, badPlace}
+use Rattle.frame.specs.Length.{clientData}
+use Rattle.receive.specs.Outcomes.{frameOf, outcome}
+use Rattle.receive.specs.Reading.{readRefusals}
+use Rattle.receive.specs.Walk.{walk, handedOut}
+use Rattle.receive.proofs.Refusals.{passed}
+use Rattle.send.specs.Frames.{gap, onLine, clientBody, clientSymbols}
+use Rattle.mac.specs.Demand2.{Readable}
+use Rattle.mac.specs.Demand3.{Frame, Carried, AllCarried, rowSymbols, delivered, allDelivered}
+use Rattle.mac.proofs.Accepted.{accepted, read-back}
+use Rattle.mac.proofs.Clients.{clientOf, clients, walk-hands}
+use Rattle.mac.proofs.Seam.{seam, anywhere}
+
+-- after a gap the walk is where it was
+gap-skipped : (at : ℕ) (rest : List Symbol) → metStarts at (gap ++ rest) ≡ metStarts (at + 1 + 1 + 1 + 1 + 1 + 1 + 1 + 1 + 1 + 1 + 1 + 1) rest
+unfolding gap metStarts isStart isControl isData asControl
+gap-skipped at rest = refl
+
+look-gap : (os : List ℕ) (rest : List Symbol) → afterStart (map asData os ++ (gap ++ rest)) ≡ ended os terminate
+unfolding gap
+look-gap os rest = look-frame os terminate (replicate 11 (asControl idle) ++ rest)
+
+-- a frame on the line is met as one run, and nothing else of it is
+module _ (rx : Settings) where
+  one-line : (at : ℕ) (body : List ℕ) (rest : List Symbol)
+      → clients rx (metStarts at (onLine body ++ rest)) ≡ clientOf rx (ended (preamble ++ (body ++ fcs body)) terminate) ++ clients rx (metStarts at rest)
+  unfolding onLine clients
+  one-line at body rest =
+      let os : List ℕ = preamble ++ (body ++ fcs body) in
+      let e : onLine body ++ rest ≡ asControl start ∷ (map asData os ++ (gap ++ rest)) = ap (λ (l : List Symbol). asControl start ∷ l) (append-assoc (map asData os) gap rest) in
+      ap (λ (l : List Symbol). clients rx (metStarts at l)) e
+      ∙ ap (clients rx) (met-start at (asControl start) (map asData os ++ (gap ++ rest)) (unfold isStart isControl isData asControl in refl))
+      ∙ ap₂ (λ (l : AfterStart) (ms : List MetStart). clientOf rx l ++ clients rx ms)
+      (look-gap os rest)
+      (met-data (at + 1) os (gap ++ rest) ∙ gap-skipped (at + 1 + length os) rest)
+      ∙ ap (λ (t : List (List ℕ)). clientOf rx (ended os terminate) ++ t) (anywhere rx _ at rest)
+
+  module _ (tx : Settings) (checks : rx .checking ≡ true) where
+    -- one client frame: its data
+    one-frame : (at : ℕ) (f : Frame) → Carried tx rx f → (rest : List Symbol)
+        → clients rx (metStarts at (clientSymbols tx (f .client) (f .octets) ++ rest)) ≡ delivered (f .client .form) (f .octets) ∷ clients rx (metStarts at rest)
+    unfolding clientSymbols clientOf frameOf preamble
+    one-frame at f w rest =
+        let body : List ℕ = clientBody tx (f .client) (f .octets) in
+        one-line at body rest
+        ∙ ap₂ (λ (o : Outcome) (ck : Bool). byOutcome o [] [] [] [] (clientData ck (body ++ fcs body) ∷ []) ++ clients rx (metStarts at rest)) (accepted tx rx f w) checks
+        ∙ ap (λ (d : List ℕ). d ∷ clients rx (metStarts at rest)) (read-back tx rx f w)
+
+    -- frames one after the other, and then anything
+    frames-then : (at : ℕ) (fs : List Frame) (rest : List Symbol) → AllCarried tx rx fs
+        → clients rx (metStarts at (rowSymbols tx fs ++ rest)) ≡ allDelivered fs ++ clients rx (metStarts at rest)
+    unfolding AllCarried rowSymbols allDelivered
+    frames-then at [] rest w = refl
+    frames-then at (f ∷ fs) rest w =
+        ap (λ (l : List Symbol). clients rx (metStarts at l)) (append-assoc (clientSymbols tx (f .client) (f .octets)) (rowSymbols tx fs) rest)
+        ∙ one-frame at f (w .0) (rowSymbols tx fs ++ rest)
+        ∙ ap (λ (l : List (List ℕ)). delivered (f .client .form) (f .octets) ∷ l) (frames-then at fs rest (w .1))
+
+    all-frames : (at : ℕ) (fs : List Frame) → AllCarried tx rx fs → clients rx (metStarts at (rowSymbols tx fs)) ≡ allDelivered fs
+    unfolding metStarts clients
+    all-frames at fs w =
+        ap (λ (l : List Symbol). clients rx (metStarts at l)) (sym (append-nil (rowSymbols tx fs))) ∙ frames-then at fs [] w ∙ append-nil (allDelivered fs)
+
+    begins : (fs : List Frame) → Begins (rowSymbols tx fs)
+    unfolding Begins rowSymbols clientSymbols onLine isStart isControl isData asControl
+    begins [] = tt
+    begins (f ∷ fs) = refl
+
+    begins-more : (f : Frame) (fs : List Frame) (rest : List Symbol) → Begins (rowSymbols tx (f ∷ fs) ++ rest)
+    unfolding Begins rowSymbols clientSymbols onLine isStart isControl isData asControl
+    begins-more f fs rest = refl
+
+    -- on the symbols: what the damaged part hands out, and then the frames' data
+    after-damage : (damage : List Symbol) (fs : List Frame) → AllCarried tx rx fs
+        → clients rx (metStarts 0 (damage ++ rowSymbols tx fs)) ≡ clients rx (metStarts 0 damage) ++ allDelivered fs
+    after-damage damage fs w =
+        seam rx 0 damage (rowSymbols tx fs) (begins fs)
+        ∙ ap (λ (l : List (List ℕ)). clients rx (metStarts 0 damage) ++ l) (all-frames (0 + length damage) fs w)
+
+    between-others : (damage : List Symbol) (f : Frame) (fs : List Frame) (rest : List Symbol) → AllCarried tx rx (f ∷ fs)
+        → clients rx (metStarts 0 (damage ++ (rowSymbols tx (f ∷ fs) ++ rest)))
+        ≡ clients rx (metStarts 0 damage) ++ (allDelivered (f ∷ fs) ++ clients rx (metStarts 0 rest))
+    between-others damage f fs rest w =
+        seam rx 0 damage (rowSymbols tx (f ∷ fs) ++ rest) (begins-more f fs rest)
+        ∙ ap (λ (l : List (List ℕ)). clients rx (metStarts 0 damage) ++ l) (frames-then (0 + length damage) (f ∷ fs) rest w
+        ∙ ap (λ (l : List (List ℕ)). allDelivered (f ∷ fs) ++ l) (anywhere rx (0 + length damage) 0 rest))
+
+-- ---- a stretch of a capture is a capture
+
+-- what a walk over a stretch of line by itself hands out
+abbrev pub alone : Settings → State → List Symbol → List (List ℕ)
+alone rx st l = handedOut (octetsOf l) (walk rx st (octetsOf l) (marksOf l))
+
+module _ (rx : Settings) (os ms : List ℕ) (fine : Readable rx os ms) where
+  stretch : (l : List Symbol) → length l ≤ length (capture os ms) → Readable rx (octetsOf l) (marksOf l)
+  unfolding readRefusals badBuffers badPlace
+  stretch l h =
+      let k = passed rx os ms 0 fine in
+      let n = length-capture os ms (k .even) in
+      let a = length-octetsOf l in
+      let b = length-marksOf l in
+      first-next (Refused BadSettings) _ (k .valid)
+      ∙ first-next (Refused BadBuffers) _ (simp (eq-eqb (length (octetsOf l)) (length (marksOf l)) (omega arith), le-ltb 65536 (length (octetsOf l)) (let m = k .small in omega arith)))
+      ∙ first-next (Refused BadPlace) _ (le-ltb (length (octetsOf l)) 0 (omega arith))
+      ∙ first-other Fine
+
+  hands-alone : (st : State) (l : List Symbol) → length l ≤ length (capture os ms) → alone rx st l ≡ clients rx (metStarts 0 l)
+  hands-alone st l h = walk-hands rx (octetsOf l) (marksOf l) (stretch l h) st ∙ ap (λ (c : List Symbol). clients rx (metStarts 0 c)) (capture-of l)
+
+-- ---- the claim: a sender tx; a receiver rx whose settings are valid and check lengths; any octets and marks within the size limit
+
+module _ (tx rx : Settings) (st : State) (os ms : List ℕ) (fine : Readable rx os ms) (checks : rx .checking ≡ true) where
+  pub demand3 : (damage : List Symbol) (fs : List Frame) → AllCarried tx rx fs → capture os ms ≡ damage ++ rowSymbols tx fs
+      → handedOut os (walk rx st os ms) ≡ alone rx st damage ++ allDelivered fs
+  demand3 damage fs w e =
+      let n : length damage ≤ length (capture os ms) = omega (arith, ap length e, length-append damage (rowSymbols tx fs)) in
+      walk-hands rx os ms fine st
+      ∙ ap (λ (c : List Symbol). clients rx (metStarts 0 c)) e
+      ∙ after-damage rx tx checks damage fs w
+      ∙ ap (λ (l : List (List ℕ)). l ++ allDelivered fs) (sym (hands-alone rx os ms fine st damage n))
+
+  -- the same with anything after the frames, of which there is one at least
+  pub demand3-within : (damage : List Symbol) (f : Frame) (fs : List Frame) (rest : List Symbol) → AllCarried tx rx (f ∷ fs)
+      → capture os ms ≡ damage ++ (rowSymbols tx (f ∷ fs) ++ rest)
+      → handedOut os (walk rx st os ms) ≡ alone rx st damage ++ (allDelivered (f ∷ fs) ++ alone rx st rest)
+  demand3-within damage f fs rest w e =
+      let all = ap length e ∙ length-append damage (rowSymbols tx (f ∷ fs) ++ rest) in
+      let more = length-append (rowSymbols tx (f ∷ fs)) rest in
+      walk-hands rx os ms fine st
+      ∙ ap (λ (c : List Symbol). clients rx (metStarts 0 c)) e
+      ∙ between-others rx tx checks damage f fs rest w
+      ∙ ap₂ (λ (a b : List (List ℕ)). a ++ (allDelivered (f ∷ fs) ++ b))
+      (sym (hands-alone rx os ms fine st damage (omega arith)))
+      (sym (hands-alone rx os ms fine st rest (omega arith)))
