@@ -88,3 +88,14 @@ capture-end-octets os ms i h = drop-capture i os ms ∙ ap (λ (l : List ℕ). c
 
 pub capture-end-marks : (os ms : List ℕ) (i : ℕ) → length ms ≤ i → drop i (capture os ms) ≡ []
 capture-end-marks os ms i h = drop-capture i os ms ∙ ap (capture (drop i os)) (drop-of-length-le ms {i = i} h) ∙ no-marks (drop i os)
+
+-- the buffers of two lists of symbols, one behind the other
+pub octetsOf-append : (a b : List Symbol) → octetsOf (a ++ b) ≡ octetsOf a ++ octetsOf b
+unfolding octetsOf
+octetsOf-append [] b = refl
+octetsOf-append (x ∷ a) b = ap (λ (l : List ℕ). x .octet ∷ l) (octetsOf-append a b)
+
+pub marksOf-append : (a b : List Symbol) → marksOf (a ++ b) ≡ marksOf a ++ marksOf b
+unfolding marksOf
+marksOf-append [] b = refl
+marksOf-append (x ∷ a) b = ap (λ (l : List ℕ). x .mark ∷ l) (marksOf-append a b)

@@ -210,17 +210,17 @@ module _ (tx rx : Settings) (fr : Frame) (w : Carried tx rx fr) where
   unfolding clientBody
   facts =
       let k = no-tag (fr .client .form) (fr .octets) (w .form) (tx .limit) (w .short) in
-      found dst (tx .own .0) (w .typed .six) (w .typed .ownSix) (fr .client .tag) n
-      (field-bits (fr .client .form) (fr .octets) (tx .limit) (w .typed .bits) (w .short))
+      found dst (tx .own .0) (w .welcome .typed .six) (w .welcome .typed .ownSix) (fr .client .tag) n
+      (field-bits (fr .client .form) (fr .octets) (tx .limit) (w .welcome .typed .bits) (w .short))
       p (k .0) (k .1)
 
   pub accepted : outcome rx (preamble ++ (body ++ fcs body)) terminate ≡ HandedOut
   accepted =
       handed-out rx (body ++ fcs body) dst n p (tagsSent (fr .client .tag)) facts
       (let j = padded-length (fr .octets) in omega arith)
-      (w .allowed)
+      (w .welcome .allowed)
       (keeps (fr .client .form) (fr .octets) (tx .limit) (w .form) (w .short))
-      (w .heard)
+      (w .welcome .heard)
 
   pub read-back : clientData true (body ++ fcs body) ≡ delivered (fr .client .form) (fr .octets)
   unfolding clientData

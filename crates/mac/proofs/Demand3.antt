@@ -7,27 +7,19 @@ use mathlib.Core.Path.{_≡_, refl, sym, ap, ap₂, _∙_, subst}
 use mathlib.Core.Bool.{Bool, true, false}
 use mathlib.Core.List.{List, [], _∷_, _++_, map, append-assoc, append-nil}
 use lib.ListN.{length, replicate, length-append}
-use lib.Dec.{eqb, ltb}
-use borrow.Author.Tests.{eq-eqb, le-ltb}
 use Rattle.line.specs.Line.{Symbol, capture, octetsOf, marksOf, isControl, asData, asControl, idle, start, terminate, preamble, isData, isStart, AfterStart, ended, afterStart, MetStart, metStarts}
-use Rattle.line.specs.Table.{first}
 use Rattle.line.proofs.Symbols.{met-start}
 use Rattle.line.proofs.Starts.{look-frame, met-data, Begins}
 use Rattle.line.proofs.Buffers.{capture-of, length-capture, length-octetsOf, length-marksOf}
-use Rattle.line.proofs.Tables.{first-next, first-other}
 use Rattle.fcs.specs.Fcs.{fcs}
 use Rattle.station.specs.declared.Settings.{Settings}
 use Rattle.station.specs.declared.State.{State}
 use Rattle.station.specs.declared.Outcome.{Outcome}
-use Rattle.station.specs.declared.Refusal.the-variants.{BadSettings, BadBuffers, BadPlace}
-use Rattle.station.specs.declared.Checked.the-variants.{Fine, Refused}
 use Rattle.station.specs.Numbers.{byOutcome}
-use Rattle.station.specs.Station.{badBuffers, badPlace}
 use Rattle.frame.specs.Length.{clientData}
 use Rattle.receive.specs.Outcomes.{frameOf, outcome}
-use Rattle.receive.specs.Reading.{readRefusals}
 use Rattle.receive.specs.Walk.{walk, handedOut}
-use Rattle.receive.proofs.Refusals.{passed}
+use Rattle.receive.proofs.Refusals.{passed, fine as refuses-none}
 use Rattle.send.specs.Frames.{gap, onLine, clientBody, clientSymbols}
 use Rattle.mac.specs.Demand2.{Readable}
 use Rattle.mac.specs.Demand3.{Frame, Carried, AllCarried, rowSymbols, delivered, allDelivered}
@@ -117,16 +109,13 @@ alone rx st l = handedOut (octetsOf l) (walk rx st (octetsOf l) (marksOf l))
 
 module _ (rx : Settings) (os ms : List ℕ) (fine : Readable rx os ms) where
   stretch : (l : List Symbol) → length l ≤ length (capture os ms) → Readable rx (octetsOf l) (marksOf l)
-  unfolding readRefusals badBuffers badPlace
   stretch l h =
       let k = passed rx os ms 0 fine in
       let n = length-capture os ms (k .even) in
       let a = length-octetsOf l in
       let b = length-marksOf l in
-      first-next (Refused BadSettings) _ (k .valid)
-      ∙ first-next (Refused BadBuffers) _ (simp (eq-eqb (length (octetsOf l)) (length (marksOf l)) (omega arith), le-ltb 65536 (length (octetsOf l)) (let m = k .small in omega arith)))
-      ∙ first-next (Refused BadPlace) _ (le-ltb (length (octetsOf l)) 0 (omega arith))
-      ∙ first-other Fine
+      let m = k .small in
+      refuses-none rx (octetsOf l) (marksOf l) 0 (k .valid) (omega arith) (omega arith) (omega arith)
 
   hands-alone : (st : State) (l : List Symbol) → length l ≤ length (capture os ms) → alone rx st l ≡ clients rx (metStarts 0 l)
   hands-alone st l h = walk-hands rx (octetsOf l) (marksOf l) (stretch l h) st ∙ ap (λ (c : List Symbol). clients rx (metStarts 0 c)) (capture-of l)

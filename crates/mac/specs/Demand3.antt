@@ -47,14 +47,21 @@ pub record Typed (tx : Settings) (f : Frame) : Type 0 where
   pub ownSix : length (tx .own .0) ≡ 6
   pub bits : Bits16 (f .client .form)
 
--- the conditions on a frame: it is one "from our sender", which refuses it neither by 6 nor by 7; the receiver's settings "accept those
--- destinations and allow those sizes"
-pub record Carried (tx rx : Settings) (f : Frame) : Type 0 where
+-- the conditions on a frame: the receiver's settings "accept those destinations and allow those sizes"
+pub record Welcome (tx rx : Settings) (f : Frame) : Type 0 where
   pub typed : Typed tx f
-  pub form : badType (f .client .form) ≡ false
-  pub short : longData (tx .limit) (f .client .form) (f .octets) ≡ false
   pub heard : accepts rx (f .client .dest .0) ≡ true
   pub allowed : oversized (rx .limit) (clientBody tx (f .client) (f .octets) ++ fcs (clientBody tx (f .client) (f .octets))) ≡ false
+
+-- and it is one "from our sender", which refuses it neither by 6 nor by 7
+pub record Carried (tx rx : Settings) (f : Frame) : Type 0 where
+  pub welcome : Welcome tx rx f
+  pub form : badType (f .client .form) ≡ false
+  pub short : longData (tx .limit) (f .client .form) (f .octets) ≡ false
+
+unfoldable pub AllWelcome : Settings → Settings → List Frame → Type 0
+AllWelcome tx rx [] = Unit {0}
+AllWelcome tx rx (f ∷ fs) = Welcome tx rx f × AllWelcome tx rx fs
 
 unfoldable pub AllCarried : Settings → Settings → List Frame → Type 0
 AllCarried tx rx [] = Unit {0}
