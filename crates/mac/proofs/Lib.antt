@@ -1,5 +1,6 @@
 pub mod Accepted
 pub mod Clients
+pub mod Demand1
 pub mod Demand3
 pub mod Limits
 pub mod Row

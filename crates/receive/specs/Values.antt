@@ -5,6 +5,8 @@ use Rattle.station.specs.declared.Part.{Part}
 use Rattle.station.specs.Numbers.{outcomeNumber, refusalNumber}
 use Rattle.receive.specs.declared.Answer.{Answer}
 use Rattle.receive.specs.declared.Answer.the-variants.{Refused, Nothing, Open, Counted}
+use Rattle.receive.specs.declared.Walked.{Walked}
+use Rattle.receive.specs.declared.Walked.the-variants.{Ended}
 use Rattle.receive.specs.Reading.{emptyPart}
 
 -- the outcome's number; 0 for `none`, `open` and a refused reading
@@ -40,3 +42,8 @@ isCounted (Refused x) = false
 isCounted Nothing = false
 isCounted Open = false
 isCounted (Counted o w p) = true
+
+-- a walk's refusal, or 0
+abbrev pub walkedRefusal : Walked → ℕ
+walkedRefusal (Walked.Refused x) = refusalNumber x
+walkedRefusal (Ended n b) = 0

@@ -13,6 +13,7 @@ use Rattle.station.specs.declared.Quanta.{Quanta}
 use Rattle.station.specs.declared.Refusal.the-variants.{BadSettings, BadBuffers, BadPlace, OtherFlow, BadClass, BadType, LongData, NoRoom, Held}
 use Rattle.station.specs.declared.Checked.{Checked}
 use Rattle.station.specs.declared.Checked.the-variants.{Fine, Refused}
+use Rattle.station.specs.Numbers.{refusalNumber}
 use Rattle.station.specs.Station.{badSettings, badBuffers, badPlace, isPauseMode, isPfcMode}
 use Rattle.flow.specs.Timers.{timer, lowered}
 use Rattle.send.specs.declared.Client.{Client}
@@ -34,6 +35,11 @@ pub record Sending : Type 0 where
 
 abbrev pub sending : Sent → List ℕ → List ℕ → Sending
 sending r os ms = record { given = r; octets = os; marks = ms }
+
+-- document 01's number of a refusal, 0 where symbols were written
+abbrev pub wentRefusal : Went → ℕ
+wentRefusal Wrote = 0
+wentRefusal (Went.Refused x) = refusalNumber x
 
 -- the symbols that a call writes: none where it is refused
 unfoldable pub written : Checked → List Symbol → List Symbol

@@ -1,0 +1,56 @@
+-- Demand 1: what it says of a call's refusals. The theorems are proofs/Demand1.antt.
+use Prim.Native.Nat.{ℕ, _<_}
+use mathlib.Core.Path.{_≡_}
+use mathlib.Core.Bool.{Bool, true, false, _&&_, _||_}
+use mathlib.Core.Logic.{_↔_}
+use mathlib.Core.List.{List, [], _∷_}
+use lib.Dec.{eqb}
+use Rattle.line.specs.Table.{Table, otherwise, _∣_}
+use Rattle.station.specs.declared.State.{State}
+use Rattle.station.specs.declared.Checked.{Checked}
+use Rattle.station.specs.Numbers.{checkedNumber}
+use Rattle.receive.specs.declared.Reading.{Reading}
+use Rattle.receive.specs.Reading.{emptyPart}
+use Rattle.receive.specs.Values.{answerRefusal, answerStatus, answerPart}
+use Rattle.send.specs.Sending.{Sending, wentRefusal}
+
+-- the numbers of the refusals that a table can give, in the order in which they are tried
+unfoldable pub numbersOf : Table Checked → List ℕ
+numbersOf (otherwise a) = []
+numbersOf (r ∣ rows) = checkedNumber (r .gives) ∷ numbersOf rows
+
+-- the row of refusal n holds
+unfoldable pub rowHolds : Table Checked → ℕ → Bool
+rowHolds (otherwise a) n = false
+rowHolds (r ∣ rows) n = (eqb (checkedNumber (r .gives)) n && r .holds) || rowHolds rows n
+
+-- "Given exactly when", "Lowest number first": the number `given`, 0 for no refusal, is one of `numbers`; it is n exactly when the row of n holds
+-- and that of no lower number does; and it is 0 exactly when no row holds
+pub record Exactly (rows : Table Checked) (numbers : List ℕ) (given : ℕ) : Type 0 where
+  pub listed : numbersOf rows ≡ numbers
+  pub lowest : (n : ℕ) → 0 < n → (given ≡ n) ↔ ((rowHolds rows n ≡ true) × ((m : ℕ) → m < n → rowHolds rows m ≡ false))
+  pub none : (given ≡ 0) ↔ ((m : ℕ) → rowHolds rows m ≡ false)
+
+-- "A refusal gives its number, status 0, an empty part, the place it was called with (in a reading, as both places), the old state"
+pub record ReadRefused (st : State) (place : ℕ) (r : Reading) : Type 0 where
+  pub word : answerStatus (r .answer) ≡ 0
+  pub part : answerPart (r .answer) ≡ emptyPart
+  pub start : r .start ≡ place
+  pub next : r .next ≡ place
+  pub state : r .state ≡ st
+
+-- "… and untouched buffers."
+pub record SendRefused (st : State) (os ms : List ℕ) (place : ℕ) (x : Sending) : Type 0 where
+  pub at : x .given .place ≡ place
+  pub state : x .given .state ≡ st
+  pub octets : x .octets ≡ os
+  pub marks : x .marks ≡ ms
+
+-- what demand 1 says of a reading, and of a sending call, with the numbers that it can refuse by
+pub record ReadsOrRefuses (rows : Table Checked) (numbers : List ℕ) (st : State) (place : ℕ) (r : Reading) : Type 0 where
+  pub exactly : Exactly rows numbers (answerRefusal (r .answer))
+  pub refused : 0 < answerRefusal (r .answer) → ReadRefused st place r
+
+pub record SendsOrRefuses (rows : Table Checked) (numbers : List ℕ) (st : State) (os ms : List ℕ) (place : ℕ) (x : Sending) : Type 0 where
+  pub exactly : Exactly rows numbers (wentRefusal (x .given .answer))
+  pub refused : 0 < wentRefusal (x .given .answer) → SendRefused st os ms place x
