@@ -6,4 +6,6 @@ pub mod Limits
 pub mod Row
 pub mod Seam
 pub mod Sum
+pub mod Timers
+pub mod Unique
 pub mod Walk
