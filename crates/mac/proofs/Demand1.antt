@@ -185,9 +185,10 @@ walk-number : (s : Settings) (st : State) (os ms : List ℕ) (k : Checked) → f
     → (walkedRefusal (walked s st os ms .answer) ≡ checkedNumber k) × (0 < checkedNumber k → walked s st os ms .state ≡ st)
 unfolding walked
 walk-number s st os ms (Refused x) e = (ap (λ (w : Walk). walkedRefusal (w .answer)) (refused-walk s st os ms x e), λ h. ap (λ (w : Walk). w .state) (refused-walk s st os ms x e))
-walk-number s st os ms Fine e =
-    (ap (λ (l : List Reading). walkedRefusal (walkOf 0 st l .answer)) (walk-through s os ms e st) ∙ through-none s (length (capture os ms)) 0 st (metStarts 0 (capture os ms)),
-    λ h. absurd (omega arith))
+walk-number s st os ms Fine e = (
+  ap (λ (l : List Reading). walkedRefusal (walkOf 0 st l .answer)) (walk-through s os ms e st) ∙ through-none s (length (capture os ms)) 0 st (metStarts 0 (capture os ms)),
+  λ h. absurd (omega arith),
+)
 
 never-3 : (os : List ℕ) → badPlace os 0 ≡ false
 unfolding badPlace

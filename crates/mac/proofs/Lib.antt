@@ -3,6 +3,7 @@ pub mod Clients
 pub mod Demand1
 pub mod Demand3
 pub mod Limits
+pub mod Quiet
 pub mod Row
 pub mod Seam
 pub mod Sum

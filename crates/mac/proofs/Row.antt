@@ -95,7 +95,7 @@ carried tx rx x (f ∷ fs) w v =
 
 -- a sender tx and a receiver rx with settings of its own, which are valid and check lengths; one frame or more, from a place of any buffers on
 module _ (tx rx : Settings) (valid : badSettings rx ≡ false) (checks : rx .checking ≡ true) (st : State) (os ms : List ℕ) (place : ℕ) (f : Frame) (fs : List Frame)
-  (w : NoneRefused tx (rowFrom st os ms place) (f ∷ fs)) (v : AllWelcome tx rx (f ∷ fs)) where
+    (w : NoneRefused tx (rowFrom st os ms place) (f ∷ fs)) (v : AllWelcome tx rx (f ∷ fs)) where
   abbrev left : Sending
   left = sendRow tx (rowFrom st os ms place) (f ∷ fs)
 
