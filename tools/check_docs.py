@@ -1,0 +1,49 @@
+#!/usr/bin/env python3
+"""Holds docs/DEFINITIONS.md to the sources: every definition and record of crates/*/specs is named there, and every
+name and theorem there exists.
+
+Internal files (those whose first line says `Internal`) need not be named. Prints what is missing and exits 1, or says nothing.
+"""
+import pathlib
+import re
+import sys
+
+root = pathlib.Path(__file__).resolve().parent.parent
+page = (root / "docs" / "DEFINITIONS.md").read_text()
+named = set(re.findall(r"`([^`\s]+)`", page))
+
+DEFINED = re.compile(r"^(?:unfoldable |abbrev )*pub (?:record |data )?([^\s:({]+)", re.M)
+PROVED = re.compile(r"^ *(?:unfoldable |abbrev )*(?:pub )?([^\s:({]+)(?: \{ℓ\})? :", re.M)
+
+
+def internal(text):
+    return text.split("\n", 1)[0].startswith("-- Internal")
+
+
+missing = []
+theorems = set()
+for path in sorted(root.glob("crates/*/specs/*.antt")):
+    text = path.read_text()
+    if path.name == "Lib.antt" or internal(text):
+        continue
+    for name in DEFINED.findall(text):
+        if name == "mod" or name == "use" or name.startswith("_"):
+            continue
+        if name not in named:
+            missing.append(f"{path.relative_to(root)}: `{name}` is not on docs/DEFINITIONS.md")
+for path in root.glob("crates/*/proofs/*.antt"):
+    theorems |= set(PROVED.findall(path.read_text()))
+claims = page[page.index("## The claims"):]
+for row in re.findall(r"^\| \d[^|]*\|([^|]*)\|", claims, re.M):
+    for name in re.findall(r"`([^`]+)`", row):
+        if name not in theorems:
+            missing.append(f"docs/DEFINITIONS.md: no theorem `{name}`")
+words = set()
+for path in list(root.glob("crates/**/*.antt")) + list(root.glob("crates/**/*.rt")):
+    words |= set(re.findall(r"[^\s(){}.,;⟦⟧⌜⌝←]+", path.read_text()))
+for name in sorted(named):
+    if re.fullmatch(r"[A-Za-z][\w-]*", name) and name not in words:
+        missing.append(f"docs/DEFINITIONS.md: `{name}` is nowhere in crates/")
+for line in missing:
+    print(line)
+sys.exit(1 if missing else 0)
