@@ -1,22 +1,19 @@
 -- Places that a search has passed: one block more, one stretch after another, and what the search then is. Assumes nothing.
-use Prim.Native.Nat.{ℕ, zero, suc, _+_, _-_, _≤_, _<_}
+use Prim.Native.Nat.{ℕ, _+_, _-_, _≤_, _<_}
 use native.Mathlib.Omega.{arith}
-use native.Mathlib.Nat.{eq-or-lt-of-le}
 use mathlib.Core.Path.{_≡_, refl, sym, ap, _∙_, subst}
 use mathlib.Core.Bool.{Bool, true, false, _||_, false≢true}
-use mathlib.Core.Logic.{_⊎_, inl, inr, ⊎-elim}
 use mathlib.Core.List.{List}
-use lib.ListN.{length, getD, drop}
+use lib.ListN.{length}
 use lib.Dec.{leb}
 use borrow.Author.Count.{below-more}
 use borrow.Author.Tests.{leb-true, leb-false}
-use Rattle.line.specs.declared.Found.{Found}
 use Rattle.line.specs.declared.Found.the-variants.{At, Nothing}
-use Rattle.line.specs.Line.{Symbol, capture, isData, isControl, isStart, start, firstWhere, findStart, findControl}
-use Rattle.line.specs.Passed.{Passed, Stopped, Has, Lacks, NoStart, Start}
+use Rattle.line.specs.Line.{Symbol, isControl, isStart}
+use Rattle.line.specs.Passed.{Passed, Has}
 use Rattle.line.proofs.Symbols.{by-test}
 use Rattle.line.proofs.Buffers.{symbolAt}
-use Rattle.line.proofs.Search.{from, search-here, search-on, search-skip, search-end-octets, search-end-marks, data-tests, control-tests, no-start-octet}
+use Rattle.line.proofs.Search.{from, search-here, search-skip, search-end-octets, search-end-marks, data-tests, no-start-octet}
 
 module _ (P : ℕ → Type 0) where
   -- a block's test: what held of each place where no flag was up, holds with the next place's flag

@@ -3,18 +3,17 @@ use Prim.Native.Nat.{ℕ, zero, suc, _+_, _-_, _≤_, _<_}
 use native.Mathlib.Omega.{arith}
 use native.Mathlib.Numerals.{add-one}
 use mathlib.Core.Path.{_≡_, refl, sym, ap, ap₂, _∙_, subst}
-use mathlib.Core.Bool.{Bool, true, false}
+use mathlib.Core.Bool.{Bool, true, false, not}
 use mathlib.Core.List.{List, [], _∷_}
-use mathlib.Core.Option.{Option, none, some}
+use mathlib.Core.Option.{none, some}
 use lib.ListN.{length, getD, take, drop}
 use lib.Seq.{drop-cons}
 use lib.Dec.{leb}
 use borrow.Author.Tests.{leb-true, leb-false, not-true, not-false}
-use Rattle.line.specs.declared.Found.{Found}
 use Rattle.line.specs.declared.Found.the-variants.{At, Nothing}
-use Rattle.line.specs.Line.{Symbol, capture, isData, isControl, isStart, start, firstWhere, findStart, findControl, run, ending, unended, ended, endedBy, afterStart}
+use Rattle.line.specs.Line.{Symbol, capture, isData, isControl, isStart, firstWhere, findStart, findControl, run, ending, unended, ended, endedBy, afterStart}
 use Rattle.line.specs.Octets.{between}
-use Rattle.line.specs.Passed.{Passed, Stopped}
+use Rattle.line.specs.Passed.{Passed}
 use Rattle.line.proofs.Symbols.{by-test, where-here, where-later, run-data, run-control, ending-data, ending-control}
 use Rattle.line.proofs.Buffers.{symbolAt, capture-at}
 use Rattle.line.proofs.Search.{from, search-here, search-on, search-end-octets}
@@ -71,7 +70,7 @@ module _ (os ms : List ℕ) (same : length os ≡ length ms) where
       let r = run-to n (i + 1) e (omega arith) h (λ k l g. f k (omega arith) g) t in
       let o : drop i os ≡ getD os i 0 ∷ drop (i + 1) os = drop-cons os i 0 (omega arith) ∙ ap (λ (k : ℕ). getD os i 0 ∷ drop k os) (sym (add-one i)) in (
         ap run c ∙ run-data x _ d ∙ ap (λ (l : List ℕ). getD os i 0 ∷ l) (r .0)
-        ∙ sym (ap₂ take (let z : e - i ≡ suc (e - (i + 1)) = omega arith in z) o),
+            ∙ sym (ap₂ take (let z : e - i ≡ suc (e - (i + 1)) = omega arith in z) o),
         ap ending c ∙ ending-data x _ d ∙ r .1,
       )
 
@@ -94,13 +93,8 @@ unfolding ending isControl
 open-ending at [] e = refl
 open-ending at (x ∷ xs) e =
     by-test (isData x)
-    (λ d. ending-data x xs d ∙ open-ending (at + 1) xs (sym (where-later isControl at x xs (data-is x d)) ∙ e))
-    (λ d. absurd (never (sym e ∙ where-here isControl at x xs (control-is x d))))
-  where
-    data-is : (x : Symbol) → isData x ≡ true → isControl x ≡ false
-    data-is x d = rw d
-    control-is : (x : Symbol) → isData x ≡ false → isControl x ≡ true
-    control-is x d = rw d
+    (λ d. ending-data x xs d ∙ open-ending (at + 1) xs (sym (where-later isControl at x xs (ap not d)) ∙ e))
+    (λ d. absurd (never (sym e ∙ where-here isControl at x xs (ap not d))))
 
 pub after-nothing : (os ms : List ℕ) (i : ℕ) → findControl (capture os ms) i ≡ Nothing → afterStart (drop i (capture os ms)) ≡ unended
 unfolding findControl afterStart endedBy

@@ -5,14 +5,13 @@ use native.Mathlib.Nat.{pow-suc, pow-succ', mul-assoc, div-one, div-div-eq-div-m
 use lib.Arith.{mod-mul}
 use lib.Pow.{pow-pos}
 use mathlib.Core.Path.{_≡_, refl, sym, ap, ap₂, _∙_, subst}
-use mathlib.Core.Bool.{Bool, true, false}
 use mathlib.Core.List.{List}
 use lib.ListN.{getD}
 use lib.Dec.{eqb}
-use lib.Bits.{bitXor, xor-block, xor-self, xor-add-and, and-le-l, and-le-r, xor-lt, bitAnd}
+use lib.Bits.{bitXor, xor-block, xor-self, xor-add-and, and-le-l, and-le-r, xor-lt}
 use lib.Count.{trailingZeros, under}
 use borrow.Author.Tests.{eqb-true, eqb-false}
-use Rattle.line.specs.Passed.{Has, Lacks, lowFirst}
+use Rattle.line.specs.Passed.{Has, lowFirst}
 use Rattle.line.proofs.Symbols.{by-test}
 
 -- of octets below 256
@@ -34,18 +33,9 @@ low-add l (suc a) at b =
     let z = lowFirst l (at + suc a) b in
     let s : lowFirst l at (suc (a + b)) ≡ lowFirst l (at + 1) (a + b) * 256 + x = refl in
     let ih : lowFirst l (at + 1) (a + b) ≡ y + z * 256 ^ a
-        = low-add l a (at + 1) b ∙ ap (λ (k : ℕ). y + lowFirst l k b * 256 ^ a) (let e : at + 1 + a ≡ at + suc a = omega arith in e) in
+    = low-add l a (at + 1) b ∙ ap (λ (k : ℕ). y + lowFirst l k b * 256 ^ a) (let e : at + 1 + a ≡ at + suc a = omega arith in e) in
     let m : z * 256 ^ suc a ≡ z * 256 ^ a * 256 = ap (λ (p : ℕ). z * p) (pow-suc 256 a) ∙ sym (mul-assoc z (256 ^ a) 256) in
     ap (lowFirst l at) (let e : suc a + b ≡ suc (a + b) = omega arith in e) ∙ omega arith
-
-pub low-lt : (l : List ℕ) → Octets l → (n at : ℕ) → lowFirst l at n < 256 ^ n
-unfolding lowFirst
-low-lt l o zero at = omega arith
-low-lt l o (suc n) at =
-    let h = low-lt l o n (at + 1) in
-    let g = o at in
-    let e = pow-suc 256 n in
-    omega arith
 
 -- the number of n octets v
 unfoldable pub repeated : ℕ → ℕ → ℕ
@@ -103,7 +93,7 @@ alike-in l o v h (suc n) at =
     let lt : bitXor x v < 256 = xor-lt 8 x v (o at) h in
     let e : bitXor (lowFirst l (at + 1) n * 256 + x) (repeated v n * 256 + v) ≡ w * 256 + bitXor x v = xor-block 8 (lowFirst l (at + 1) n) (repeated v n) x v (o at) h in
     let s : trailingZeros (suc n * 8) (bitXor (lowFirst l (at + 1) n * 256 + x) (repeated v n * 256 + v)) ≡ trailingZeros (8 + d) (w * 256 + bitXor x v)
-        = ap₂ trailingZeros (let q : suc n * 8 ≡ 8 + n * 8 = omega arith in q) e in
+    = ap₂ trailingZeros (let q : suc n * 8 ≡ 8 + n * 8 = omega arith in q) e in
     by-test (eqb x v)
     (λ t.
     let ih = alike-in l o v h n (at + 1) in

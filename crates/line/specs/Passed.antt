@@ -4,7 +4,7 @@ use mathlib.Core.Path.{_≡_}
 use mathlib.Core.Bool.{Bool, true, false}
 use mathlib.Core.List.{List}
 use lib.ListN.{getD}
-use Rattle.line.specs.Line.{Symbol, isStart}
+use Rattle.line.specs.Line.{isStart}
 
 -- a search from one place came to another, not past its end, and each place between is such that it could be passed
 pub record Passed (P : ℕ → Type 0) (from to end : ℕ) : Type 0 where

@@ -42,13 +42,14 @@ pub fn find_control(octets: &[u8], marks: &[u8], place: usize) -> Found
     let h = pass_data(marks, place, end, 64);
     let i = pass_data(marks, h, end, 16);
     let j = pass_words(marks, i, end, 0);
-    let k = pass_bytes(marks, j, end);
+    let k = first_mark(marks, j, end);
     if k < end {
         return Found::At(k);
     }
     Found::Nothing
 }
 
+// The shorter of two lengths.
 fn shorter(a: usize, b: usize) -> usize
     ensures { λ r. ⌜ (r ≤ a) × (r ≤ b) × (r < a → r ≡ b) ⌝ }
 {
@@ -83,8 +84,8 @@ fn pass_data(marks: &[u8], place: usize, end: usize, width: usize) -> usize
     i
 }
 
-// Passes data symbols one by one, up to the first control symbol.
-fn pass_bytes(marks: &[u8], place: usize, end: usize) -> usize
+// Passes data symbols one by one, up to the first control symbol or the end.
+fn first_mark(marks: &[u8], place: usize, end: usize) -> usize
     requires { ⌜ (place ≤ end) × (end ≤ length (now marks)) ⌝ }
     ensures { λ r. ⌜ Stopped (Has (now (marks .entry)) 0) (Lacks (now (marks .entry)) 0) place r end ⌝ }
 {
@@ -97,6 +98,7 @@ fn pass_bytes(marks: &[u8], place: usize, end: usize) -> usize
 
 // ---- Words of eight octets
 
+// An octet as a number of 64 bits.
 fn wide(x: u8) -> u64
     ensures { λ r. ⌜ (r ≡ x) × (r < 256) ⌝ }
 {
@@ -166,10 +168,10 @@ fn any_start(octets: &[u8], marks: &[u8], at: usize) -> bool
     ensures { λ r. ⌜ (r ≡ false → (k : ℕ) → k < 16 → NoStart (now (octets .entry)) (now (marks .entry)) (at + k)) ⌝ }
 {
     let mut any: bool = false;
-    let mut k: usize = 0;
-    while k < 16 {
-        any = any | is_start(octets, marks, at + k);
-        k = k + 1;
+    let mut j: usize = 0;
+    while j < 16 {
+        any = any | is_start(octets, marks, at + j);
+        j = j + 1;
     }
     any
 }
@@ -186,8 +188,8 @@ fn pass_other(octets: &[u8], marks: &[u8], place: usize, end: usize) -> usize
     i
 }
 
-// Passes symbols one by one, up to the first Start.
-fn pass_each(octets: &[u8], marks: &[u8], place: usize, end: usize) -> usize
+// Passes symbols one by one, up to the first Start or the end.
+fn first_start(octets: &[u8], marks: &[u8], place: usize, end: usize) -> usize
     requires { ⌜ (place ≤ end) × (end ≤ length (now octets)) × (end ≤ length (now marks)) ⌝ }
     ensures { λ r. ⌜ Stopped (NoStart (now (octets .entry)) (now (marks .entry))) (Start (now (octets .entry)) (now (marks .entry))) place r end ⌝ }
 {
@@ -207,5 +209,5 @@ fn start_from(octets: &[u8], marks: &[u8], place: usize, end: usize) -> usize
         return place;
     }
     let i = pass_other(octets, marks, place, end);
-    pass_each(octets, marks, i, end)
+    first_start(octets, marks, i, end)
 }

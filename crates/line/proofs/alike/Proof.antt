@@ -1,22 +1,15 @@
 -- `line::alike` meets its contract: the law of the first octet that is another. Assumes nothing.
 use borrow.Author.Needs.{needs}
-use Prim.Native.Nat.{ℕ, _+_, _-_, _*_, _/_, _≤_, _<_}
+use Prim.Native.Nat.{ℕ, _+_, _*_, _/_, _≤_, _<_}
 use native.Mathlib.Omega.{arith}
 use denote.Ref.{now}
-use lib.ListN.{length, getD}
-use mathlib.Core.Path.{_≡_, refl, sym, ap, ap₂, _∙_, subst}
-use mathlib.Core.Bool.{true, false, not}
-use Rattle.line.specs.Passed.{Passed, Stopped, Has, Lacks, startAt, NoStart, Start, lowFirst}
-use Rattle.line.proofs.Passing.{block-more, passed-none, passed-more, passed-one, passed-on, passed-as}
+use mathlib.Core.Path.{_≡_, sym, ap, ap₂, _∙_, subst}
+use Rattle.line.specs.Passed.{Has, lowFirst}
 use lib.Bits.{bitXor}
 use lib.Count.{trailingZeros, trailing-le}
-use Rattle.line.proofs.Words.{low-one, low-add, repeated, repeated-eight, alike-in}
+use Rattle.line.proofs.Words.{repeated, repeated-eight, alike-in}
 use Rattle.line.proofs.alike.Statement.{statement}
 use Rattle.line.proofs.alike.Tie as tie
-use Rattle.line.proofs.alike.Reads as reads
-use Rattle.line.proofs.alike.Lts as lts
-use Rattle.line.proofs.eight.Reads as eight-reads
-use Rattle.line.proofs.wide.Reads as wide-reads
 
 eight-requires : tie.Need-eight-requires
 eight-requires c κs = search needs
@@ -36,7 +29,7 @@ returns c =
     let a = c .before .before .before .args in
     let l = now (a .s) in
     let e : bitXor (c .before .eight .result) (c .wide .result * 0x0101010101010101) ≡ bitXor (lowFirst l (a .at) 8) (repeated (a .v) 8)
-        = ap₂ bitXor (c .before .eight .ensures) (ap (λ (x : ℕ). x * 0x0101010101010101) (c .wide .ensures .0) ∙ repeated-eight (a .v)) in
+    = ap₂ bitXor (c .before .eight .ensures) (ap (λ (x : ℕ). x * 0x0101010101010101) (c .wide .ensures .0) ∙ repeated-eight (a .v)) in
     subst (λ (x : ℕ). (trailingZeros 64 x / 8 ≤ 8) × ((k : ℕ) → k < trailingZeros 64 x / 8 → Has l (a .v) (a .at + k))) (sym e)
     (alike-in l (λ k. omega (arith, c .before .before .shared-slice-known .given k)) (a .v) (omega arith) 8 (a .at))
 

@@ -1,19 +1,17 @@
 -- `line::any_mark` meets its contract. The invariant: with no flag up, each mark passed is 0. Assumes nothing.
 use borrow.Author.Needs.{needs}
-use Prim.Native.Nat.{ℕ, _+_, _-_, _*_, _/_, _≤_, _<_}
+use Prim.Native.Nat.{ℕ, _+_, _-_, _≤_, _<_}
 use native.Mathlib.Omega.{arith}
 use denote.Ref.{now}
-use lib.ListN.{length, getD}
+use lib.ListN.{getD}
 use lib.Dec.{eqb}
-use borrow.Author.Tests.{leb-true, eqb-true, eqb-false, not-true, not-false}
-use mathlib.Core.Path.{_≡_, refl, sym, ap, ap₂, _∙_, subst}
-use mathlib.Core.Bool.{true, false, not}
-use Rattle.line.specs.Passed.{Passed, Stopped, Has, Lacks, startAt, NoStart, Start, lowFirst}
-use Rattle.line.proofs.Passing.{block-more, passed-none, passed-more, passed-one, passed-on, passed-as}
+use borrow.Author.Tests.{eqb-true, not-false}
+use mathlib.Core.Path.{_≡_}
+use mathlib.Core.Bool.{false, not}
+use Rattle.line.specs.Passed.{Has}
+use Rattle.line.proofs.Passing.{block-more}
 use Rattle.line.proofs.any_mark.Statement.{statement}
 use Rattle.line.proofs.any_mark.Tie as tie
-use Rattle.line.proofs.any_mark.Reads as reads
-use Rattle.line.proofs.any_mark.Lts as lts
 
 abbrev Inv-loop : tie.InvT-loop
 Inv-loop marks at width any₀ k₀ any k = (k ≤ width) × (any ≡ false → (j : ℕ) → j < k → Has marks 0 (at + j))
@@ -40,10 +38,11 @@ loop-again : tie.Need-loop-again Inv-loop μ-loop
 loop-again c =
     let l = c .before .before in
     let m = now (l .before .args .marks) in
-    let at = l .before .args .at in
-    (omega arith,
-    block-more (Has m 0) at (l .loop .k) (l .loop .any) (not (eqb (getD m (at + l .loop .k) 0) 0)) (l .loop .inv .1)
-    (λ z. eqb-true _ _ (not-false _ z)))
+    let at = l .before .args .at in (
+      omega arith,
+      block-more (Has m 0) at (l .loop .k) (l .loop .any) (not (eqb (getD m (at + l .loop .k) 0) 0)) (l .loop .inv .1)
+          (λ z. eqb-true _ _ (not-false _ z)),
+    )
 
 returns : tie.Need-returns Inv-loop μ-loop
 returns c = λ z k h. c .before .loop .inv .1 z k (omega arith)

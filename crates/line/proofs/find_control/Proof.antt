@@ -1,26 +1,13 @@
 -- `line::find_control` meets its contract: what each of its searches passed, one after the other, is data. Assumes nothing.
 use borrow.Author.Needs.{needs}
-use Prim.Native.Nat.{ℕ, _+_, _-_, _*_, _/_, _≤_, _<_}
-use native.Mathlib.Omega.{arith}
 use denote.Ref.{now}
-use lib.ListN.{length, getD}
-use lib.Dec.{eqb}
-use borrow.Author.Tests.{leb-true, eqb-true, eqb-false, not-true, not-false}
-use mathlib.Core.Path.{_≡_, refl, sym, ap, ap₂, _∙_, subst}
-use mathlib.Core.Bool.{true, false, not}
-use Rattle.line.specs.Passed.{Passed, Stopped, Has, Lacks, startAt, NoStart, Start, lowFirst}
-use Rattle.line.proofs.Passing.{block-more, passed-none, passed-more, passed-one, passed-on, passed-as, Miss, search-found, search-none, search-ended, data-passed, idle-passed}
-use Rattle.line.specs.Line.{isStart, isControl, findStart, findControl}
+use Rattle.line.specs.Passed.{Passed}
+use Rattle.line.proofs.Passing.{passed-on, passed-as, Miss, search-found, search-none, search-ended, data-passed}
+use Rattle.line.specs.Line.{isControl, findControl}
 use Rattle.line.proofs.Buffers.{symbolAt}
-use Rattle.line.proofs.Search.{search-here, control-tests}
+use Rattle.line.proofs.Search.{control-tests}
 use Rattle.line.proofs.find_control.Statement.{statement}
 use Rattle.line.proofs.find_control.Tie as tie
-use Rattle.line.proofs.find_control.Reads as reads
-use Rattle.line.proofs.find_control.Lts as lts
-use Rattle.line.proofs.pass_bytes.Reads as pass-bytes-reads
-use Rattle.line.proofs.pass_data.Reads as pass-data-reads
-use Rattle.line.proofs.pass_words.Reads as pass-words-reads
-use Rattle.line.proofs.shorter.Reads as shorter-reads
 
 shorter-requires : tie.Need-shorter-requires
 shorter-requires c κs = search needs
@@ -40,25 +27,25 @@ pass-data-requires-2 c κs = search needs
 pass-words-requires : tie.Need-pass-words-requires
 pass-words-requires c κs = search needs
 
-pass-bytes-requires : tie.Need-pass-bytes-requires
-pass-bytes-requires c κs = search needs
+first-mark-requires : tie.Need-first-mark-requires
+first-mark-requires c κs = search needs
 
 -- from the place called with to where the last search stopped
-data-to : (c : tie.After-pass-bytes) → (let a = c .before .before .before .before .before .before .before .before .args in
-    Passed (Miss isControl (now (a .octets)) (now (a .marks))) (a .place) (c .pass-bytes .result) (c .before .before .before .before .before .shorter .result))
+data-to : (c : tie.After-first-mark) → (let a = c .before .before .before .before .before .before .before .before .args in
+    Passed (Miss isControl (now (a .octets)) (now (a .marks))) (a .place) (c .first-mark .result) (c .before .before .before .before .before .shorter .result))
 data-to c =
     let a = c .before .before .before .before .before .before .before .before .args in
     let d = c .before .before .before in
     passed-as (data-passed (now (a .octets)) (now (a .marks)))
     (passed-on _ _ _ _ _ (passed-on _ _ _ _ _ (passed-on _ _ _ _ _ (d .pass-data .ensures) (c .before .before .pass-data2 .ensures)) (c .before .pass-words .ensures))
-    (c .pass-bytes .ensures .passed))
+    (c .first-mark .ensures .passed))
 
 returns-2 : tie.Need-returns-2
 unfolding findControl
 returns-2 c =
     let a = c .before .before .before .before .before .before .before .before .before .args in
     let s = c .before .before .before .before .before .before .shorter .ensures in
-    let b = c .before .pass-bytes in
+    let b = c .before .first-mark in
     search-found isControl (now (a .octets)) (now (a .marks)) (a .place) (b .result) _ (s .0) (s .1) (data-to (c .before)) (c .if2 .taken)
     (control-tests (symbolAt (now (a .octets)) (now (a .marks)) (b .result)) (b .ensures .here (c .if2 .taken)))
 
@@ -78,6 +65,6 @@ find-control-spec =
     pass-data-requires
     pass-data-requires-2
     pass-words-requires
-    pass-bytes-requires
+    first-mark-requires
     returns-2
     returns-3)

@@ -1,26 +1,14 @@
 -- `line::find_start` meets its contract: the symbol at the place, the Idles after it and what the last search passed are no Start. Assumes nothing.
 use borrow.Author.Needs.{needs}
-use Prim.Native.Nat.{ℕ, _+_, _-_, _*_, _/_, _≤_, _<_}
 use native.Mathlib.Omega.{arith}
 use denote.Ref.{now}
-use lib.ListN.{length, getD}
-use lib.Dec.{eqb}
-use borrow.Author.Tests.{leb-true, eqb-true, eqb-false, not-true, not-false}
-use mathlib.Core.Path.{_≡_, refl, sym, ap, ap₂, _∙_, subst}
-use mathlib.Core.Bool.{true, false, not}
-use Rattle.line.specs.Passed.{Passed, Stopped, Has, Lacks, startAt, NoStart, Start, lowFirst}
-use Rattle.line.proofs.Passing.{block-more, passed-none, passed-more, passed-one, passed-on, passed-as, Miss, search-found, search-none, search-ended, data-passed, idle-passed}
-use Rattle.line.specs.Line.{isStart, isControl, findStart, findControl}
-use Rattle.line.proofs.Buffers.{symbolAt}
-use Rattle.line.proofs.Search.{search-here, control-tests}
+use mathlib.Core.Path.{sym, _∙_}
+use Rattle.line.specs.Passed.{Passed}
+use Rattle.line.proofs.Passing.{passed-none, passed-one, passed-on, passed-as, Miss, search-found, search-none, search-ended, idle-passed}
+use Rattle.line.specs.Line.{isStart, findStart}
+use Rattle.line.proofs.Search.{search-here}
 use Rattle.line.proofs.find_start.Statement.{statement}
 use Rattle.line.proofs.find_start.Tie as tie
-use Rattle.line.proofs.find_start.Reads as reads
-use Rattle.line.proofs.find_start.Lts as lts
-use Rattle.line.proofs.is_start.Reads as is-start-reads
-use Rattle.line.proofs.pass_words.Reads as pass-words-reads
-use Rattle.line.proofs.shorter.Reads as shorter-reads
-use Rattle.line.proofs.start_from.Reads as start-from-reads
 
 shorter-requires : tie.Need-shorter-requires
 shorter-requires c κs = search needs

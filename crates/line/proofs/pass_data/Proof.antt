@@ -1,20 +1,12 @@
 -- `line::pass_data` meets its contract. The invariant: each mark passed is 0. Assumes nothing.
 use borrow.Author.Needs.{needs}
-use Prim.Native.Nat.{ℕ, _+_, _-_, _*_, _/_, _≤_, _<_}
+use Prim.Native.Nat.{_-_}
 use native.Mathlib.Omega.{arith}
-use denote.Ref.{now}
-use lib.ListN.{length, getD}
-use lib.Dec.{eqb}
-use borrow.Author.Tests.{leb-true, eqb-true, eqb-false, not-true, not-false}
-use mathlib.Core.Path.{_≡_, refl, sym, ap, ap₂, _∙_, subst}
-use mathlib.Core.Bool.{true, false, not}
-use Rattle.line.specs.Passed.{Passed, Stopped, Has, Lacks, startAt, NoStart, Start, lowFirst}
-use Rattle.line.proofs.Passing.{block-more, passed-none, passed-more, passed-one, passed-on, passed-as}
+use borrow.Author.Tests.{not-true}
+use Rattle.line.specs.Passed.{Passed, Has}
+use Rattle.line.proofs.Passing.{passed-none, passed-more}
 use Rattle.line.proofs.pass_data.Statement.{statement}
 use Rattle.line.proofs.pass_data.Tie as tie
-use Rattle.line.proofs.pass_data.Reads as reads
-use Rattle.line.proofs.pass_data.Lts as lts
-use Rattle.line.proofs.any_mark.Reads as any-mark-reads
 
 abbrev Inv-loop : tie.InvT-loop
 Inv-loop marks place end width i₀ i = Passed (Has marks 0) place i end

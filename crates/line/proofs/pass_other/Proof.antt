@@ -1,20 +1,12 @@
 -- `line::pass_other` meets its contract. The invariant: no symbol passed is a Start. Assumes nothing.
 use borrow.Author.Needs.{needs}
-use Prim.Native.Nat.{ℕ, _+_, _-_, _*_, _/_, _≤_, _<_}
+use Prim.Native.Nat.{_-_}
 use native.Mathlib.Omega.{arith}
-use denote.Ref.{now}
-use lib.ListN.{length, getD}
-use lib.Dec.{eqb}
-use borrow.Author.Tests.{leb-true, eqb-true, eqb-false, not-true, not-false}
-use mathlib.Core.Path.{_≡_, refl, sym, ap, ap₂, _∙_, subst}
-use mathlib.Core.Bool.{true, false, not}
-use Rattle.line.specs.Passed.{Passed, Stopped, Has, Lacks, startAt, NoStart, Start, lowFirst}
-use Rattle.line.proofs.Passing.{block-more, passed-none, passed-more, passed-one, passed-on, passed-as}
+use borrow.Author.Tests.{not-true}
+use Rattle.line.specs.Passed.{Passed, NoStart}
+use Rattle.line.proofs.Passing.{passed-none, passed-more}
 use Rattle.line.proofs.pass_other.Statement.{statement}
 use Rattle.line.proofs.pass_other.Tie as tie
-use Rattle.line.proofs.pass_other.Reads as reads
-use Rattle.line.proofs.pass_other.Lts as lts
-use Rattle.line.proofs.any_start.Reads as any-start-reads
 
 abbrev Inv-loop : tie.InvT-loop
 Inv-loop octets marks place end i₀ i = Passed (NoStart octets marks) place i end
@@ -40,7 +32,7 @@ loop-less c = search needs
 loop-again : tie.Need-loop-again Inv-loop μ-loop
 loop-again c =
     let l = c .before .before .before in
-    passed-more _ _ _ _ 16 (l .loop .inv) (omega arith) (c .before .any-start .ensures (not-true _ (c .if1 .taken)))
+    passed-more _ _ _ _ _ (l .loop .inv) (omega arith) (c .before .any-start .ensures (not-true _ (c .if1 .taken)))
 
 returns : tie.Need-returns Inv-loop μ-loop
 returns c = c .before .before .before .loop .inv

@@ -1,20 +1,11 @@
 -- `line::pass_words` meets its contract. The invariant: each octet passed is v. Assumes nothing.
 use borrow.Author.Needs.{needs}
-use Prim.Native.Nat.{ℕ, _+_, _-_, _*_, _/_, _≤_, _<_}
+use Prim.Native.Nat.{_-_}
 use native.Mathlib.Omega.{arith}
-use denote.Ref.{now}
-use lib.ListN.{length, getD}
-use lib.Dec.{eqb}
-use borrow.Author.Tests.{leb-true, eqb-true, eqb-false, not-true, not-false}
-use mathlib.Core.Path.{_≡_, refl, sym, ap, ap₂, _∙_, subst}
-use mathlib.Core.Bool.{true, false, not}
-use Rattle.line.specs.Passed.{Passed, Stopped, Has, Lacks, startAt, NoStart, Start, lowFirst}
-use Rattle.line.proofs.Passing.{block-more, passed-none, passed-more, passed-one, passed-on, passed-as}
+use Rattle.line.specs.Passed.{Passed, Has}
+use Rattle.line.proofs.Passing.{passed-none, passed-more}
 use Rattle.line.proofs.pass_words.Statement.{statement}
 use Rattle.line.proofs.pass_words.Tie as tie
-use Rattle.line.proofs.pass_words.Reads as reads
-use Rattle.line.proofs.pass_words.Lts as lts
-use Rattle.line.proofs.alike.Reads as alike-reads
 
 abbrev Inv-loop : tie.InvT-loop
 Inv-loop s place end v i₀ i = Passed (Has s v) place i end
@@ -48,7 +39,7 @@ loop-less c = search needs
 loop-again : tie.Need-loop-again Inv-loop μ-loop
 loop-again c =
     let l = c .before .before .before in
-    passed-more _ _ _ _ 8 (l .loop .inv) (omega arith) (λ k h. c .before .alike .ensures .1 k (omega arith))
+    passed-more _ _ _ _ _ (l .loop .inv) (omega arith) (λ k h. c .before .alike .ensures .1 k (omega arith))
 
 returns-2 : tie.Need-returns-2 Inv-loop μ-loop
 returns-2 c = c .before .loop .inv

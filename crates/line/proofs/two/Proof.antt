@@ -1,21 +1,11 @@
 -- `line::two` meets its contract: a word of two parts. Assumes nothing.
 use borrow.Author.Needs.{needs}
-use Prim.Native.Nat.{ℕ, _+_, _-_, _*_, _/_, _≤_, _<_}
+use Prim.Native.Nat.{_+_}
 use native.Mathlib.Omega.{arith}
 use denote.Ref.{now}
-use lib.ListN.{length, getD}
-use mathlib.Core.Path.{_≡_, refl, sym, ap, ap₂, _∙_, subst}
-use mathlib.Core.Bool.{true, false, not}
-use Rattle.line.specs.Passed.{Passed, Stopped, Has, Lacks, startAt, NoStart, Start, lowFirst}
-use Rattle.line.proofs.Passing.{block-more, passed-none, passed-more, passed-one, passed-on, passed-as}
-use lib.Bits.{bitXor}
-use lib.Count.{trailingZeros, trailing-le}
-use Rattle.line.proofs.Words.{low-one, low-add, repeated, repeated-eight, alike-in}
+use Rattle.line.proofs.Words.{low-one, low-add}
 use Rattle.line.proofs.two.Statement.{statement}
 use Rattle.line.proofs.two.Tie as tie
-use Rattle.line.proofs.two.Reads as reads
-use Rattle.line.proofs.two.Lts as lts
-use Rattle.line.proofs.wide.Reads as wide-reads
 
 shared-slice-read-wide : tie.Need-shared-slice-read-wide
 shared-slice-read-wide c = search needs

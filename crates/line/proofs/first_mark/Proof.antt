@@ -1,19 +1,12 @@
--- `line::pass_bytes` meets its contract. The invariant: each mark passed is 0. Assumes nothing.
+-- `line::first_mark` meets its contract. The invariant: each mark passed is 0. Assumes nothing.
 use borrow.Author.Needs.{needs}
-use Prim.Native.Nat.{ℕ, _+_, _-_, _*_, _/_, _≤_, _<_}
+use Prim.Native.Nat.{_-_}
 use native.Mathlib.Omega.{arith}
-use denote.Ref.{now}
-use lib.ListN.{length, getD}
-use lib.Dec.{eqb}
-use borrow.Author.Tests.{leb-true, eqb-true, eqb-false, not-true, not-false}
-use mathlib.Core.Path.{_≡_, refl, sym, ap, ap₂, _∙_, subst}
-use mathlib.Core.Bool.{true, false, not}
-use Rattle.line.specs.Passed.{Passed, Stopped, Has, Lacks, startAt, NoStart, Start, lowFirst}
-use Rattle.line.proofs.Passing.{block-more, passed-none, passed-more, passed-one, passed-on, passed-as}
-use Rattle.line.proofs.pass_bytes.Statement.{statement}
-use Rattle.line.proofs.pass_bytes.Tie as tie
-use Rattle.line.proofs.pass_bytes.Reads as reads
-use Rattle.line.proofs.pass_bytes.Lts as lts
+use borrow.Author.Tests.{eqb-true, eqb-false}
+use Rattle.line.specs.Passed.{Passed, Has}
+use Rattle.line.proofs.Passing.{passed-none, passed-one}
+use Rattle.line.proofs.first_mark.Statement.{statement}
+use Rattle.line.proofs.first_mark.Tie as tie
 
 abbrev Inv-loop : tie.InvT-loop
 Inv-loop marks place end i₀ i = Passed (Has marks 0) place i end
@@ -46,8 +39,8 @@ returns-2 : tie.Need-returns-2 Inv-loop μ-loop
 returns-2 c =
     record { passed = c .before .loop .inv; here = λ h. absurd (omega arith) }
 
-pub pass-bytes-spec : {M : Type 1} → statement M
-pass-bytes-spec =
+pub first-mark-spec : {M : Type 1} → statement M
+first-mark-spec =
     tie.close
     (tie.spec
     Inv-loop

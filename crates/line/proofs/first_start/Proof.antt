@@ -1,20 +1,13 @@
--- `line::pass_each` meets its contract. The invariant: no symbol passed is a Start. Assumes nothing.
+-- `line::first_start` meets its contract. The invariant: no symbol passed is a Start. Assumes nothing.
 use borrow.Author.Needs.{needs}
-use Prim.Native.Nat.{ℕ, _+_, _-_, _*_, _/_, _≤_, _<_}
+use Prim.Native.Nat.{_-_}
 use native.Mathlib.Omega.{arith}
-use denote.Ref.{now}
-use lib.ListN.{length, getD}
-use lib.Dec.{eqb}
-use borrow.Author.Tests.{leb-true, eqb-true, eqb-false, not-true, not-false}
-use mathlib.Core.Path.{_≡_, refl, sym, ap, ap₂, _∙_, subst}
-use mathlib.Core.Bool.{true, false, not}
-use Rattle.line.specs.Passed.{Passed, Stopped, Has, Lacks, startAt, NoStart, Start, lowFirst}
-use Rattle.line.proofs.Passing.{block-more, passed-none, passed-more, passed-one, passed-on, passed-as}
-use Rattle.line.proofs.pass_each.Statement.{statement}
-use Rattle.line.proofs.pass_each.Tie as tie
-use Rattle.line.proofs.pass_each.Reads as reads
-use Rattle.line.proofs.pass_each.Lts as lts
-use Rattle.line.proofs.is_start.Reads as is-start-reads
+use borrow.Author.Tests.{not-true, not-false}
+use mathlib.Core.Path.{sym, _∙_}
+use Rattle.line.specs.Passed.{Passed, NoStart}
+use Rattle.line.proofs.Passing.{passed-none, passed-one}
+use Rattle.line.proofs.first_start.Statement.{statement}
+use Rattle.line.proofs.first_start.Tie as tie
 
 abbrev Inv-loop : tie.InvT-loop
 Inv-loop octets marks place end i₀ i = Passed (NoStart octets marks) place i end
@@ -47,8 +40,8 @@ returns-2 : tie.Need-returns-2 Inv-loop μ-loop
 returns-2 c =
     record { passed = c .before .loop .inv; here = λ h. absurd (omega arith) }
 
-pub pass-each-spec : {M : Type 1} → statement M
-pass-each-spec =
+pub first-start-spec : {M : Type 1} → statement M
+first-start-spec =
     tie.close
     (tie.spec
     Inv-loop
