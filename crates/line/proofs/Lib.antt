@@ -1,7 +1,10 @@
 pub mod Buffers
 pub mod Octets
 pub mod Overwrite
+pub mod Passing
+pub mod Places
 pub mod Search
 pub mod Starts
 pub mod Symbols
 pub mod Tables
+pub mod Words
