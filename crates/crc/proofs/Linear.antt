@@ -93,7 +93,7 @@ zeros-add m n r =
     let e : (m + n) * 8 ≡ m * 8 + n * 8 = omega arith in ap (λ (k : ℕ). crcBits k r) e ∙ bits-add (m * 8) (n * 8) r
 
 -- no octets
-none : (r : ℕ) → r ≡ crcZeros 0 r
+pub none : (r : ℕ) → r ≡ crcZeros 0 r
 unfolding crcZeros
 none r = refl
 
