@@ -1,4 +1,4 @@
--- What the fast forms of a search promise one another: which places a search has passed, and a word of octets.
+-- Internal: what the fast forms of a search promise one another: which places a search has passed, and a word of octets.
 use Prim.Native.Nat.{ℕ, zero, suc, _+_, _*_, _≤_, _<_}
 use mathlib.Core.Path.{_≡_}
 use mathlib.Core.Bool.{Bool, true, false}

@@ -1,4 +1,4 @@
--- For a case that antt computes: `unfolding computed` opens every definition of this crate and of those below. It says nothing itself.
+-- Internal: for a case that antt computes, `unfolding computed` opens every definition of this crate and of those below. It says nothing itself.
 use Rattle.receive.specs.Outcomes.{cut, badPreamble, frameOf, outcomes, outcome}
 use Rattle.receive.specs.Reading.{stateAfter, handedPart, readRun, readStart, readFound, readAt, readRefusals, readChecked, reading, partOf}
 use Rattle.receive.specs.Status.{bit, frameBits, status}

@@ -1,0 +1,21 @@
+-- What callers cite of a check, and the last part of a list.
+-- Assumes nothing.
+use mathlib.Core.Path.{_≡_, refl}
+use mathlib.Core.List.{List}
+use Prim.Native.Nat.{ℕ, _-_}
+use native.Mathlib.Omega.{arith}
+use lib.ListN.{length, take, drop, length-drop}
+use lib.Seq.{take-all}
+use Rattle.fcs.specs.Fcs.{fcsOf, fcsOctets, fcs}
+
+-- what `octets(check(s))` gives is the check sequence
+pub fcs-is : (s : List ℕ) → fcsOctets (fcsOf s) ≡ fcs s
+unfolding fcs
+fcs-is s = refl
+
+pub fcs-length : (s : List ℕ) → length (fcs s) ≡ 4
+unfolding fcs
+fcs-length s = refl
+
+pub last-part : (n : ℕ) (s : List ℕ) → take (length s - n) (drop n s) ≡ drop n s
+last-part n s = take-all (length s - n) (drop n s) (simp length-drop (omega arith))

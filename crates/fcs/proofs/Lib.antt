@@ -1,0 +1,3 @@
+mod Vectors
+pub mod Laws
+pub mod Lent

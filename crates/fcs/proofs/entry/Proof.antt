@@ -1,0 +1,30 @@
+-- `fcs::entry` meets its contract, which says what the tables do at one entry.
+-- Assumes nothing.
+use mathlib.Core.Path.{_∙_}
+use Prim.Native.Nat.{_+_, _*_, _%_}
+use native.Mathlib.Omega.{arith}
+use Rattle.fcs.proofs.Lent.{entry-at}
+use borrow.Author.Needs.{needs}
+use Rattle.fcs.proofs.entry.Statement.{statement}
+use Rattle.fcs.proofs.entry.Tie as tie
+
+mul-result : tie.Need-mul-result
+mul-result c = search needs
+
+add-result : tie.Need-add-result
+add-result c = search needs
+
+mul-result-2 : tie.Need-mul-result-2
+mul-result-2 c = search needs
+
+element-copy-out-result : tie.Need-element-copy-out-result
+element-copy-out-result c = search needs
+
+returns : tie.Need-returns
+returns c =
+    let args = c .before .args in
+    c .before .pre .1 (args .k * 256 + args .x % 256) (omega arith) ∙ entry-at (args .k) (args .x)
+
+pub entry-spec : {M : Type 1} → statement M
+entry-spec =
+    tie.close (tie.spec mul-result add-result mul-result-2 element-copy-out-result returns)

@@ -1,0 +1,63 @@
+-- `fcs::tables` meets its contract: every entry below `i` is right.
+-- Assumes nothing.
+use mathlib.Core.Path.{_≡_, refl}
+use Prim.Native.Nat.{ℕ, _-_, _≤_}
+use native.Mathlib.Omega.{arith}
+use lib.ListN.{length, length-set}
+use Rattle.fcs.specs.Lent.{Filled}
+use Rattle.fcs.proofs.Lent.{fill-more}
+use borrow.Author.Needs.{needs}
+use Rattle.fcs.proofs.tables.Statement.{statement}
+use Rattle.fcs.proofs.tables.Tie as tie
+
+abbrev Inv-loop : tie.InvT-loop
+Inv-loop t₀ i₀ t i = (i ≤ 4096) × (length t ≡ 4096) × Filled i t
+
+abbrev μ-loop : tie.MeasureT-loop
+μ-loop t₀ i₀ t i = 4096 - i
+
+loop-holds : tie.Need-loop-holds Inv-loop μ-loop
+loop-holds c = (search needs, refl, λ j h. omega arith)
+
+next-entry-requires : tie.Need-next-entry-requires Inv-loop μ-loop
+next-entry-requires c κs = (omega arith, c .before .before .loop .inv .2)
+
+mul-t : tie.Need-mul-t Inv-loop μ-loop
+mul-t c = search needs
+
+array-write-t : tie.Need-array-write-t Inv-loop μ-loop
+array-write-t c = search needs
+
+add-i : tie.Need-add-i Inv-loop μ-loop
+add-i c = search needs
+
+loop-less : tie.Need-loop-less Inv-loop μ-loop
+loop-less c = search needs
+
+loop-again : tie.Need-loop-again Inv-loop μ-loop
+loop-again c =
+    let at = c .before .before .before .loop in (
+      search needs,
+      simp length-set (omega arith),
+      fill-more (at .t) (at .i) (c .next-entry .result) (omega arith) (c .next-entry .ensures) (at .inv .2),
+    )
+
+returns : tie.Need-returns Inv-loop μ-loop
+returns c =
+    let at = c .before .loop in
+    λ j h. at .inv .2 j (omega arith)
+
+pub tables-spec : {M : Type 1} → statement M
+tables-spec =
+    tie.close
+    (tie.spec
+    Inv-loop
+    μ-loop
+    loop-holds
+    next-entry-requires
+    mul-t
+    array-write-t
+    add-i
+    loop-less
+    loop-again
+    returns)
