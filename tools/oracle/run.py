@@ -183,9 +183,9 @@ def differs(c):
     return f"not (sameOctets ({call(c)})\n    {numbers(c.answer)})"
 
 
-def field_agrees(c, place, n):
+def field_agrees(c, place, n, last):
     taken = f"drop {place} ({call(c)})"
-    taken = taken if place + n == len(c.answer) else f"take {n} ({taken})"
+    taken = taken if last else f"take {n} ({taken})"
     return f"sameOctets ({taken})\n    {numbers(c.answer[place:place + n])}"
 
 
@@ -225,7 +225,7 @@ def report(folder, head, bad, unfolding):
         print(f"    hits: {'; '.join(sorted(c.hits))}\n    the model: {c.answer}")
         if number not in uncomputed and place < EXPLAINED:
             its = list(fields(c))
-            wrong = failing(folder, head, {i: field_agrees(c, at, n) for i, (_, at, n) in enumerate(its)}, unfolding)
+            wrong = failing(folder, head, {i: field_agrees(c, at, n, i == len(its) - 1) for i, (_, at, n) in enumerate(its)}, unfolding)
             print(f"    differ: {', '.join(its[i][0] for i in sorted(wrong))}", flush=True)
 
 
