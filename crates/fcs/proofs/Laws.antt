@@ -13,9 +13,5 @@ pub fcs-is : (s : List ℕ) → fcsOctets (fcsOf s) ≡ fcs s
 unfolding fcs
 fcs-is s = refl
 
-pub fcs-length : (s : List ℕ) → length (fcs s) ≡ 4
-unfolding fcs
-fcs-length s = refl
-
 pub last-part : (n : ℕ) (s : List ℕ) → take (length s - n) (drop n s) ≡ drop n s
 last-part n s = take-all (length s - n) (drop n s) (simp length-drop (omega arith))

@@ -12,35 +12,35 @@ use Rattle.fcs.proofs.update_by.Tie as tie
 sixteens-by-requires : tie.Need-sixteens-by-requires
 sixteens-by-requires c κs = search needs
 
-sub-rest : tie.Need-sub-rest
-sub-rest c = search needs
+sub-rest-by : tie.Need-sub-rest-by
+sub-rest-by c = search needs
 
-sub-rest-2 : tie.Need-sub-rest-2
-sub-rest-2 c = search needs
+sub-rest-by-2 : tie.Need-sub-rest-by-2
+sub-rest-by-2 c = search needs
 
-part-rest-start : tie.Need-part-rest-start
-part-rest-start c = search needs
+part-rest-by-start : tie.Need-part-rest-by-start
+part-rest-by-start c = search needs
 
-part-rest-end : tie.Need-part-rest-end
-part-rest-end c = search needs
+part-rest-by-end : tie.Need-part-rest-by-end
+part-rest-by-end c = search needs
 
-rest-requires : tie.Need-rest-requires
-rest-requires c κs = search needs
+rest-by-requires : tie.Need-rest-by-requires
+rest-by-requires c κs = search needs
 
 returns : tie.Need-returns
 returns c =
     let s = c .before .before .before .before .args .s .now in
     let r = c .before .before .sixteens-by in
-    c .rest .ensures ∙ ap (crcOver (r .result)) (last-part (length s - length s % 16) s) ∙ r .ensures
+    c .rest-by .ensures ∙ ap (crcOver (r .result)) (last-part (length s - length s % 16) s) ∙ r .ensures
 
 pub update-by-spec : {M : Type 1} → statement M
 update-by-spec =
     tie.close
     (tie.spec
     sixteens-by-requires
-    sub-rest
-    sub-rest-2
-    part-rest-start
-    part-rest-end
-    rest-requires
+    sub-rest-by
+    sub-rest-by-2
+    part-rest-by-start
+    part-rest-by-end
+    rest-by-requires
     returns)
