@@ -1,10 +1,10 @@
 -- Laws of specs/Address.antt and of a destination, octet by octet. Assumes nothing.
-use Prim.Native.Nat.{ℕ, zero, suc, _+_, _-_, _≤_, _<_}
+use Prim.Native.Nat.{ℕ, _+_, _≤_, _<_}
 use native.Mathlib.Omega.{arith}
 use native.Mathlib.Numerals.{add-one}
-use mathlib.Core.Path.{_≡_, refl, sym, ap, _∙_}
-use mathlib.Core.Bool.{Bool, true, false, _||_, cond}
-use mathlib.Core.List.{List, [], _∷_, map}
+use mathlib.Core.Path.{_≡_, sym, ap, _∙_}
+use mathlib.Core.Bool.{true, false}
+use mathlib.Core.List.{List, map}
 use lib.ListN.{length, getD, take, drop, length-take, length-map, drop-of-length-le}
 use lib.Seq.{getD-take, ext-getD, length-take-le, take-all, drop-cons}
 use Rattle.line.specs.Octets.{sameOctets}

@@ -1,9 +1,9 @@
 -- The last four octets of a frame as one number, low octet first, and a check. Assumes nothing.
-use Prim.Native.Nat.{ℕ, zero, suc, _+_, _-_, _*_, _/_, _%_, _≤_, _<_}
+use Prim.Native.Nat.{ℕ, _+_, _-_, _*_, _/_, _%_, _≤_, _<_}
 use native.Mathlib.Omega.{arith}
 use native.Mathlib.Nat.{div-div-eq-div-mul, div-add-mod'}
-use mathlib.Core.Path.{_≡_, refl, sym, ap, _∙_}
-use mathlib.Core.Bool.{Bool, true, false, not}
+use mathlib.Core.Path.{_≡_, refl, ap, _∙_}
+use mathlib.Core.Bool.{false, not}
 use mathlib.Core.List.{List, [], _∷_}
 use lib.ListN.{length, getD, take, drop, length-drop}
 use lib.Seq.{getD-drop}
@@ -11,7 +11,7 @@ use lib.Dec.{eqb}
 use borrow.Author.Tests.{eq-eqb, eqb-true}
 use Rattle.line.specs.Octets.{sameOctets}
 use Rattle.line.proofs.Octets.{sameOctets-refl}
-use Rattle.fcs.specs.Fcs.{fcsOf, fcsOctets, fcs}
+use Rattle.fcs.specs.Fcs.{fcsOf, fcsOctets}
 use Rattle.fcs.proofs.Laws.{fcs-is}
 use Rattle.frame.specs.Frame.{covered, lastFour, wrongFcs}
 use Rattle.frame.proofs.Octets.{same-test, sameOctets-eq, sameOctets-not}
@@ -92,6 +92,10 @@ last-short f n h =
     sameOctets-not (drop (length f - 4) f) (fcsOctets n) (λ e. omega (arith, ap length e, length-drop (length f - 4) f))
 
 -- the rule, of a check that was made of what it covers
-pub wrong-by : (f : List ℕ) (n : ℕ) → n ≡ fcsOf (take (length f - 4) f) → wrongFcs f ≡ not (sameOctets (lastFour f) (fcsOctets n))
-unfolding wrongFcs covered
-wrong-by f n e = rw (e, ← fcs-is (take (length f - 4) f))
+pub covered-part : (f : List ℕ) (e : ℕ) → e ≡ length f - 4 → take e f ≡ covered f
+unfolding covered
+covered-part f e h = ap (λ (k : ℕ). take k f) h
+
+pub wrong-by : (f : List ℕ) (n : ℕ) → n ≡ fcsOf (covered f) → not (sameOctets (lastFour f) (fcsOctets n)) ≡ wrongFcs f
+unfolding wrongFcs
+wrong-by f n e = ap (λ (l : List ℕ). not (sameOctets (lastFour f) l)) (ap fcsOctets e ∙ fcs-is (covered f))

@@ -1,16 +1,15 @@
 -- Laws of octet strings that the code's proofs cite: equal or not, and a number of two octets in what is left of a list. Assumes nothing.
-use Prim.Native.Nat.{ℕ, zero, suc, _+_, _-_, _*_, _/_, _%_, _≤_, _<_}
+use Prim.Native.Nat.{ℕ, _+_, _*_, _≤_}
 use native.Mathlib.Omega.{arith}
 use native.Mathlib.Nat.{add-zero}
 use mathlib.Core.Path.{_≡_, refl, sym, ap, ap₂, _∙_}
-use mathlib.Core.Bool.{Bool, true, false, not, _&&_}
+use mathlib.Core.Bool.{Bool, true, false, _&&_}
 use mathlib.Core.List.{List, [], _∷_}
-use lib.ListN.{length, getD, take, drop, length-take, List·getD-eq-default}
-use lib.Seq.{getD-drop, getD-take, ext-getD, length-take-le, take-all}
+use lib.ListN.{length, getD, drop, List·getD-eq-default}
+use lib.Seq.{getD-drop}
 use lib.Dec.{eqb}
-use borrow.Author.Tests.{eq-eqb, eqb-true}
+use borrow.Author.Tests.{eqb-true}
 use Rattle.line.specs.Octets.{sameOctets, highFirstAt}
-use Rattle.line.proofs.Octets.{sameOctets-refl}
 
 -- ---- two tests
 

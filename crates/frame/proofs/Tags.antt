@@ -1,10 +1,10 @@
 -- Laws of specs/Tags.antt and of the data's place. Assumes nothing.
-use Prim.Native.Nat.{ℕ, zero, suc, _+_, _-_, _*_, _≤_, _<_}
+use Prim.Native.Nat.{ℕ, zero, suc, _+_, _-_, _≤_, _<_}
 use native.Mathlib.Omega.{arith}
-use mathlib.Core.Path.{_≡_, refl, sym, ap, _∙_}
+use mathlib.Core.Path.{_≡_}
 use mathlib.Core.Bool.{Bool, true, false}
 use mathlib.Core.List.{List, []}
-use lib.ListN.{length, drop, take}
+use lib.ListN.{length, drop, length-take, length-drop}
 use Rattle.line.specs.Octets.{highFirstAt, between}
 use Rattle.frame.specs.Tags.{isTagKind, mostTags, tagRun, tagCount}
 use Rattle.frame.specs.Frame.{firstField, fieldPlace, dataPlace, frameData}
@@ -36,6 +36,15 @@ tagCount-small f = omega (arith, tagRun-le mostTags (drop 12 f))
 pub fieldPlace-small : (f : List ℕ) → fieldPlace f ≤ 44
 unfolding fieldPlace
 fieldPlace-small f = omega (arith, tagCount-small f)
+
+pub dataPlace-small : (f : List ℕ) → dataPlace f ≤ 46
+unfolding dataPlace
+dataPlace-small f = omega (arith, fieldPlace-small f)
+
+-- how much data there is
+pub frameData-length : (f : List ℕ) → length (frameData f) ≡ length f - 4 - dataPlace f
+unfolding frameData between
+frameData-length f = simp (length-take, length-drop) (omega arith)
 
 -- no data where the FCS would begin before the data's place
 pub frameData-none : (f : List ℕ) → length f - 4 < dataPlace f → frameData f ≡ []

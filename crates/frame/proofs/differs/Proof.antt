@@ -3,7 +3,7 @@ use borrow.Author.Needs.{needs}
 use Rattle.frame.proofs.Fcs.{last-number, last-short}
 use denote.Ref.{now}
 use mathlib.Core.Bool.{not}
-use mathlib.Core.Path.{sym, ap, _∙_}
+use mathlib.Core.Path.{sym, ap}
 use native.Mathlib.Omega.{arith}
 use Rattle.frame.proofs.differs.Statement.{statement}
 use Rattle.frame.proofs.differs.Tie as tie

@@ -3,7 +3,6 @@ use borrow.Author.Needs.{needs}
 use Prim.Native.Nat.{ℕ, _≤_, _<_, _-_}
 use Rattle.frame.proofs.Address.{to-short, to-differs, to-same}
 use borrow.Author.Count.{below-none, below-more}
-use denote.Ref.{now}
 use lib.ListN.{length, getD}
 use mathlib.Core.Path.{_≡_, sym}
 use native.Mathlib.Omega.{arith}
@@ -38,7 +37,9 @@ loop-less : tie.Need-loop-less Inv-loop μ-loop
 loop-less c = omega arith
 
 loop-again : tie.Need-loop-again Inv-loop μ-loop
-loop-again c = let l = c .before .before .before .loop in (omega arith, l .inv .1, below-more _ _ (l .inv .2) (c .if2 .left))
+loop-again c =
+    let l = c .before .before .before .loop in
+    (omega arith, l .inv .1, below-more _ _ (l .inv .2) (c .if2 .left))
 
 returns-3 : tie.Need-returns-3 Inv-loop μ-loop
 returns-3 c = sym (to-same _ _ (omega arith) (c .before .loop .inv .1) (λ i h. c .before .loop .inv .2 i (omega arith)))

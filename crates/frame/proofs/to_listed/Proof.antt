@@ -1,6 +1,6 @@
 -- `frame::to_listed` meets its contract: what is left of the list decides. Assumes nothing.
 use borrow.Author.Needs.{needs}
-use Prim.Native.Nat.{ℕ, _≤_, _<_, _-_}
+use Prim.Native.Nat.{_≤_, _-_}
 use Rattle.frame.proofs.Address.{among-here, among-next, among-end, mapped-length}
 use Rattle.frame.specs.Address.{among}
 use Rattle.frame.specs.Frame.{destination}
@@ -13,13 +13,17 @@ use Rattle.frame.proofs.to_listed.Statement.{statement}
 use Rattle.frame.proofs.to_listed.Tie as tie
 
 abbrev Inv-loop : tie.InvT-loop
-Inv-loop f count listed n k₀ k = (k ≤ n) × (n ≤ 4) × (n ≡ length (take count listed)) × (among (destination f) (drop k (take count listed)) ≡ among (destination f) (take count listed))
+Inv-loop f count listed n k₀ k =
+    (k ≤ n)
+    × (n ≤ 4)
+    × (n ≡ length (take count listed))
+    × (among (destination f) (drop k (take count listed)) ≡ among (destination f) (take count listed))
 
 abbrev μ-loop : tie.MeasureT-loop
 μ-loop f count listed n k₀ k = n - k
 
-listed-count-requires : tie.Need-listed-count-requires Inv-loop μ-loop
-listed-count-requires c κs = search needs
+smaller-requires : tie.Need-smaller-requires Inv-loop μ-loop
+smaller-requires c κs = search needs
 
 loop-holds : tie.Need-loop-holds Inv-loop μ-loop
 loop-holds c =
@@ -73,7 +77,7 @@ to-listed-spec =
     (tie.spec
     Inv-loop
     μ-loop
-    listed-count-requires
+    smaller-requires
     loop-holds
     mul-a
     array-copy-out-a

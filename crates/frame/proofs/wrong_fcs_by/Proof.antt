@@ -1,10 +1,8 @@
 -- `frame::wrong_fcs_by` meets its contract: the check is made of what it covers. Assumes nothing.
 use borrow.Author.Needs.{needs}
-use Prim.Native.Nat.{ℕ}
 use Rattle.fcs.specs.Fcs.{fcsOf}
-use Rattle.frame.proofs.Fcs.{wrong-by}
+use Rattle.frame.proofs.Fcs.{covered-part, wrong-by}
 use denote.Ref.{now}
-use lib.ListN.{take}
 use lib.Seq.{length-take-le}
 use mathlib.Core.Path.{sym, ap, _∙_}
 use native.Mathlib.Omega.{arith}
@@ -27,7 +25,7 @@ returns : tie.Need-returns
 returns c =
     let p = c .before .before .before in
     let f = now (p .before .before .args .f) in
-    c .differs .ensures ∙ sym (wrong-by f (c .before .check-by .result) (c .before .check-by .ensures ∙ ap (λ (k : ℕ). fcsOf (take k f)) (p .fcs-place .ensures)))
+    c .differs .ensures ∙ wrong-by f _ (c .before .check-by .ensures ∙ ap fcsOf (covered-part f _ (p .fcs-place .ensures)))
 
 pub wrong-fcs-by-spec : {M : Type 1} → statement M
 wrong-fcs-by-spec =

@@ -3,12 +3,13 @@ use borrow.Author.Needs.{needs}
 use Rattle.frame.proofs.Length.{length-unchecked, length-checked}
 use borrow.Author.Tests.{not-true, not-false}
 use denote.Ref.{now}
-use lib.ListN.{length}
 use Rattle.frame.proofs.wrong_length.Statement.{statement}
 use Rattle.frame.proofs.wrong_length.Tie as tie
 
 returns : tie.Need-returns
-returns c = let a = c .before .before .args in rw (not-true (a .checking) (c .if1 .taken), length-unchecked (now (a .f)))
+returns c =
+    let a = c .before .before .args in
+    rw (not-true (a .checking) (c .if1 .taken), length-unchecked (now (a .f)))
 
 frame-data-requires : tie.Need-frame-data-requires
 frame-data-requires c κs = search needs
@@ -20,7 +21,11 @@ kept-requires : tie.Need-kept-requires
 kept-requires c κs = search needs
 
 returns-2 : tie.Need-returns-2
-returns-2 c = let a = c .before .before .before .before .before .args in rw (not-false (a .checking) (c .before .before .before .if1 .left), length-checked (now (a .f)), c .kept .ensures, c .before .field .ensures, c .before .before .frame-data .ensures)
+returns-2 c =
+    let p = c .before .before in
+    let a = p .before .before .before .args in
+    rw (not-false (a .checking) (p .before .if1 .left), length-checked (now (a .f)))
+    (rw (c .kept .ensures, c .before .field .ensures, p .frame-data .ensures))
 
 pub wrong-length-spec : {M : Type 1} → statement M
 wrong-length-spec =
