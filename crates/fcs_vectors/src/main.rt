@@ -1,6 +1,6 @@
 // Published values of the CRC-32 of IEEE 802.3, each computed by the static tables and by lent ones. "123456789" is the check value of the
-// catalogue of parametrised CRC algorithms (CRC-32/ISO-HDLC), "IEND" the last four octets of every PNG file (ISO/IEC 15948, whose CRC is
-// this one), and the others are what zlib's crc32 gives.
+// catalogue of parametrised CRC algorithms (CRC-32/ISO-HDLC), that of "IEND" ends every PNG file (ISO/IEC 15948, whose CRC is this
+// one), and the others are what zlib's crc32 gives.
 ghost use Rattle.fcs.specs.Lent.{Tables};
 
 // One line: the octets' name, their check, and whether both ways give the expected one.

@@ -1,4 +1,4 @@
--- Internal: a list changed element by element, the form of a loop that goes over an array by value and stores at each index. Callers cite Timers.
+-- Internal: a list changed element by element, the form of a loop that goes over an array by value and stores at each index. Callers cite TimerLaws.
 -- Assumes nothing.
 use Prim.Native.Nat.{ℕ, suc, _+_, _≤_, _<_}
 use native.Mathlib.Numerals.{add-one}

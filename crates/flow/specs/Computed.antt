@@ -1,4 +1,4 @@
--- For a case that antt computes: `unfolding computed` opens every definition of this crate and of those below. It says nothing itself.
+-- Internal: for a case that antt computes, `unfolding computed` opens every definition of this crate and of those below. It says nothing itself.
 use Rattle.flow.specs.Control.{isControlFrame, opcode, reservedGroup, toReservedGroup, toOwn, filtered, takesPause, takesPfc, dropsControl}
 use Rattle.flow.specs.Timers.{quantaAt, timer, setAll, setNamed, timersAfter, lowered}
 use Rattle.frame.specs.Computed as frame

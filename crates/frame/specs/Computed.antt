@@ -1,4 +1,4 @@
--- For a case that antt computes: `unfolding computed` opens every definition of this crate and of those below. It says nothing itself.
+-- Internal: for a case that antt computes, `unfolding computed` opens every definition of this crate and of those below. It says nothing itself.
 use Rattle.frame.specs.Address.{broadcastAddress, among, accepts}
 use Rattle.frame.specs.Frame.{undersized, oversized, destination, firstField, fieldPlace, field, dataPlace, frameData, covered, lastFour, wrongFcs}
 use Rattle.frame.specs.Length.{kept, wrongLength, clientData, handedLength}

@@ -7,7 +7,7 @@ use station::Refusal;
 use station::Settings;
 use station::State;
 ghost use mathlib.Core.Path.{_≡_};
-ghost use mathlib.Core.Bool.{not, cond, _&&_};
+ghost use mathlib.Core.Bool.{true, not, cond, _&&_};
 ghost use Prim.Native.Nat.{_+_, _≤_};
 ghost use lib.ListN.{length, drop};
 ghost use lib.Dec.{eqb};
@@ -18,6 +18,8 @@ ghost use Rattle.frame.specs.Frame.{destination, frameData};
 ghost use Rattle.receive.specs.Outcomes.{cut, badPreamble, frameOf, outcome};
 ghost use Rattle.receive.specs.Status.{bit, frameBits, status};
 ghost use Rattle.receive.specs.Reading.{readRefusals, stateAfter, handedPart, readRun, reading, partOf};
+ghost use Rattle.station.specs.declared.Checked.the-variants.{Fine};
+ghost use Rattle.receive.specs.Walk.{walked};
 ghost use Rattle.receive.specs.Steps.{earlyOutcomes, lateOutcomes};
 
 // What a reading answers. The state holds arrays, which an enum may not: it stands beside the answer.
@@ -47,7 +49,7 @@ pub enum Walked {
     Ended(usize, bool),
 }
 
-pub struct Walk {
+pub struct WalkEnd {
     pub answer: Walked,
     pub state: State,
 }
@@ -335,4 +337,74 @@ pub fn client_data(octets: &[u8], part: Part) -> &[u8]
     }
     let end = at + n;
     &octets[at..end]
+}
+
+// ---- the walk
+
+// The state after a run ended by the control octet `by`, with tables that are lent or without.
+fn count_run(t: &[u32; 4096], lent: bool, s: Settings, state: State, run: &[u8], by: u8) -> State
+    requires { ⌜ (lent ≡ true → Tables (now t)) ⌝ }
+    ensures { λ r. ⌜ r ≡ stateAfter (outcome s (now (run .entry)) by) (frameOf (now (run .entry))) state ⌝ }
+{
+    let f = frame_of(run);
+    if lent {
+        let o = outcome_by(t, s, run, by);
+        return state_after(o, f, state);
+    }
+    let o = outcome(s, run, by);
+    state_after(o, f, state)
+}
+
+// The walk over a capture that is not refused.
+fn walk_on(
+    t: &[u32; 4096],
+    lent: bool,
+    s: Settings,
+    state: State,
+    octets: &[u8],
+    marks: &[u8],
+) -> WalkEnd
+    requires { ⌜ (lent ≡ true → Tables (now t)) × (first (readRefusals s (now octets) (now marks) 0) ≡ Fine) ⌝ }
+    ensures { λ r. ⌜ r ≡ walked s state (now (octets .entry)) (now (marks .entry)) ⌝ }
+{
+    let mut st = state;
+    let mut n: usize = 0;
+    let mut at: usize = 0;
+    loop {
+        let Found::At(start) = line::find_start(octets, marks, at) else {
+            return WalkEnd {
+                answer: Walked::Ended(n, false),
+                state: st,
+            };
+        };
+        let from = start + 1;
+        let Found::At(end) = line::find_control(octets, marks, from) else {
+            return WalkEnd {
+                answer: Walked::Ended(n, true),
+                state: st,
+            };
+        };
+        st = count_run(t, lent, s, st, &octets[from..end], octets[end]);
+        n += 1;
+        at = end;
+    }
+}
+
+// The whole walk in one call: every Start in its order. In a long capture the tables of the FCS are made once and lent.
+pub fn walk(s: Settings, state: State, octets: &[u8], marks: &[u8]) -> WalkEnd
+    ensures { λ r. ⌜ r ≡ walked s state (now (octets .entry)) (now (marks .entry)) ⌝ }
+{
+    let checked = check_read(s, octets, marks, 0);
+    if let Checked::Refused(x) = checked {
+        return WalkEnd {
+            answer: Walked::Refused(x),
+            state,
+        };
+    }
+    if octets.len() < 8192 {
+        let none = [0u32; 4096];
+        return walk_on(&none, false, s, state, octets, marks);
+    }
+    let t = fcs::tables();
+    walk_on(&t, true, s, state, octets, marks)
 }

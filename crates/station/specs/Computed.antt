@@ -1,4 +1,4 @@
--- For a case that antt computes: `unfolding computed` opens every definition of this crate. It says nothing itself.
+-- Internal: for a case that antt computes, `unfolding computed` opens every definition of this crate. It says nothing itself.
 use Rattle.station.specs.Station.{counter, counted, total, fresh, isGroup, badSettings, badBuffers, badPlace}
 
 unfoldable pub computed : Unit {0}

@@ -1,0 +1,642 @@
+"""Cases for the comparison: a seeded generator over a table of recipes, and what each case hits.
+
+A recipe fixes what is to be hit (a limit, a fault, a pair of faults); everything it leaves open is drawn. What a case hits is worked out from
+the case itself by the model, never from the recipe. `python3 tools/oracle/cases.py N SEED` prints the coverage table alone.
+"""
+import random
+import sys
+from dataclasses import dataclass, replace
+from typing import Any, List
+
+sys.dont_write_bytecode = True  # nothing is written into the repository
+import model
+from model import BROADCAST, CONTROL, ERROR, IDLE, PREAMBLE, RESERVED_GROUP, START, TERMINATE, Client, Settings, State, high_first
+
+KINDS = {"refused": 0, "none": 1, "open": 2, "counted": 3}
+
+# Check values of CRC-32 (IEEE 802.3) as published: of "123456789", and the residue 0xDEBB20E3 (here complemented) of octets followed by their own
+# check, from the catalogue of CRC parameters; the others are the texts that test suites of this check use. They are written out, not computed, so
+# that zlib is tried too.
+PUBLISHED = [
+    (b"123456789", 0xCBF43926),
+    (b"123456789\x26\x39\xf4\xcb", 0x2144DF1C),
+    (b"", 0x00000000),
+    (b"a", 0xE8B7BE43),
+    (b"abc", 0x352441C2),
+    (b"message digest", 0x20159D7F),
+    (b"abcdefghijklmnopqrstuvwxyz", 0x4C2750BD),
+    (b"The quick brown fox jumps over the lazy dog", 0x414FA339),
+    (bytes(32), 0x190A55AD),
+    (b"\xff" * 32, 0xFF6CAB0B),
+    (bytes(range(32)), 0x91267E8A),
+    (b"\x00", 0xD202EF8D),
+    (b"\xff\xff\xff\xff", 0xFFFFFFFF),
+]
+
+
+@dataclass
+class Case:
+    call: str  # reading, walk, client, pause, pfc, idle, fcs
+    settings: Any = None
+    state: Any = None
+    octets: Any = None
+    marks: Any = None
+    place: int = 0
+    asked: Any = None  # a Client; quanta; (named, quanta); a number of Idles; the octets under a check and the published value
+
+    def __post_init__(self):
+        self.answer, self.hits = ANSWERS[self.call](self)
+
+
+# ---- What the model answers, as a list of numbers, and what the case hits. header.txt flattens the definitions' answers in the same way.
+
+
+def state_numbers(state):
+    return state.counters + state.timers
+
+
+def reading_numbers(r):
+    number = r.refusal or r.outcome
+    # document 01 gives no place to an empty part: 0 here, and in header.txt
+    at, length = r.part if r.part[1] else (0, 0)
+    return [KINDS[r.kind], number, r.status, at, length, r.start, r.next] + state_numbers(r.state) + r.data
+
+
+def answer_reading(c):
+    r = model.reading(c.settings, c.state, c.octets, c.marks, c.place)
+    return reading_numbers(r), reading_hits(c, r)
+
+
+def answer_walk(c):
+    rs = model.walk(c.settings, c.state, c.octets, c.marks)
+    last, counted = rs[-1], len(rs) - 1
+    handed = [n for r in rs if r.outcome == 11 for n in [len(r.data)] + r.data]
+    refused = last.kind == "refused"
+    ended = [0, last.refusal, 0, 0] if refused else [1, 0, counted, int(last.kind == "open")]
+    hits = {f"walk: {'refused ' + str(last.refusal) if refused else 'ends ' + last.kind}", f"walk: {min(counted, 3)}{'+' if counted > 2 else ''} Starts counted"}
+    for r in rs[:-1]:
+        hits.add(f"walk: outcome {r.outcome} inside")
+    if any(a.next == b.start for a, b in zip(rs, rs[1:]) if a.kind == b.kind == "counted"):
+        hits.add("walk: a Start that ended the run before it")
+    return ended + state_numbers(last.state) + handed, hits
+
+
+def sending_numbers(a):
+    return [0 if a.refusal else 1, a.refusal, a.place] + state_numbers(a.state) + a.octets + a.marks
+
+
+def refusal_hits(name, tests):
+    numbers = sorted(n for n, holds in tests if holds)
+    hits = {f"{name}: refused {numbers[0]}" if numbers else f"{name}: written"}
+    return hits | {f"{name}: refusal {a} before {b}" for a, b in zip(numbers, numbers[1:])}
+
+
+def common_hits(name, c, needed, tests):
+    numbers = [n for n, holds in tests if holds]
+    hits = refusal_hits(name, tests)
+    room = len(c.octets) - c.place
+    if not numbers or numbers == [8]:
+        hits |= {f"{name}: room {'exact' if room == needed else 'one short' if room == needed - 1 else 'other'}"}
+    if not numbers:
+        if c.place > 0 and room > needed:
+            hits.add(f"{name}: symbols before and after stay")
+        for t in c.state.timers:
+            if needed - 1 <= t <= needed + 1:
+                hits.add(f"{name}: a timer at n{t - needed:+d} slots" if t != needed else f"{name}: a timer at n slots")
+    if min(numbers, default=3) == 3:
+        if c.place >= len(c.octets):
+            hits.add(f"{name}: place {'at' if c.place == len(c.octets) else 'beyond'} the length")
+    if 2 in numbers[:1]:
+        hits.add(f"{name}: {'unequal' if len(c.octets) != len(c.marks) else 'too long'} buffers")
+    if c.settings is not None:
+        hits |= settings_hits(name, c.settings, 1 in numbers)
+    return hits
+
+
+def settings_hits(name, s, refused):
+    if not refused:
+        return {f"{name}: M {s.limit} taken"} if s.limit in (1518, 9618) else set()
+    reasons = {"group bit": s.own[0] & 1, "count 5": s.count > 4, "M 1517": s.limit < 1518, "M 9619": s.limit > 9618}
+    return {f"{name}: {reason} refused" for reason, holds in reasons.items() if holds}
+
+
+def answer_client(c):
+    k = c.asked
+    a = model.client_sending(c.settings, c.state, c.octets, c.marks, c.place, k)
+    tests = model.client_refusals(c.settings, c.state, c.octets, c.marks, c.place, k)
+    hits = common_hits("client", c, len(model.client_symbols(c.settings, k)), tests)
+    form = "length" if k.type is None else "type"
+    numbers = {n for n, holds in tests if holds}
+    if not numbers:
+        hits.add(f"client: {form} form, {'un' if k.tag is None else ''}tagged")
+        if len(k.data) in (0, 45, 46, 47, 1500):
+            hits.add(f"client: data {len(k.data)} written")
+        if k.cls in (0, 7):
+            hits.add(f"client: class {k.cls} written")
+        if any(k.cls != n and t for n, t in enumerate(c.state.timers)):
+            hits.add("client: written while another class is held")
+    if min(numbers, default=7) == 7:
+        over = len(k.data) - (1500 if k.type is None else c.settings.limit - 18)
+        if over in (0, 1):
+            hits.add(f"client: {form} form, data {'at the limit' if over == 0 else 'one over'}")
+    if numbers <= {6} and k.type in (1535, 1536, 0x80FF, 0x8100, 0x8101, 0x8807, 0x8808, 0x8809):
+        hits.add(f"client: type {k.type:#06x} {'refused' if numbers else 'taken'}")
+    return sending_numbers(a), hits
+
+
+def answer_pause(c):
+    a = model.pause_sending(c.settings, c.state, c.octets, c.marks, c.place, c.asked)
+    tests = model.control_refusals(c.settings, c.octets, c.marks, c.place, "pause")
+    return sending_numbers(a), common_hits("pause", c, 84, tests) | {f"pause: flow mode {c.settings.flow}"}
+
+
+def answer_pfc(c):
+    a = model.pfc_sending(c.settings, c.state, c.octets, c.marks, c.place, *c.asked)
+    tests = model.control_refusals(c.settings, c.octets, c.marks, c.place, "PFC")
+    hits = common_hits("pfc", c, 84, tests) | {f"pfc: flow mode {c.settings.flow}"}
+    named, quanta = c.asked
+    if not a.refusal:
+        hits |= {f"pfc: class {'named' if named >> n & 1 else 'not named'} with quanta" for n in range(8) if quanta[n]}
+    return sending_numbers(a), hits
+
+
+def answer_idle(c):
+    a = model.idle_sending(c.state, c.octets, c.marks, c.place, c.asked)
+    hits = common_hits("idle", c, c.asked, model.idle_refusals(c.octets, c.marks, c.place, c.asked))
+    if c.asked == 0:
+        hits.add("idle: none asked")
+    return sending_numbers(a), hits
+
+
+def answer_fcs(c):
+    octets, published = c.asked
+    assert model.check(octets) == published, "zlib and the published value differ"
+    return [published] + list(published.to_bytes(4, "little")), {"fcs: published value"}
+
+
+def reading_hits(c, r):
+    s = c.settings
+    n = r.refusal or r.outcome
+    hits = {"reading: " + {"refused": f"refused {n}", "counted": f"outcome {n}"}.get(r.kind, r.kind)}
+    hits |= settings_hits("reading", s, model.bad_settings(s))
+    if r.kind == "refused":
+        tests = [(1, model.bad_settings(s)), (2, model.bad_buffers(c.octets, c.marks)), (3, c.place > len(c.octets))]
+        hits |= refusal_hits("reading", tests)
+        if n == 2:
+            hits.add(f"reading: {'unequal' if len(c.octets) != len(c.marks) else 'too long'} buffers")
+        return hits
+    if c.place == len(c.octets):
+        hits.add("reading: place at the length")
+    if any(model.is_start(c.octets[i], c.marks[i]) for i in range(c.place)):
+        hits.add("reading: a Start before the place")
+    if any(c.octets[i] == START and c.marks[i] == 0 for i in range(c.place, r.start)):
+        hits.add("reading: data 0xFB before the Start")
+    if r.kind != "counted":
+        return hits
+    by, mark = c.octets[r.next], c.marks[r.next]
+    names = {IDLE: "Idle", START: "Start", TERMINATE: "Terminate", ERROR: "Error", 0x9C: "Sequence"}
+    hits.add(f"reading: ended by {names.get(by, 'another control octet')}")
+    if mark > 1:
+        hits.add("reading: a control mark above 1")
+    run = c.octets[r.start + 1:r.next]
+    rows = model.rules_that_hold(s, run, by)
+    hits |= {f"reading: outcome {a} before {b}" for i, a in enumerate(rows) for b in rows[i + 1:] if b != 11}
+    if START in run[7:]:
+        hits.add("reading: data 0xFB in the run")
+    if n == 2:
+        hits.add(f"reading: run {'under 7' if len(run) < 7 else 'of 7 or more'}, bad preamble")
+    if rows[0] > 2 and len(run) - 7 in (0, 63, 64):
+        hits.add(f"reading: frame of {len(run) - 7}")
+    if n >= 4:
+        f = model.Frame(run[7:])
+        tagged = "tagged" if f.tagged else "untagged"
+        over = len(f.octets) - s.limit
+        if over in (0, 1, 4, 5):
+            hits.add(f"reading: M{over:+d} {tagged}" if over else f"reading: M {tagged}")
+    if n >= 6:
+        if s.checking:
+            if f.field < 1536:
+                side = 0 if f.field == 0 else 1 if f.field < 45 else 100 if 47 < f.field < 1500 else 1510 if 1501 < f.field < 1535 else f.field
+                names = {0: "0", 1: "1 to 44", 100: "48 to 1499", 1510: "1502 to 1534"}
+                hits.add(f"reading: field {names.get(side, side)} {'broken' if n == 6 else 'kept'}, {tagged}")
+            elif f.field == 1536:
+                hits.add("reading: field 1536, a type")
+        elif f.field < 1536:
+            hits.add("reading: length field, checking off")
+    if n >= 7:
+        d = f.destination
+        kind = ("own" if d == s.own else "reserved group" if d == RESERVED_GROUP else "broadcast" if d == BROADCAST
+                else "listed" if d in s.listed[:s.count] else "listed past the count" if d in s.listed else "other")
+        if kind == "broadcast" and BROADCAST in s.listed[:s.count]:
+            hits.add(f"reading: listed broadcast, setting {'on' if s.broadcast else 'off'}{', promiscuous' if s.promiscuous else ''}: {n}")
+        hits.add(f"reading: {'control' if f.control else 'client'} frame to {kind}{', promiscuous' if s.promiscuous else ''}: {n}")
+        if f.tagged and f.field == CONTROL:
+            hits.add("reading: tagged 0x8808, an ordinary type")
+        if f.control and f.opcode in (0x0001, 0x0101) and n > 9:
+            hits.add(f"reading: opcode {f.opcode:#06x} in flow mode {s.flow}: not taken")
+        if n == 9:
+            hits |= {f"reading: PFC class {'named' if f.octets[17] >> k & 1 else 'not named'}" for k in range(8) if f.number(18 + 2 * k)}
+        if n == 8 and f.number(16) in (0, 1, 65535):
+            hits.add(f"reading: pause of {f.number(16)} quanta")
+        if n == 11 and not r.data:
+            hits.add("reading: no data handed out by 11")
+        if c.state.counters[n - 1] == 2**32 - 1:
+            hits.add("reading: a counter rolls over")
+    return hits
+
+
+ANSWERS = {"reading": answer_reading, "walk": answer_walk, "client": answer_client, "pause": answer_pause, "pfc": answer_pfc, "idle": answer_idle,
+           "fcs": answer_fcs}
+
+# ---- Drawing
+
+
+def some(r, n):
+    """n octets; 0xFB and 0xFD are likely among them, since only a mark makes them control."""
+    return [r.choice([START, TERMINATE, IDLE, 0x55]) if r.random() < 0.08 else r.randrange(256) for _ in range(n)]
+
+
+def some_address(r, group=False):
+    return [r.randrange(128) * 2 + group] + some(r, 5)
+
+
+def some_settings(r, **given):
+    own, other = some_address(r), some_address(r)
+    listed = [some_address(r, True), other, BROADCAST, some_address(r)]
+    r.shuffle(listed)
+    s = Settings(own, listed, r.choice([0, 1, 2, 3, 4, 4]), r.random() < 0.5, r.random() < 0.15, r.random() < 0.8, r.choice([1518, 1518, 1519, 9618]),
+                 r.choice(["none", "pause", "PFC"]), r.random() < 0.4)
+    if given.pop("group_bit", False):
+        given["own"] = [own[0] | 1] + own[1:]
+    return replace(s, **given)
+
+
+def some_state(r, free=None):
+    counters = [r.choice([0, 2**32 - 1, r.randrange(2**32)]) for _ in range(11)]
+    timers = [r.choice([0, 1, 83, 84, 85, 64, 4194240, r.randrange(5000)]) for _ in range(8)]
+    if free is not None and free < 8:
+        timers[free] = 0
+    return State(counters, timers)
+
+
+def address_of(r, s, to):
+    return {"own": s.own, "reserved": RESERVED_GROUP, "broadcast": BROADCAST, "listed": s.listed[r.randrange(max(1, s.count)) % 4],
+            "past": s.listed[min(s.count, 3)], "near": s.own[:5] + [s.own[5] ^ 1], "group": some_address(r, True), "other": some_address(r)}[to]
+
+
+def frame(r, s, to=None, tag=None, field=None, data=None, control=None, quanta=None, named=None, size=None, fcs=True):
+    """A frame from destination to FCS. `size` cuts or stretches it before its FCS is made; `fcs=False` spoils that."""
+    d = address_of(r, s, to or r.choice(["own", "own", "listed", "reserved", "broadcast", "other", "group", "near", "past"]))
+    if control is not None:
+        eight = [o for _ in range(8) for o in high_first(r.choice([0, 1, 65535, r.randrange(65536)]))]
+        pause = high_first(r.randrange(65536) if quanta is None else quanta) + some(r, 42)
+        pfc = [r.randrange(256), r.randrange(256) if named is None else named] + eight + some(r, 26)
+        body = high_first(CONTROL) + high_first(control) + (pfc if control == 0x0101 else pause)
+    else:
+        if field is None:
+            field = r.choice([0, 1, 30, 45, 46, 47, 60, 0x0800, 0x86DD, 0x0600])
+        if data is None:
+            data = field if 46 <= field <= 1500 else 46
+        body = high_first(field) + some(r, data)
+    octets = d + some_address(r) + ([] if tag is None else [0x81, 0x00] + high_first(tag)) + body
+    if size is not None:
+        octets = (octets + some(r, size))[:max(0, size - 4)]
+    check = model.fcs(octets)
+    if not fcs:
+        check[r.randrange(4)] ^= 1 << r.randrange(8)
+    return (octets + check)[:size] if size is not None else octets + check
+
+
+def on_line(r, octets, preamble="right", ending=TERMINATE, strict=False):
+    """Start, preamble, frame and ending symbol, as octets and marks. An `ending` of None leaves the run open."""
+    before = {"right": PREAMBLE, "wrong": None, "short": PREAMBLE[:r.randrange(7)], "late": PREAMBLE[:6] + [0x55]}[preamble]
+    if before is None:
+        before = list(PREAMBLE)
+        before[r.randrange(7)] ^= 1 << r.randrange(8)
+    run = before + ([] if preamble == "short" else octets)
+    mark = lambda: 1 if strict else r.choice([1, 1, 1, 2, 255])
+    tail = [] if ending is None else [ending]
+    return [START] + run + tail, [mark()] + [0] * len(run) + [mark() for _ in tail]
+
+
+def noise(r, n):
+    """Symbols among which no Start is: also data that looks like one."""
+    octets = [r.choice([IDLE, IDLE, START, TERMINATE, ERROR, 0x55]) for _ in range(n)]
+    return octets, [0 if o == START else r.choice([0, 1, 1, 7]) for o in octets]
+
+
+def make_reading(r, given):
+    """One capture with one Start worth reading, noise around it, and a place."""
+    given = dict(given)
+    s = some_settings(r, **given.pop("settings", {}))
+    state = some_state(r)
+    line = {k: given.pop(k) for k in ("preamble", "ending", "strict") if k in given}
+    lead = given.pop("lead", r.choice([0, 0, 1, 3]))
+    shape, place, unequal = given.pop("shape", "one"), given.pop("place", None), given.pop("unequal", 0)
+    tag = given.pop("tag", None if r.random() < 0.8 else r.randrange(65536))
+    if tag == "any":
+        tag = r.randrange(65536)
+    octets, marks = noise(r, lead)
+    if shape == "after":  # a Start before the place
+        octets, marks = octets + [START], marks + [1]
+        place = len(octets)
+    if shape == "long":  # buffers of 65,537 Idles, or of 65,536
+        octets, marks = [IDLE] * given["n"], [1] * given["n"]
+    elif shape != "none":
+        o, m = on_line(r, frame(r, s, tag=tag, **given), **line)
+        octets, marks = octets + o, marks + m
+    if line.get("ending", 0) is not None and shape != "long":
+        o, m = noise(r, r.choice([0, 1, 2]))
+        octets, marks = octets + o, marks + m
+    if place is None:
+        place = r.randrange(lead + 1)
+    elif place == "end":
+        place = len(octets)
+    elif place == "beyond":
+        place = len(octets) + r.choice([1, 1, 500])
+    if unequal:
+        octets, marks = (octets[:-1], marks) if unequal < 0 else (octets, marks[:-1])
+        if given.get("short", False):
+            octets, marks = octets[:2], marks[:1]
+    return Case("reading", s, state, octets, marks, place)
+
+
+def make_walk(r, given):
+    """A capture of several short stretches, at most one or two of them whole frames."""
+    s = some_settings(r, **given.get("settings", {}))
+    octets, marks = noise(r, r.randrange(3))
+    for part in given["parts"]:
+        if part == "frame":
+            o, m = on_line(r, frame(r, s, to=r.choice(["own", "own", "listed", "reserved"]), field=r.choice([0, 20, 46, 0x0800])))
+        elif part == "pause":
+            o, m = on_line(r, frame(r, s, to="reserved", control=r.choice([1, 0x0101]), quanta=r.choice([0, 1, 65535])))
+        elif part == "wrong":
+            o, m = on_line(r, frame(r, s, fcs=r.random() < 0.5, field=r.choice([45, 47, 1501]), data=r.choice([46, 47])))
+        elif part == "small":
+            o, m = on_line(r, frame(r, s, size=r.choice([0, 1, 63])))
+        elif part == "preamble":
+            o, m = on_line(r, [], preamble=r.choice(["short", "late"]))
+        elif part == "cut":
+            o, m = on_line(r, some(r, r.randrange(9)), ending=r.choice([IDLE, ERROR, 0x9C]))
+        elif part == "start":  # its run is ended by whatever control symbol follows, perhaps a Start
+            o, m = on_line(r, [], preamble="short", ending=None)
+        elif part == "open":
+            o, m = on_line(r, some(r, r.randrange(9)), ending=None)
+        else:
+            o, m = noise(r, 2)
+        octets, marks = octets + o, marks + m
+    if given.get("unequal"):
+        marks = marks[:-1]
+    return Case("walk", s, some_state(r) if r.random() < 0.6 else State(), octets, marks)
+
+
+def buffers(r, n):
+    """n symbols that a sender must leave where it does not write; of very many all alike, which antt reads faster."""
+    if n > 60000:
+        return [r.randrange(256)] * n, [r.choice([0, 1, 2])] * n
+    octets = [r.randrange(256) for _ in range(8)]
+    marks = [r.choice([0, 1, 2]) for _ in range(8)]
+    return (octets * (n // 8 + 1))[:n], (marks * (n // 8 + 1))[:n]
+
+
+def room_for(r, needed, given):
+    """Buffers with room for `needed` symbols from the place, or one fewer, or more."""
+    place = r.choice([0, 1, 5]) if given.get("place") is None else given["place"]
+    spare = {"exact": 0, "short": -1, "none": -needed, "more": r.choice([1, 3, 9])}[given.get("room") or r.choice(["exact", "more", "more"])]
+    n = max(0, place + needed + spare)
+    octets, marks = buffers(r, given.get("n", n))
+    if given.get("unequal"):
+        marks = marks[:-1] if marks else [0]
+    if given.get("beyond"):
+        place = len(octets) + r.choice([1, 1, 70000])
+    return octets, marks, place
+
+
+def state_for(r, given, needed, cls=None):
+    state = some_state(r, None if given.get("held") else cls)
+    timers = list(state.timers)
+    k = r.randrange(8)
+    if k != cls:
+        timers[k] = max(0, needed + r.choice([-1, 0, 1]))
+    if given.get("held") and cls is not None and cls < 8:
+        timers[cls] = r.choice([1, 84, 4194240])
+    return replace(state, timers=timers)
+
+
+def make_client(r, given):
+    s = some_settings(r, **given.get("settings", {}))
+    form = given.get("type", r.choice([None, None, 0x0800, 0x86DD, 0xFFFF]))
+    n = given.get("data", r.choice([0, 1, 12, 45, 46, 47, 60]))
+    n = n(s) if callable(n) else n
+    data = some(r, n) if n < 200 else [r.randrange(256)] * n
+    cls = given.get("cls", r.randrange(8))
+    tag = given["tag"] if "tag" in given else None if r.random() < 0.5 else r.randrange(65536)
+    c = Client(address_of(r, s, given.get("to", r.choice(["own", "other", "broadcast", "group"]))), tag, form, cls, data)
+    needed = len(model.client_symbols(s, c))
+    octets, marks, place = room_for(r, needed, given)
+    return Case("client", s, state_for(r, given, needed, cls), octets, marks, place, c)
+
+
+def make_pause(r, given):
+    s = some_settings(r, **{"flow": "pause", **given.get("settings", {})})
+    octets, marks, place = room_for(r, 84, given)
+    return Case("pause", s, state_for(r, given, 84), octets, marks, place, given.get("quanta", r.randrange(65536)))
+
+
+def make_pfc(r, given):
+    s = some_settings(r, **{"flow": "PFC", **given.get("settings", {})})
+    octets, marks, place = room_for(r, 84, given)
+    quanta = [r.choice([0, 1, 255, 256, 65535, r.randrange(65536)]) for _ in range(8)]
+    return Case("pfc", s, state_for(r, given, 84), octets, marks, place, (given.get("named", r.randrange(256)), quanta))
+
+
+def make_idle(r, given):
+    n = given.get("asked", r.choice([0, 1, 7, 64]))
+    octets, marks, place = room_for(r, n, given)
+    return Case("idle", None, state_for(r, given, n), octets, marks, place, n)
+
+
+# ---- The recipes
+
+BAD_SETTINGS = [{"group_bit": True}, {"count": 5}, {"count": 255}, {"limit": 1517}, {"limit": 9619}, {"limit": 0}, {"limit": 65535}]
+ON, OFF = {"checking": True}, {"checking": False}
+
+
+def to_own(**settings):
+    return {"promiscuous": False, "checking": True, **settings}
+
+
+FAULTS = {1: {"ending": ERROR}, 2: {"preamble": "wrong"}, 3: {"size": 63}, 4: {"size": 1519, "settings": {"limit": 1518, "checking": True}},
+          5: {"fcs": False}, 6: {"field": 45, "data": 47, "settings": {"checking": True}}, 7: {"to": "near", "settings": {"promiscuous": False}},
+          8: {"to": "reserved", "control": 1, "settings": {"flow": "pause"}}, 9: {"to": "reserved", "control": 0x0101, "settings": {"flow": "PFC"}},
+          10: {"to": "own", "control": 2, "settings": {"pass_control": False}}}
+
+
+def both(a, b):
+    """A recipe with two faults at once: the first rule must win."""
+    return {**FAULTS[b], **FAULTS[a], "tag": None, "settings": {**FAULTS[b].get("settings", {}), **FAULTS[a].get("settings", {})}}
+
+
+PAIRS = [both(a, b) for a in range(1, 8) for b in range(a + 1, 11)
+         if (a, b) not in [(3, 4), (4, 8), (4, 9), (4, 10), (6, 8), (6, 9), (6, 10), (7, 8), (7, 9), (7, 10)]]
+PAIRS += [{**FAULTS[8], "settings": {"flow": "pause", "pass_control": False}}, {**FAULTS[9], "settings": {"flow": "PFC", "pass_control": False}}]
+PAIRS += [{"to": "near", "control": 2, "tag": None, "settings": {"promiscuous": False, "pass_control": False}}]
+
+READINGS = (
+    [{"settings": x} for x in BAD_SETTINGS]
+    + [{"unequal": 1}, {"unequal": -1}, {"place": "beyond"}, {"place": "end"}, {"shape": "none", "lead": 3}, {"shape": "none", "lead": 0, "place": 0}]
+    + [{"unequal": 1, "settings": BAD_SETTINGS[0]}, {"unequal": 1, "place": "beyond"}, {"place": "beyond", "settings": BAD_SETTINGS[3]}]
+    + [{"ending": None}, {"ending": None, "size": 20}, {"shape": "after"}, {"shape": "after", "to": "own", "settings": to_own()}]
+    + [{"ending": x} for x in (IDLE, START, ERROR, 0x9C, 0x00, 0x55)]
+    + [{"preamble": x} for x in ("short", "wrong", "wrong", "late")]
+    + [{"size": n, "to": "own", "settings": to_own()} for n in (0, 1, 3, 13, 17, 63, 64, 65)]
+    + [{"size": 63, "fcs": False}]
+    + PAIRS
+    # the length rule, both sides of each limit, untagged and tagged
+    + [{"to": "own", "tag": t, "field": f, "data": d, "settings": to_own()} for t in (None, "any") for f, d in
+       [(0, 46), (1, 46), (44, 46), (45, 46), (45, 47), (46, 46), (46, 47), (47, 47), (47, 46), (60, 60), (60, 61), (60, 59), (0, 47), (1535, 46),
+        (1501, 46), (1520, 50), (1536, 46)]]
+    + [{"to": "own", "tag": "any", "field": f, "data": d, "settings": to_own()} for f, d in [(42, 42), (45, 45), (46, 45)]]
+    + [{"to": "own", "field": f, "data": d, "settings": to_own(**OFF)} for f, d in [(0, 46), (45, 47), (60, 61), (1520, 46), (0, 60)]]
+    # the address rule
+    + [{"to": x, "control": c, "settings": {"promiscuous": p, "checking": True}} for x in ("own", "listed", "past", "near", "other", "group", "reserved")
+       for c in (None, 2) for p in (False,)]
+    + [{"to": x, "control": c, "settings": {"promiscuous": True, "pass_control": True}} for x in ("other", "broadcast", "reserved") for c in (None, 2)]
+    + [{"to": "broadcast", "settings": to_own(broadcast=b, count=4)} for b in (False, True)]
+    + [{"to": "broadcast", "control": 2, "tag": None, "settings": to_own(broadcast=b, count=4, pass_control=p)} for b, p in [(False, True), (True, True), (True, False)]]
+    # control frames
+    + [{"to": x, "control": c, "tag": t, "settings": {"flow": m, "promiscuous": False}} for x in ("reserved", "own") for c in (1, 0x0101)
+       for m in ("none", "pause", "PFC") for t in (None,)]
+    + [{"to": "reserved", "control": 1, "tag": None, "quanta": q, "settings": {"flow": "pause"}} for q in (0, 1, 65535)]
+    + [{"to": "reserved", "control": 0x0101, "tag": None, "named": k, "settings": {"flow": "PFC"}} for k in (0, 1, 128, 255, 0x5A)]
+    + [{"to": "own", "control": c, "tag": "any", "settings": to_own(flow="pause")} for c in (1, 0x0101)]
+    + [{"to": "listed", "control": 1, "tag": None, "settings": to_own(flow="pause", count=4, pass_control=p)} for p in (False, True)]
+    + [{"to": "group", "control": 0x0101, "tag": None, "settings": to_own(flow="PFC", pass_control=True)}]
+    + [{}] * 12
+)
+# few of these: a thousand octets and more, whose check antt computes in seconds
+LARGE_READINGS = [
+    {"to": "own", "tag": None, "field": 0x0800, "size": 1518, "settings": to_own(limit=1518)},
+    {"to": "own", "tag": "any", "field": 0x0800, "size": 1522, "settings": to_own(limit=1518)},
+    {"to": "own", "tag": None, "field": 0x0800, "size": 1519, "settings": to_own(limit=1518)},
+    {"to": "own", "tag": "any", "field": 0x0800, "size": 1523, "settings": to_own(limit=1518)},
+    {"to": "own", "tag": None, "field": 0x0800, "size": 1522, "settings": to_own(limit=1518)},
+    {"to": "own", "tag": None, "field": 1500, "data": 1500, "settings": to_own(limit=9618)},
+    {"to": "own", "tag": None, "field": 1500, "data": 1501, "settings": to_own(limit=9618)},
+    {"to": "own", "tag": None, "field": 1501, "data": 1501, "settings": to_own(limit=9618)},
+    {"shape": "long", "n": 65537, "place": 65530},
+    {"shape": "long", "n": 65536, "place": 65530},
+]
+WALKS = [{"parts": p} for p in (
+    [], ["noise"], ["frame"], ["frame", "frame"], ["start", "start", "cut"], ["start", "frame"], ["cut", "start", "frame", "open"], ["open"],
+    ["preamble", "open"], ["small", "noise", "small", "preamble"], ["pause", "frame"], ["pause", "pause"], ["wrong", "cut"], ["wrong", "open"],
+    ["frame", "start"], ["start", "pause", "start", "preamble"], ["frame", "noise", "wrong"], ["cut"] * 5)]
+WALKS += [{"parts": ["frame"], "settings": {"count": 5}}, {"parts": ["cut"], "unequal": True}, {"parts": ["cut"], "unequal": True, "settings": {"limit": 1517}}]
+
+COMMON = [{"room": x} for x in ("exact", "short", "none")] + [{"unequal": True}, {"beyond": True}, {"unequal": True, "beyond": True},
+          {"unequal": True, "room": "short"}]
+CONTROLS = COMMON + [{"settings": x} for x in BAD_SETTINGS] + [{"room": "short", "place": 0}, {"room": "more", "place": 5}]
+CONTROLS += [{"settings": BAD_SETTINGS[0], "unequal": True}, {"settings": BAD_SETTINGS[1], "beyond": True}, {"n": 0, "place": 0}]
+M_18 = {"limit": 1518}
+CLIENTS = (
+    CONTROLS + [{"settings": {"limit": x}} for x in (1518, 9618)] + [{"place": 5, "room": "more"}]
+    + [{"data": n, "tag": t} for n in (0, 45, 46, 47) for t in (None, 7, 0xFFFF)]
+    + [{"data": n, "type": 0x0800, "tag": t} for n in (0, 46, 47) for t in (None, 7)]
+    + [{"type": t} for t in (0, 1535, 1536, 0x8100, 0x8808, 0x80FF, 0x8101, 0x8807, 0x8809, 0xFFFF)]
+    + [{"cls": k} for k in (0, 7, 8, 255)] + [{"held": True}, {"held": True, "cls": 0}, {"held": True, "cls": 7}]
+    # two refusals at once
+    + [{"settings": BAD_SETTINGS[0], "cls": 8}, {"beyond": True, "cls": 8}, {"unequal": True, "held": True}, {"beyond": True, "held": True}]
+    + [{"cls": 8, "type": 5}, {"cls": 9, "room": "short"}, {"type": 0x8100, "room": "short"}, {"type": 0x8100, "held": True}, {"room": "short", "held": True}]
+    + [{"cls": 8, "data": 1501, "type": None, "place": 0}, {"beyond": True, "type": 5}]
+    + [{}] * 6
+)
+# the data may be long while no check is computed: refused for its length or for room
+LARGE_CLIENTS = [
+    {"data": 1500, "type": None, "room": "exact", "tag": None}, {"data": 1501, "type": None, "n": 3, "place": 0, "settings": {"limit": 9618}},
+    {"data": 1500, "type": 0x0800, "settings": M_18, "tag": 5}, {"data": 1501, "type": 0x0800, "n": 3, "place": 0, "settings": M_18},
+    {"data": 1501, "type": 1535, "n": 3, "place": 0, "settings": M_18}, {"data": 1501, "type": 0x0800, "n": 3, "place": 0, "held": True, "settings": M_18},
+    {"data": 9601, "type": 0x0800, "n": 3, "place": 0, "settings": {"limit": 9618}}, {"data": 1501, "type": None, "room": "exact", "settings": M_18},
+]
+FLOWS = [{"settings": {"flow": m}} for m in ("none", "pause", "PFC")]
+FLOWS += [{"settings": {"flow": "none"}, "room": "short"}, {"settings": {"flow": "none"}, "beyond": True}]
+IDLES = COMMON + [{"asked": n, "room": x} for n in (0, 1, 2, 84) for x in ("exact", "more", "short")] + [{"asked": 0, "room": "exact", "place": 0}, {"beyond": True, "asked": 0}]
+LARGE_IDLES = [{"n": 65537, "place": 65530, "asked": 7}, {"n": 65536, "place": 65530, "asked": 6}, {"n": 65536, "place": 65530, "asked": 7}]
+
+READING_RECIPES = [(make_reading, x) for x in READINGS] + [(make_walk, x) for x in WALKS]
+SENDING_RECIPES = (
+    [(make_client, x) for x in CLIENTS] + [(make_pause, x) for x in CONTROLS + FLOWS + [{"quanta": q} for q in (0, 255, 256, 65535)]]
+    + [(make_pfc, x) for x in CONTROLS + FLOWS + [{"named": k} for k in (0, 1, 128, 255)]] + [(make_idle, x) for x in IDLES])
+LARGE = [(make_reading, x) for x in LARGE_READINGS] + [(make_client, x) for x in LARGE_CLIENTS] + [(make_idle, x) for x in LARGE_IDLES]
+
+
+def drawn(r, recipes, n):
+    """n recipes: each once before any twice."""
+    out = []
+    while len(out) < n:
+        round_ = list(recipes)
+        r.shuffle(round_)
+        out += round_
+    return out[:n]
+
+
+def generate(n, seed) -> List[Case]:
+    """n drawn cases, three readings or walks to two sendings, one in twenty large; and the published values of the check."""
+    r = random.Random(seed)
+    large = min(n // 20, len(LARGE))
+    readings = (n - large) * 3 // 5
+    chosen = drawn(r, READING_RECIPES, readings) + drawn(r, SENDING_RECIPES, n - large - readings) + drawn(r, LARGE, large)
+    cases = [make(r, given) for make, given in chosen]
+    return cases + [Case("fcs", asked=(list(text), value)) for text, value in PUBLISHED]
+
+
+# ---- Coverage: what must be hit (every outcome, every refusal of every call, both sides of each limit), and what else was
+
+MUST = (
+    ["reading: none", "reading: open"] + [f"reading: outcome {n}" for n in range(1, 12)] + [f"reading: refused {n}" for n in (1, 2, 3)]
+    + ["walk: ends none", "walk: ends open", "walk: refused 1", "walk: refused 2", "walk: a Start that ended the run before it"]
+    + [f"client: refused {n}" for n in (1, 2, 3, 5, 6, 7, 8, 9)] + [f"{c}: refused {n}" for c in ("pause", "pfc") for n in (1, 2, 3, 4, 8)]
+    + [f"idle: refused {n}" for n in (2, 3, 8)] + [f"{c}: written" for c in ("client", "pause", "pfc", "idle")]
+    + [f"{c}: {x} refused" for c in ("reading", "client", "pause", "pfc") for x in ("group bit", "count 5", "M 1517", "M 9619")]
+    + [f"{c}: M {x} taken" for c in ("reading", "client") for x in (1518, 9618)]
+    + [f"{c}: room {x}" for c in ("client", "pause", "pfc", "idle") for x in ("exact", "one short")]
+    + [f"{c}: place beyond the length" for c in ("client", "pause", "pfc", "idle")] + ["reading: place at the length", "idle: place at the length"]
+    + ["reading: unequal buffers", "reading: too long buffers", "idle: too long buffers"]
+    + [f"reading: frame of {n}" for n in (63, 64)] + ["reading: M untagged", "reading: M+1 untagged", "reading: M+4 tagged", "reading: M+5 tagged"]
+    + ["reading: M+4 untagged"]
+    + [f"reading: field {x}, {t}" for t in ("untagged", "tagged") for x in ("0 kept", "45 kept", "45 broken", "46 kept", "46 broken", "47 kept", "47 broken",
+       "1501 broken", "1535 broken")] + ["reading: field 1500 kept, untagged", "reading: field 1500 broken, untagged", "reading: field 1536, a type"]
+    + ["reading: length field, checking off", "reading: tagged 0x8808, an ordinary type", "reading: data 0xFB in the run", "reading: a counter rolls over"]
+    + ["reading: PFC class named", "reading: PFC class not named"] + [f"reading: pause of {n} quanta" for n in (0, 1, 65535)]
+    + [f"reading: ended by {x}" for x in ("Idle", "Start", "Error", "Sequence", "another control octet")]
+    + [f"reading: outcome {a} before {b}" for a, b in [(1, 2), (2, 3), (3, 5), (4, 5), (5, 6), (6, 7), (7, 10), (8, 10), (9, 10)]]
+    + ["reading: listed broadcast, setting on: 11", "reading: listed broadcast, setting off: 7", "reading: client frame to listed: 11",
+       "reading: client frame to listed past the count: 7", "reading: control frame to own: 8", "reading: control frame to reserved group: 8"]
+    + [f"client: {f} form, {t}" for f in ("length", "type") for t in ("tagged", "untagged")] + [f"client: data {n} written" for n in (0, 45, 46, 47, 1500)]
+    + [f"client: {f} form, data {x}" for f in ("length", "type") for x in ("at the limit", "one over")]
+    + ["client: type 0x05ff refused", "client: type 0x0600 taken", "client: type 0x8100 refused", "client: type 0x8808 refused"]
+    + [f"client: a timer at n{x} slots" for x in ("-1", "", "+1")] + ["client: written while another class is held", "pfc: class not named with quanta"]
+    + [f"client: refusal {a} before {b}" for a, b in [(1, 2), (2, 3), (3, 5), (5, 6), (6, 7), (7, 8), (8, 9)]]
+    + [f"{c}: refusal {a} before {b}" for c in ("pause", "pfc") for a, b in [(1, 2), (2, 3), (3, 4), (4, 8)]] + ["idle: refusal 2 before 3", "fcs: published value"]
+)
+
+
+def coverage(cases) -> str:
+    """The table, one call to a paragraph: how many cases hit each thing, and what was not hit."""
+    counts = {}
+    for c in cases:
+        for hit in c.hits:
+            counts[hit] = counts.get(hit, 0) + 1
+    lines = []
+    for call in ("reading", "walk", "client", "pause", "pfc", "idle", "fcs"):
+        mine = {k.split(": ", 1)[1]: v for k, v in counts.items() if k.startswith(call + ": ")}
+        lines.append(f"{call} ({sum(c.call == call for c in cases)} cases)")
+        key = lambda k: [int(w) if w.isdigit() else w for w in k.split()]
+        cells = [f"{k} ×{mine[k]}" for k in sorted(mine, key=lambda k: [(0, x, "") if isinstance(x, int) else (1, 0, x) for x in key(k)])]
+        lines += ["    " + " · ".join(cells[i:i + 5]) for i in range(0, len(cells), 5)]
+    missed = [m for m in MUST if m not in counts]
+    lines.append(f"to be hit: {len(MUST)}; hit: {len(MUST) - len(missed)}" + "".join(f"\n    not hit: {m}" for m in missed))
+    return "\n".join(lines)
+
+
+if __name__ == "__main__":
+    print(coverage(generate(int(sys.argv[1]), int(sys.argv[2]))))

@@ -1,0 +1,400 @@
+"""An independent model of document 01, written from its text alone and not from the definitions in crates/*/specs.
+
+Each piece stands under the sentence of the document that it renders. The check is zlib's crc32, not a loop of our own.
+"""
+import zlib
+from dataclasses import dataclass, field, replace
+from typing import List, Optional, Tuple
+
+# ---- The line
+
+# "Control octets: Idle 0x07, Start 0xFB, Terminate 0xFD, Error 0xFE."
+IDLE, START, TERMINATE, ERROR = 0x07, 0xFB, 0xFD, 0xFE
+# "Start; six data octets 0x55; data 0xD5"
+PREAMBLE = [0x55] * 6 + [0xD5]
+# "broadcast (all ones)"; "The reserved group is 01-80-C2-00-00-01."
+BROADCAST = [0xFF] * 6
+RESERVED_GROUP = [0x01, 0x80, 0xC2, 0x00, 0x00, 0x01]
+TAGGED, CONTROL = 0x8100, 0x8808
+
+
+def is_data(mark: int) -> bool:
+    """"Mark 0 is data; any other mark is control." """
+    return mark == 0
+
+
+def is_start(octet: int, mark: int) -> bool:
+    """"only a control symbol starts a frame" """
+    return not is_data(mark) and octet == START
+
+
+# ---- Settings and state
+
+
+@dataclass(frozen=True)
+class Settings:
+    own: List[int]
+    listed: List[List[int]]
+    count: int
+    broadcast: bool
+    promiscuous: bool
+    checking: bool
+    limit: int
+    flow: str  # "Flow mode is none, `pause` or `PFC`."
+    pass_control: bool
+
+
+@dataclass(frozen=True)
+class State:
+    """"The state is these eleven counters and the eight timers below; a fresh state is all zeros." """
+    counters: List[int] = field(default_factory=lambda: [0] * 11)
+    timers: List[int] = field(default_factory=lambda: [0] * 8)
+
+
+def counted(state: State, outcome: int) -> State:
+    """"Each outcome has a 32-bit counter that rolls over to zero" """
+    counters = list(state.counters)
+    counters[outcome - 1] = (counters[outcome - 1] + 1) % 2**32
+    return replace(state, counters=counters)
+
+
+# ---- Refusals
+
+
+def bad_settings(s: Settings) -> bool:
+    """1: "own address has its group bit (lowest bit of the first octet), listed count above 4, or M outside 1518 to 9618" """
+    return s.own[0] & 1 == 1 or s.count > 4 or not 1518 <= s.limit <= 9618
+
+
+def bad_buffers(octets: List[int], marks: List[int]) -> bool:
+    """2: "octet and mark buffers differ in length, or exceed 65,536" """
+    return len(octets) != len(marks) or len(octets) > 65536
+
+
+def lowest(*tests: Tuple[int, bool]) -> Optional[int]:
+    """"Lowest number first." """
+    return min((number for number, holds in tests if holds), default=None)
+
+
+# ---- FCS
+
+
+def check(octets: List[int]) -> int:
+    """"IEEE 802.3 clause 3 … result complemented" """
+    return zlib.crc32(bytes(octets))
+
+
+def fcs(octets: List[int]) -> List[int]:
+    """"the four FCS octets are its complement, low octet first" """
+    return list(check(octets).to_bytes(4, "little"))
+
+
+# ---- One frame, from destination to FCS
+
+
+class Frame:
+    """"Destination 6, source 6, field 2. Field 0x8100 means tagged: two octets of tag control, then the real field." """
+
+    def __init__(self, octets: List[int]):
+        self.octets = octets
+        self.destination = octets[0:6]
+        self.first_field = self.number(12)
+        self.tagged = self.first_field == TAGGED
+        self.field_place = 16 if self.tagged else 12
+        self.field = self.number(self.field_place)
+        # "Data runs from after the field to before the FCS."
+        self.data_place = self.field_place + 2
+        self.data = octets[self.data_place:len(octets) - 4]
+        # "First field 0x8808 … A tagged 0x8808 is an ordinary type."
+        self.control = self.first_field == CONTROL
+        # "the next two octets are the opcode, high octet first"
+        self.opcode = self.number(14)
+
+    def number(self, place: int) -> int:
+        """"read high octet first" """
+        return int.from_bytes(bytes(self.octets[place:place + 2]), "big")
+
+    def undersized(self) -> bool:
+        """3: "frame under 64 octets" """
+        return len(self.octets) < 64
+
+    def oversized(self, s: Settings) -> bool:
+        """4: "over the limit M, or M + 4 if tagged" """
+        return len(self.octets) > s.limit + (4 if self.tagged else 0)
+
+    def wrong_fcs(self) -> bool:
+        """5: "last four octets differ from the check"; "It covers destination to the end of data." """
+        return self.octets[-4:] != fcs(self.octets[:-4])
+
+    def wrong_length(self, s: Settings) -> bool:
+        """6: "length rule broken, checking on" """
+        if not s.checking:  # "With checking off, no test is made"
+            return False
+        if self.field >= 1536:  # "Field 1536 or more is a type."
+            return False
+        if self.field >= 1501:  # "Field 1501 to 1535: always wrong length"
+            return True
+        if self.field >= 46:  # "Field 46 to 1500: data must be exactly that long."
+            return len(self.data) != self.field
+        return len(self.data) != 46  # "Field under 46: data must be exactly 46, tagged or not"
+
+    def handed(self, s: Settings) -> List[int]:
+        """"only the first `field` octets are handed out"; "With checking off, … all data is handed out." """
+        return self.data[:self.field] if s.checking and self.field < 46 else self.data
+
+    def accepted(self, s: Settings) -> bool:
+        """The address rule."""
+        if s.promiscuous:  # "Promiscuous accepts all."
+            return True
+        if self.destination == BROADCAST:  # "accepted exactly if its setting is on; a listed broadcast address never matches"
+            return s.broadcast
+        # "Else the destination must equal the own address or a listed one, all six octets."
+        return self.destination == s.own or self.destination in s.listed[:s.count]
+
+    def named_here(self, s: Settings) -> bool:
+        """"to the reserved group or the own address" """
+        return self.destination in (RESERVED_GROUP, s.own)
+
+    def filtered(self, s: Settings) -> bool:
+        """7: "address rule refuses"; of a control frame to the group or the own address, "Its address isn't tested further." """
+        if self.control and self.named_here(s):
+            return False
+        return not self.accepted(s)
+
+    def takes_pause(self, s: Settings) -> bool:
+        """8: "Destination is the reserved group or the own address, opcode 0x0001, flow mode `pause`" """
+        return self.control and self.named_here(s) and self.opcode == 0x0001 and s.flow == "pause"
+
+    def takes_pfc(self, s: Settings) -> bool:
+        """9: "Destination is the reserved group, opcode 0x0101, flow mode `PFC`" """
+        return self.control and self.destination == RESERVED_GROUP and self.opcode == 0x0101 and s.flow == "PFC"
+
+    def drops_control(self, s: Settings) -> bool:
+        """10: "other control frame, setting `pass control` off" """
+        return self.control and not s.pass_control
+
+    def timers_after(self, outcome: int, timers: List[int]) -> List[int]:
+        """"A quantum is 512 bit times, which is 64 slots"; "Setting replaces the old time" """
+        timers = list(timers)
+        if outcome == 8:  # "The next two octets are quanta, and all eight timers are set from them."
+            timers = [64 * self.number(16)] * 8
+        if outcome == 9:
+            # "an unused octet (not looked at), a class octet whose bit n names class n, then eight two-octet quanta. Only named classes are set."
+            for n in range(8):
+                if self.octets[17] >> n & 1:
+                    timers[n] = 64 * self.number(18 + 2 * n)
+        return timers
+
+    def status(self, s: Settings, outcome: int) -> int:
+        """The status word."""
+        if outcome <= 7:  # "Outcomes 1 to 7: the whole word is 0."
+            return 0
+        group = self.destination[0] & 1 == 1
+        everyone = self.destination == BROADCAST
+        # "15 to 0 data length (handed out for 11; all of the data for 8, 9 and 10)"
+        length = len(self.handed(s)) if outcome == 11 else len(self.data)
+        # "Bit 39 PFC taken; 38 unicast; 37 multicast other than broadcast; 36 broadcast; 35 pause taken; 34 control; 33 tagged; 32 stacked,
+        # always 0 for now; 31 to 16 frame length, destination to FCS"
+        bits = [(39, outcome == 9), (38, not group), (37, group and not everyone), (36, everyone), (35, outcome == 8), (34, self.control),
+                (33, self.tagged)]
+        return sum(1 << n for n, on in bits if on) | len(self.octets) << 16 | length
+
+
+# ---- Reading one Start
+
+
+@dataclass
+class Reading:
+    kind: str  # refused, none, open or counted
+    start: int
+    next: int
+    state: State
+    refusal: int = 0
+    outcome: int = 0
+    status: int = 0
+    part: Tuple[int, int] = (0, 0)  # where it begins, and its length
+    data: List[int] = field(default_factory=list)
+
+
+def find(octets, marks, place, test) -> Optional[int]:
+    return next((i for i in range(place, len(octets)) if test(octets[i], marks[i])), None)
+
+
+def rules_that_hold(s: Settings, run: List[int], by: int) -> List[int]:
+    """Every row of the table that holds, in order, each by itself; a row that looks into a frame is tried only where the row needs no more
+    octets than there are (rows 2 and 3 stand before it)."""
+    rows = []
+    if by != TERMINATE:  # "ended by anything but Terminate"
+        rows.append(1)
+    if len(run) < 7 or run[:7] != PREAMBLE:  # "run under 7 octets, or the first 7 wrong"
+        rows.append(2)
+    octets = run[7:]
+    if len(octets) < 64:
+        rows.append(3)
+    if len(octets) >= 24:
+        f = Frame(octets)
+        tests = [(4, f.oversized(s)), (5, f.wrong_fcs()), (6, f.wrong_length(s)), (7, f.filtered(s)), (8, f.takes_pause(s)), (9, f.takes_pfc(s)),
+                 (10, f.drops_control(s))]
+        rows += [number for number, holds in tests if holds]
+    return rows + [11]  # "everything else"
+
+
+def read_refusal(s, octets, marks, place) -> Optional[int]:
+    """"Reading can give 1 to 3"; 3: "place beyond the buffers' length" """
+    return lowest((1, bad_settings(s)), (2, bad_buffers(octets, marks)), (3, place > len(octets)))
+
+
+def reading(s: Settings, state: State, octets: List[int], marks: List[int], place: int) -> Reading:
+    refusal = read_refusal(s, octets, marks, place)
+    if refusal:  # "A refusal gives its number, status 0, an empty part, the place it was called with (in a reading, as both places), the old state"
+        return Reading("refused", place, place, state, refusal=refusal)
+    # "A reading at a place finds the first Start at that place or later."
+    start = find(octets, marks, place, is_start)
+    if start is None:  # "gives `none` and the capture's length as both places"
+        return Reading("none", len(octets), len(octets), state)
+    # "the run is the data symbols after the Start up to the first control symbol"
+    end = find(octets, marks, start + 1, lambda _, mark: not is_data(mark))
+    if end is None:  # "the answer is `open`, nothing is counted, and the next place is that Start's"
+        return Reading("open", start, start, state)
+    # "Else the next place is that of the ending control symbol, and the first rule that holds gives the outcome"
+    run = octets[start + 1:end]
+    outcome = rules_that_hold(s, run, octets[end])[0]
+    answer = Reading("counted", start, end, counted(state, outcome), outcome=outcome)
+    if outcome >= 8:
+        f = Frame(run[7:])
+        answer.status = f.status(s, outcome)
+        answer.state = replace(answer.state, timers=f.timers_after(outcome, state.timers))
+        if outcome == 11:  # "Client data is a part of the captured octets themselves"; "Outcomes 1 to 10 hand out an empty part."
+            answer.data = f.handed(s)
+            answer.part = (start + 8 + f.data_place, len(answer.data))
+    return answer
+
+
+def walk(s: Settings, state: State, octets: List[int], marks: List[int]) -> List[Reading]:
+    """"a walk from place 0 until `none` or `open`": the readings it makes; a refused one ends it too."""
+    readings = [reading(s, state, octets, marks, 0)]
+    while readings[-1].kind == "counted":
+        readings.append(reading(s, readings[-1].state, octets, marks, readings[-1].next))
+    last = readings[-1]
+    if last.kind != "refused":
+        # "the eleven counters together have risen, modulo 2^32, by the number of Start symbols in the capture, less one if the walk ended `open`"
+        starts = sum(is_start(o, m) for o, m in zip(octets, marks)) - (last.kind == "open")
+        assert (sum(last.state.counters) - sum(state.counters) - starts) % 2**32 == 0
+    return readings
+
+
+# ---- Sending
+
+
+@dataclass(frozen=True)
+class Client:
+    """"A client frame names a destination, an optional tag control, a form (length, or a type), a class 0 to 7 and data." """
+    destination: List[int]
+    tag: Optional[int]
+    type: Optional[int]  # none: the length form
+    cls: int
+    data: List[int]
+
+
+@dataclass
+class Sending:
+    refusal: int  # 0: written
+    place: int
+    state: State
+    octets: List[int]
+    marks: List[int]
+
+
+def high_first(n: int) -> List[int]:
+    return list(n.to_bytes(2, "big"))
+
+
+def on_line(covered: List[int]) -> List[Tuple[int, int]]:
+    """"Start; six data octets 0x55; data 0xD5 …; the frame from destination to FCS; Terminate; Idle"; "one Terminate and eleven Idles" """
+    data = PREAMBLE + covered + fcs(covered)
+    # "We write 0 for data and 1 for control."
+    return [(START, 1)] + [(o, 0) for o in data] + [(TERMINATE, 1)] + [(IDLE, 1)] * 11
+
+
+def client_symbols(s: Settings, c: Client) -> List[Tuple[int, int]]:
+    tag = [] if c.tag is None else high_first(TAGGED) + high_first(c.tag)
+    # "In the length form the field is the data's length."
+    number = len(c.data) if c.type is None else c.type
+    # "Data under 46 octets is padded with zeros to 46, tagged or not."
+    padded = c.data + [0] * max(0, 46 - len(c.data))
+    # "Source is the own address."
+    return on_line(c.destination + s.own + tag + high_first(number) + padded)
+
+
+def pause_symbols(s: Settings, quanta: int) -> List[Tuple[int, int]]:
+    """"A pause frame: reserved group, own address, 0x8808, 0x0001, quanta, 42 zeros." """
+    return on_line(RESERVED_GROUP + s.own + high_first(CONTROL) + high_first(0x0001) + high_first(quanta) + [0] * 42)
+
+
+def pfc_symbols(s: Settings, named: int, quanta: List[int]) -> List[Tuple[int, int]]:
+    """"A PFC frame: 0x0101, zero, class octet, eight quanta (zero for a class not named), 26 zeros." """
+    eight = [octet for n in range(8) for octet in high_first(quanta[n] if named >> n & 1 else 0)]
+    return on_line(RESERVED_GROUP + s.own + high_first(CONTROL) + high_first(0x0101) + [0, named] + eight + [0] * 26)
+
+
+def idle_symbols(n: int) -> List[Tuple[int, int]]:
+    """"Idle fill writes a stated number of Idles." """
+    return [(IDLE, 1)] * n
+
+
+def sent(refusal: Optional[int], state, octets, marks, place, symbols) -> Sending:
+    if refusal:  # "A refusal gives its number, …, the place it was called with …, the old state, and untouched buffers."
+        return Sending(refusal, place, state, octets, marks)
+    n = len(symbols)
+    # "written into the line buffers from the place the caller names on; every other symbol stays"
+    octets = octets[:place] + [o for o, _ in symbols] + octets[place + n:]
+    marks = marks[:place] + [m for _, m in symbols] + marks[place + n:]
+    # "Every call that writes n symbols lowers each timer by n, not below zero."
+    state = replace(state, timers=[max(0, t - n) for t in state.timers])
+    # "gives its own place plus the number of symbols it wrote"
+    return Sending(0, place + n, state, octets, marks)
+
+
+def common(octets, marks, place, needed) -> List[Tuple[int, bool]]:
+    """2, 3 and 8: "fewer symbols from the place to the end of the buffers than needed" """
+    return [(2, bad_buffers(octets, marks)), (3, place > len(octets)), (8, len(octets) - place < needed)]
+
+
+def client_refusals(s, state, octets, marks, place, c: Client) -> List[Tuple[int, bool]]:
+    """"client sending 1 to 3 and 5 to 9" """
+    most = 1500 if c.type is None else s.limit - 18
+    # "type form under 1536, or 0x8100 or 0x8808"
+    bad_type = c.type is not None and (c.type < 1536 or c.type in (TAGGED, CONTROL))
+    return common(octets, marks, place, len(client_symbols(s, c))) + [
+        (1, bad_settings(s)),
+        (5, c.cls > 7),  # "class above 7"
+        (6, bad_type),
+        (7, len(c.data) > most),  # "data over 1500 (length form) or over M - 18 (type form)"
+        (9, c.cls <= 7 and state.timers[c.cls] > 0),  # "client frame, timer of its class above zero"
+    ]
+
+
+def control_refusals(s, octets, marks, place, mode) -> List[Tuple[int, bool]]:
+    """"pause and PFC 1 to 4 and 8"; 4: "pause or PFC asked in another flow mode". Both frames are 64 octets: 84 symbols."""
+    return common(octets, marks, place, 84) + [(1, bad_settings(s)), (4, s.flow != mode)]
+
+
+def idle_refusals(octets, marks, place, n) -> List[Tuple[int, bool]]:
+    """"Idle fill 2, 3 and 8" """
+    return common(octets, marks, place, n)
+
+
+def client_sending(s, state, octets, marks, place, c: Client) -> Sending:
+    return sent(lowest(*client_refusals(s, state, octets, marks, place, c)), state, octets, marks, place, client_symbols(s, c))
+
+
+def pause_sending(s, state, octets, marks, place, quanta: int) -> Sending:
+    return sent(lowest(*control_refusals(s, octets, marks, place, "pause")), state, octets, marks, place, pause_symbols(s, quanta))
+
+
+def pfc_sending(s, state, octets, marks, place, named: int, quanta: List[int]) -> Sending:
+    return sent(lowest(*control_refusals(s, octets, marks, place, "PFC")), state, octets, marks, place, pfc_symbols(s, named, quanta))
+
+
+def idle_sending(state, octets, marks, place, n: int) -> Sending:
+    return sent(lowest(*idle_refusals(octets, marks, place, n)), state, octets, marks, place, idle_symbols(n))
