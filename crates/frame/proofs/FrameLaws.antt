@@ -1,22 +1,20 @@
 -- Laws of a frame that is put together from its parts: what the reader's definitions find in it. Assumes nothing.
-use Prim.Native.Nat.{ℕ, zero, suc, _+_, _-_, _*_, _≤_, _<_}
+use Prim.Native.Nat.{ℕ, _+_, _-_, _*_, _≤_, _<_}
 use native.Mathlib.Omega.{arith}
-use native.Mathlib.Nat.{add-zero}
-use mathlib.Core.Path.{_≡_, refl, sym, ap, ap₂, _∙_, subst}
-use mathlib.Core.Bool.{Bool, true, false, not, _&&_, cond}
-use mathlib.Core.List.{List, [], _∷_, _++_, append-assoc}
-use lib.ListN.{length, take, drop, length-append}
-use lib.Seq.{drop-at, take-at, take-length}
-use lib.Dec.{eqb, ltb, leb, lit<}
-use borrow.Author.Tests.{eq-eqb, le-ltb, lt-ltb, le-leb, lt-leb}
+use mathlib.Core.Path.{_≡_, refl, sym, ap, ap₂, _∙_}
+use mathlib.Core.Bool.{true, false, not}
+use mathlib.Core.List.{List, [], _++_, append-assoc}
+use lib.ListN.{length, length-append}
+use lib.Seq.{drop-at, take-at}
+use lib.Dec.{eqb}
+use borrow.Author.Tests.{eq-eqb, le-leb, lt-leb}
 use Rattle.line.specs.Octets.{sameOctets, highFirstAt, highFirst, between}
-use Rattle.line.specs.Table.{first}
 use Rattle.line.proofs.Octets.{sameOctets-refl, highFirst-read, between-middle}
 use Rattle.line.proofs.Tables.{first-here, first-next, first-other}
 use Rattle.fcs.specs.Fcs.{fcs}
 use Rattle.frame.specs.Tags.{isTagKind, mostTags, tagRun, tagCount}
-use Rattle.frame.specs.Frame.{firstField, fieldPlace, field, dataPlace, frameData, covered, lastFour, wrongFcs}
-use Rattle.frame.specs.Length.{kept, wrongLength, handedLength, clientData}
+use Rattle.frame.specs.Frame.{fieldPlace, field, dataPlace, frameData, covered, lastFour, wrongFcs}
+use Rattle.frame.specs.Length.{kept}
 
 -- ---- the FCS
 
@@ -65,16 +63,16 @@ module _ (h : List ℕ) (n : ℕ) (p q : List ℕ) (t : ℕ) (ht : tagCount (h +
 
 pub kept-type : (n k : ℕ) → 1536 ≤ n → kept n k ≡ true
 unfolding kept
-kept-type n k h = first-here true _ (le-leb 1536 n h)
+kept-type n k h = first-here true _ (le-leb _ n (omega arith))
 
 pub kept-long : (n : ℕ) → 46 ≤ n → n ≤ 1500 → kept n n ≡ true
 unfolding kept
 kept-long n h g =
-    first-next true _ (lt-leb 1536 n (omega arith)) ∙ first-next false _ (lt-leb 1501 n (omega arith)) ∙ first-here (eqb n n) _ (le-leb 46 n h)
+    first-next true _ (lt-leb _ n (omega arith)) ∙ first-next false _ (lt-leb _ n (omega arith)) ∙ first-here (eqb n n) _ (le-leb _ n (omega arith))
     ∙ eq-eqb n n refl
 
 pub kept-short : (n k : ℕ) → n < 46 → k ≡ 46 → kept n k ≡ true
 unfolding kept
 kept-short n k h e =
-    first-next true _ (lt-leb 1536 n (omega arith)) ∙ first-next false _ (lt-leb 1501 n (omega arith)) ∙ first-next (eqb k n) _ (lt-leb 46 n h)
+    first-next true _ (lt-leb _ n (omega arith)) ∙ first-next false _ (lt-leb _ n (omega arith)) ∙ first-next (eqb k n) _ (lt-leb _ n (omega arith))
     ∙ first-other (eqb k 46) ∙ eq-eqb k 46 e

@@ -23,7 +23,8 @@ use Rattle.receive.specs.Reading.{handedPart, readRun, readStart}
 use Rattle.receive.specs.Walk.{walk, handedBy, handedOut}
 use Rattle.receive.proofs.Handed.{handed-part}
 use Rattle.mac.specs.Demand2.{Readable}
-use Rattle.mac.proofs.Walk.{through, OpenLast, open-last, walk-through}
+use Rattle.receive.proofs.Walks.{through, walk-through}
+use Rattle.mac.proofs.Walk.{OpenLast, open-last}
 
 -- the client data of a run that is handed out, as a list of none or one
 unfoldable pub clientOf : Settings → AfterStart → List (List ℕ)

@@ -28,7 +28,7 @@ use Rattle.station.specs.Station.{isPauseMode, isPfcMode, badPlace}
 use Rattle.receive.specs.declared.Walked.{Walked}
 use Rattle.receive.specs.declared.Reading.{Reading}
 use Rattle.receive.specs.Reading.{readRun, readStart, readFound, readAt, readRefusals, readChecked, reading}
-use Rattle.receive.specs.declared.Walk.{Walk}
+use Rattle.receive.specs.declared.WalkEnd.{WalkEnd}
 use Rattle.receive.specs.Values.{answerRefusal, walkedRefusal, isCounted}
 use Rattle.receive.specs.Walk.{readingsFrom, walk, walkOf, walked}
 use Rattle.send.specs.declared.Client.{Client}
@@ -36,7 +36,7 @@ use Rattle.send.specs.declared.Classes.{Classes}
 use Rattle.send.specs.Frames.{clientSymbols, pauseSymbols, pfcSymbols, idleSymbols}
 use Rattle.send.specs.Sending.{Sending, wentRefusal, sendChecked, clientRefusals, controlRefusals, idleRefusals, clientChecked, pauseChecked, pfcChecked, idleChecked, clientSending, pauseSending, pfcSending, idleSending}
 use Rattle.mac.specs.Demand1.{numbersOf, rowHolds, Exactly, ReadRefused, SendRefused, ReadsOrRefuses, SendsOrRefuses}
-use Rattle.mac.proofs.Walk.{through, walk-through}
+use Rattle.receive.proofs.Walks.{through, walk-through, walked-refused}
 
 -- ---- a table whose numbers ascend, above k, and that gives `Fine` where no row holds
 
@@ -172,19 +172,10 @@ through-none s n k st (m ∷ ms) = one (m .follows) (λ st′. through-none s n 
     one unended ih = unfold readStart in refl
     one (ended r by) ih = unfold readStart readRun in ih (readStart s st (m .place) (ended r by) .state)
 
--- a walk whose first reading is refused
-refused-walk : (s : Settings) (st : State) (os ms : List ℕ) (x : Refusal) → first (readRefusals s os ms 0) ≡ Refused x
-    → walked s st os ms ≡ record { answer = Walked.Refused x; state = st }
-unfolding walked walk reading readingsFrom walkOf readChecked
-refused-walk s st os ms x e =
-    ap (λ (n : ℕ). walkOf 0 st (readingsFrom n s st os ms 0)) (add-one (length os))
-    ∙ ap (λ (r : Reading). walkOf 0 st (r ∷ elim (isCounted (r .answer)) [ true ↦ readingsFrom (length os) s (r .state) os ms (r .next) | false ↦ [] ]))
-    (ap (λ (k : Checked). readChecked k s st os ms 0) e)
-
 walk-number : (s : Settings) (st : State) (os ms : List ℕ) (k : Checked) → first (readRefusals s os ms 0) ≡ k
     → (walkedRefusal (walked s st os ms .answer) ≡ checkedNumber k) × (0 < checkedNumber k → walked s st os ms .state ≡ st)
 unfolding walked
-walk-number s st os ms (Refused x) e = (ap (λ (w : Walk). walkedRefusal (w .answer)) (refused-walk s st os ms x e), λ h. ap (λ (w : Walk). w .state) (refused-walk s st os ms x e))
+walk-number s st os ms (Refused x) e = (ap (λ (w : WalkEnd). walkedRefusal (w .answer)) (walked-refused s st os ms x e), λ h. ap (λ (w : WalkEnd). w .state) (walked-refused s st os ms x e))
 walk-number s st os ms Fine e = (
   ap (λ (l : List Reading). walkedRefusal (walkOf 0 st l .answer)) (walk-through s os ms e st) ∙ through-none s (length (capture os ms)) 0 st (metStarts 0 (capture os ms)),
   λ h. absurd (omega arith),

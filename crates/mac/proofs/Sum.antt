@@ -22,12 +22,13 @@ use Rattle.station.specs.Station.{counterSize, counter, counted, total}
 use Rattle.receive.specs.declared.Reading.{Reading}
 use Rattle.receive.specs.declared.Walked.{Walked}
 use Rattle.receive.specs.declared.Walked.the-variants.{Ended}
-use Rattle.receive.specs.declared.Walk.{Walk}
+use Rattle.receive.specs.declared.WalkEnd.{WalkEnd}
 use Rattle.receive.specs.Outcomes.{outcome, frameOf}
 use Rattle.receive.specs.Reading.{stateAfter, readRun, readStart}
 use Rattle.receive.specs.Walk.{walk, walkOf, walked}
 use Rattle.mac.specs.Demand2.{Readable, isUnended, lastUnended, oneIf, has, startsWith}
-use Rattle.mac.proofs.Walk.{through, OpenLast, open-last, walk-through, not-last}
+use Rattle.receive.proofs.Walks.{through, walk-through}
+use Rattle.mac.proofs.Walk.{OpenLast, open-last, not-last}
 
 -- ---- remainders, for any width (item 6 of document 02 makes it 2 ^ 64)
 
@@ -110,7 +111,7 @@ ones-ended i r by ms =
     ap (λ (b : Bool). suc (length ms) - oneIf b) (last-ended i r by ms) ∙ (let k = some-last ms in omega arith)
 
 -- what one walk over these Starts leaves: how many were counted, the sum of the counters, and the counter of each outcome
-record Rises (s : Settings) (k : ℕ) (st : State) (ms : List MetStart) (w : Walk) : Type 0 where
+record Rises (s : Settings) (k : ℕ) (st : State) (ms : List MetStart) (w : WalkEnd) : Type 0 where
   count : w .answer ≡ Ended (k + countedOnes ms) (lastUnended ms)
   sum : total (w .state .counters) % counterSize ≡ (total (st .counters) + countedOnes ms) % counterSize
   each : (o : Outcome) → counter o (w .state .counters) % counterSize ≡ (counter o (st .counters) + startsWith s o ms) % counterSize

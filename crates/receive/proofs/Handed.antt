@@ -1,6 +1,6 @@
 -- "Client data is a part of the captured octets themselves": the part that a reading answers lies inside the captured octets, and its octets are
 -- the client data by definition. The statement is `handed-part`. Assumes nothing.
-use Prim.Native.Nat.{ℕ, zero, suc, _+_, _-_, _≤_, min}
+use Prim.Native.Nat.{ℕ, zero, suc, _+_, _-_, _≤_, _<_, min}
 use native.Mathlib.Omega.{arith}
 use mathlib.Core.Path.{_≡_, refl, sym, ap, ap₂, _∙_, subst}
 use mathlib.Core.Bool.{Bool, true, false, _&&_, cond}
@@ -88,6 +88,15 @@ part-inside os p h =
     by-test (leb (p .at) (length os))
     (λ e. rw (e, le-leb (p .len) (length os - p .at) h))
     (λ e. rw e (sym (ap (take (p .len)) (drop-of-length-le os {i = p .at} (let g = leb-false (p .at) (length os) e in omega arith)) ∙ take-nil (p .len))))
+
+-- and one that begins beyond the end, or is longer than that
+pub part-beyond : (os : List ℕ) (p : Part) → length os < p .at → partOf os p ≡ []
+unfolding partOf
+part-beyond os p h = rw (lt-leb (p .at) (length os) h)
+
+pub part-long : (os : List ℕ) (p : Part) → p .at ≤ length os → length os - p .at < p .len → partOf os p ≡ []
+unfolding partOf
+part-long os p h g = rw (le-leb (p .at) (length os) h, lt-leb (p .len) (length os - p .at) g)
 
 pub handed-part : (ck : Bool) (os ms : List ℕ) (i : ℕ)
     → let f : List ℕ = frameOf (run (drop (i + 1) (capture os ms))) in partOf os (record { at = i + 8 + dataPlace f; len = handedLength ck f }) ≡ clientData ck f

@@ -12,7 +12,7 @@ use Rattle.receive.specs.declared.Answer.the-variants.{Nothing, Open, Co
 use Rattle.receive.specs.declared.Reading.{Reading}
 use Rattle.receive.specs.declared.Walked.{Walked}
 use Rattle.receive.specs.declared.Walked.the-variants.{Ended}
-use Rattle.receive.specs.declared.Walk.{Walk}
+use Rattle.receive.specs.declared.WalkEnd.{WalkEnd}
 use Rattle.receive.specs.Reading.{reading, partOf}
 use Rattle.receive.specs.Values.{isCounted}
 
@@ -29,7 +29,7 @@ unfoldable pub walk : Settings → State → List ℕ → List ℕ → List Read
 walk s st os ms = readingsFrom (length os + 1) s st os ms 0
 
 -- what readings come to: how many counted a Start, whether the last one was `open`, or its refusal; and the state that they left
-unfoldable pub walkOf : ℕ → State → List Reading → Walk
+unfoldable pub walkOf : ℕ → State → List Reading → WalkEnd
 walkOf n st [] = record { answer = Ended n false; state = st }
 walkOf n st (r ∷ rs) =
     elim (r .answer) [
@@ -40,7 +40,7 @@ walkOf n st (r ∷ rs) =
     ]
 
 -- the whole walk in one call
-unfoldable pub walked : Settings → State → List ℕ → List ℕ → Walk
+unfoldable pub walked : Settings → State → List ℕ → List ℕ → WalkEnd
 walked s st os ms = walkOf 0 st (walk s st os ms)
 
 -- what an answer hands out: nothing, or by outcome 11 the octets of its part

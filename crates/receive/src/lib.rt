@@ -1,4 +1,5 @@
 // Reading (document 01, "Reading one Start", "Status word", "Refusals and their order"). Meaning: specs/.
+use line::Found;
 use station::Checked;
 use station::Outcome;
 use station::Part;
@@ -6,8 +7,20 @@ use station::Refusal;
 use station::Settings;
 use station::State;
 ghost use mathlib.Core.Path.{_≡_};
+ghost use mathlib.Core.Bool.{true, not, cond, _&&_};
+ghost use Prim.Native.Nat.{_+_, _≤_};
+ghost use lib.ListN.{length, drop};
+ghost use lib.Dec.{eqb};
 ghost use Rattle.line.specs.Table.{first};
-ghost use Rattle.receive.specs.Reading.{readRefusals};
+ghost use Rattle.fcs.specs.Lent.{Tables};
+ghost use Rattle.station.specs.Station.{isGroup};
+ghost use Rattle.frame.specs.Frame.{destination, frameData};
+ghost use Rattle.receive.specs.Outcomes.{cut, badPreamble, frameOf, outcome};
+ghost use Rattle.receive.specs.Status.{bit, frameBits, status};
+ghost use Rattle.receive.specs.Reading.{readRefusals, stateAfter, handedPart, readRun, reading, partOf};
+ghost use Rattle.station.specs.declared.Checked.the-variants.{Fine};
+ghost use Rattle.receive.specs.Walk.{walked};
+ghost use Rattle.receive.specs.Steps.{earlyOutcomes, lateOutcomes};
 
 // What a reading answers. The state holds arrays, which an enum may not: it stands beside the answer.
 pub enum Answer {
@@ -36,26 +49,362 @@ pub enum Walked {
     Ended(usize, bool),
 }
 
-pub struct Walk {
+pub struct WalkEnd {
     pub answer: Walked,
     pub state: State,
 }
 
+// What rules 1 to 4 leave: an outcome, or a frame whose FCS is to be looked at.
+pub enum Early {
+    Decided(Outcome),
+    Framed,
+}
+
+// ---- the outcome
+
+// Rule 2: run under 7 octets, or the first 7 wrong.
+fn bad_preamble(run: &[u8]) -> bool
+    ensures { λ r. ⌜ r ≡ badPreamble (now (run .entry)) ⌝ }
+{
+    if run.len() < 7 {
+        return true;
+    }
+    let right = [0x55u8, 0x55, 0x55, 0x55, 0x55, 0x55, 0xD5];
+    let mut k: usize = 0;
+    while k < 7 {
+        if run[k] != right[k] {
+            return true;
+        }
+        k += 1;
+    }
+    false
+}
+
+// The frame of a run: what follows the preamble.
+fn frame_of(run: &[u8]) -> &[u8]
+    ensures { λ r. ⌜ now r ≡ frameOf (now (run .entry)) ⌝ }
+{
+    if run.len() < 7 {
+        return &run[..0];
+    }
+    &run[7..]
+}
+
+// Rules 1 to 4, in their order.
+fn before_fcs(limit: u16, run: &[u8], by: u8) -> Early
+    ensures { λ r. ⌜ r ≡ first (earlyOutcomes limit (now (run .entry)) by) ⌝ }
+{
+    if by != 0xFD {
+        return Early::Decided(Outcome::Cut);
+    }
+    if bad_preamble(run) {
+        return Early::Decided(Outcome::BadPreamble);
+    }
+    let f = frame_of(run);
+    if frame::undersized(f) {
+        return Early::Decided(Outcome::Undersized);
+    }
+    if frame::oversized(limit, f) {
+        return Early::Decided(Outcome::Oversized);
+    }
+    Early::Framed
+}
+
+// Rules 6 to 11, in their order.
+fn after_fcs(s: Settings, f: &[u8]) -> Outcome
+    ensures { λ r. ⌜ r ≡ first (lateOutcomes s (now (f .entry))) ⌝ }
+{
+    if frame::wrong_length(s.checking, f) {
+        return Outcome::WrongLength;
+    }
+    if flow::filtered(s, f) {
+        return Outcome::Filtered;
+    }
+    if flow::takes_pause(s, f) {
+        return Outcome::PauseTaken;
+    }
+    if flow::takes_pfc(s, f) {
+        return Outcome::PfcTaken;
+    }
+    if flow::drops_control(s, f) {
+        return Outcome::ControlDropped;
+    }
+    Outcome::HandedOut
+}
+
+// The outcome of a run ended by the control octet `by`: the first rule that holds.
+fn outcome(s: Settings, run: &[u8], by: u8) -> Outcome
+    ensures { λ r. ⌜ r ≡ outcome s (now (run .entry)) by ⌝ }
+{
+    let e = before_fcs(s.limit, run, by);
+    if let Early::Decided(o) = e {
+        return o;
+    }
+    let f = frame_of(run);
+    if frame::wrong_fcs(f) {
+        return Outcome::WrongFcs;
+    }
+    after_fcs(s, f)
+}
+
+// The same by tables that are lent, for a walk.
+fn outcome_by(t: &[u32; 4096], s: Settings, run: &[u8], by: u8) -> Outcome
+    requires { ⌜ Tables (now t) ⌝ }
+    ensures { λ r. ⌜ r ≡ outcome s (now (run .entry)) by ⌝ }
+{
+    let e = before_fcs(s.limit, run, by);
+    if let Early::Decided(o) = e {
+        return o;
+    }
+    let f = frame_of(run);
+    if frame::wrong_fcs_by(t, f) {
+        return Outcome::WrongFcs;
+    }
+    after_fcs(s, f)
+}
+
+// ---- the status word
+
+// The bits of `value` where `b`.
+fn flag(b: bool, value: u64) -> u64
+    ensures { λ r. ⌜ (r ≡ cond b value 0) × (r ≤ value) ⌝ }
+{
+    if b { value } else { 0 }
+}
+
+// Whether the destination has its group bit.
+fn to_group(f: &[u8]) -> bool
+    ensures { λ r. ⌜ r ≡ isGroup (destination (now (f .entry))) ⌝ }
+{
+    if f.len() == 0 {
+        return false;
+    }
+    f[0] % 2 == 1
+}
+
+// Multicast other than broadcast.
+fn is_multicast(group: bool, broadcast: bool) -> bool
+    ensures { λ r. ⌜ r ≡ (group && not broadcast) ⌝ }
+{
+    if group { !broadcast } else { false }
+}
+
+// What the frame alone decides: bits 38 to 16.
+fn frame_bits(f: &[u8]) -> u64
+    requires { ⌜ length (now f) ≤ 65536 ⌝ }
+    ensures { λ r. ⌜ (r ≡ frameBits (now (f .entry))) × (r ≤ 0x80_0000_0000) ⌝ }
+{
+    let group = to_group(f);
+    let broadcast = frame::is_broadcast(f);
+    let tags = frame::tag_count(f);
+    let b38 = flag(!group, 0x40_0000_0000);
+    let b37 = flag(is_multicast(group, broadcast), 0x20_0000_0000);
+    let b36 = flag(broadcast, 0x10_0000_0000);
+    let b34 = flag(flow::is_control_frame(f), 0x4_0000_0000);
+    let b33 = flag(tags == 1, 0x2_0000_0000);
+    let b32 = flag(2 <= tags, 0x1_0000_0000);
+    b38 + b37 + b36 + b34 + b33 + b32 + (f.len() as u64) * 0x1_0000
+}
+
+// The number of data octets.
+fn data_length(f: &[u8]) -> u64
+    requires { ⌜ length (now f) ≤ 65536 ⌝ }
+    ensures { λ r. ⌜ (r ≡ length (frameData (now (f .entry)))) × (r ≤ 65536) ⌝ }
+{
+    let data = frame::frame_data(f);
+    data.len() as u64
+}
+
+// The status word: 0 for outcomes 1 to 7.
+fn status(s: Settings, o: Outcome, f: &[u8]) -> u64
+    requires { ⌜ length (now f) ≤ 65536 ⌝ }
+    ensures { λ r. ⌜ r ≡ status s o (now (f .entry)) ⌝ }
+{
+    match o {
+        Outcome::PauseTaken => 0x8_0000_0000 + frame_bits(f) + data_length(f),
+        Outcome::PfcTaken => 0x80_0000_0000 + frame_bits(f) + data_length(f),
+        Outcome::ControlDropped => frame_bits(f) + data_length(f),
+        Outcome::HandedOut => frame_bits(f) + (frame::handed_length(s.checking, f) as u64),
+        _ => 0,
+    }
+}
+
+// ---- one reading
+
+// The client data's part, of a frame that begins at place `at`.
+fn handed_part(s: Settings, o: Outcome, at: usize, f: &[u8]) -> Part
+    requires { ⌜ at ≤ 131072 ⌝ }
+    ensures { λ r. ⌜ r ≡ handedPart s o at (now (f .entry)) ⌝ }
+{
+    match o {
+        Outcome::HandedOut => Part {
+            at: at + frame::data_place(f),
+            len: frame::handed_length(s.checking, f),
+        },
+        _ => Part { at: 0, len: 0 },
+    }
+}
+
+// The state after a Start with this outcome.
+fn state_after(o: Outcome, f: &[u8], state: State) -> State
+    ensures { λ r. ⌜ r ≡ stateAfter o (now (f .entry)) state ⌝ }
+{
+    let counts = state.counters;
+    let counters = station::counted(o, counts);
+    let times = state.timers;
+    let timers = flow::timers_after(o, f, times);
+    State { counters, timers }
+}
+
+// The reading of a Start at place `start` whose run has this outcome.
+fn read_run(s: Settings, state: State, start: usize, run: &[u8], o: Outcome) -> Reading
+    requires { ⌜ (start ≤ 65536) × (length (now run) ≤ 65536) ⌝ }
+    ensures { λ r. ⌜ r ≡ readRun s state start (now (run .entry)) o ⌝ }
+{
+    let f = frame_of(run);
+    let word = status(s, o, f);
+    let part = handed_part(s, o, start + 8, f);
+    let after = state_after(o, f, state);
+    Reading {
+        answer: Answer::Counted(o, word, part),
+        start,
+        next: start + 1 + run.len(),
+        state: after,
+    }
+}
+
 // The refusals of a reading, lowest number first.
-pub fn check_read(s: Settings, octets: &[u8], marks: &[u8], place: usize) -> Checked
+fn check_read(s: Settings, octets: &[u8], marks: &[u8], place: usize) -> Checked
     ensures { λ r. ⌜ r ≡ first (readRefusals s (now (octets .entry)) (now (marks .entry)) place) ⌝ }
 {
     if station::bad_settings(s) {
         return Checked::Refused(Refusal::BadSettings);
     }
-    if octets.len() != marks.len() {
+    if station::bad_buffers(octets, marks) {
         return Checked::Refused(Refusal::BadBuffers);
     }
-    if 65536 < octets.len() {
-        return Checked::Refused(Refusal::BadBuffers);
-    }
-    if octets.len() < place {
+    if station::bad_place(octets, place) {
         return Checked::Refused(Refusal::BadPlace);
     }
     Checked::Fine
+}
+
+// A reading: the first Start at a place or later, its outcome, and the state after it.
+pub fn read(s: Settings, state: State, octets: &[u8], marks: &[u8], place: usize) -> Reading
+    ensures { λ r. ⌜ r ≡ reading s state (now (octets .entry)) (now (marks .entry)) place ⌝ }
+{
+    let checked = check_read(s, octets, marks, place);
+    if let Checked::Refused(x) = checked {
+        return Reading {
+            answer: Answer::Refused(x),
+            start: place,
+            next: place,
+            state,
+        };
+    }
+    let Found::At(start) = line::find_start(octets, marks, place) else {
+        return Reading {
+            answer: Answer::Nothing,
+            start: octets.len(),
+            next: octets.len(),
+            state,
+        };
+    };
+    let from = start + 1;
+    let Found::At(end) = line::find_control(octets, marks, from) else {
+        return Reading {
+            answer: Answer::Open,
+            start,
+            next: start,
+            state,
+        };
+    };
+    let o = outcome(s, &octets[from..end], octets[end]);
+    read_run(s, state, start, &octets[from..end], o)
+}
+
+// The client data: a part of the captured octets themselves; none where the part does not lie inside them.
+pub fn client_data(octets: &[u8], part: Part) -> &[u8]
+    ensures { λ r. ⌜ now r ≡ partOf (now (octets .entry)) part ⌝ }
+{
+    let at = part.at;
+    let n = part.len;
+    if octets.len() < at {
+        return &octets[..0];
+    }
+    if octets.len() - at < n {
+        return &octets[..0];
+    }
+    let end = at + n;
+    &octets[at..end]
+}
+
+// ---- the walk
+
+// The state after a run ended by the control octet `by`, with tables that are lent or without.
+fn count_run(t: &[u32; 4096], lent: bool, s: Settings, state: State, run: &[u8], by: u8) -> State
+    requires { ⌜ (lent ≡ true → Tables (now t)) ⌝ }
+    ensures { λ r. ⌜ r ≡ stateAfter (outcome s (now (run .entry)) by) (frameOf (now (run .entry))) state ⌝ }
+{
+    let f = frame_of(run);
+    if lent {
+        let o = outcome_by(t, s, run, by);
+        return state_after(o, f, state);
+    }
+    let o = outcome(s, run, by);
+    state_after(o, f, state)
+}
+
+// The walk over a capture that is not refused.
+fn walk_on(
+    t: &[u32; 4096],
+    lent: bool,
+    s: Settings,
+    state: State,
+    octets: &[u8],
+    marks: &[u8],
+) -> WalkEnd
+    requires { ⌜ (lent ≡ true → Tables (now t)) × (first (readRefusals s (now octets) (now marks) 0) ≡ Fine) ⌝ }
+    ensures { λ r. ⌜ r ≡ walked s state (now (octets .entry)) (now (marks .entry)) ⌝ }
+{
+    let mut st = state;
+    let mut n: usize = 0;
+    let mut at: usize = 0;
+    loop {
+        let Found::At(start) = line::find_start(octets, marks, at) else {
+            return WalkEnd {
+                answer: Walked::Ended(n, false),
+                state: st,
+            };
+        };
+        let from = start + 1;
+        let Found::At(end) = line::find_control(octets, marks, from) else {
+            return WalkEnd {
+                answer: Walked::Ended(n, true),
+                state: st,
+            };
+        };
+        st = count_run(t, lent, s, st, &octets[from..end], octets[end]);
+        n += 1;
+        at = end;
+    }
+}
+
+// The whole walk in one call: every Start in its order. In a long capture the tables of the FCS are made once and lent.
+pub fn walk(s: Settings, state: State, octets: &[u8], marks: &[u8]) -> WalkEnd
+    ensures { λ r. ⌜ r ≡ walked s state (now (octets .entry)) (now (marks .entry)) ⌝ }
+{
+    let checked = check_read(s, octets, marks, 0);
+    if let Checked::Refused(x) = checked {
+        return WalkEnd {
+            answer: Walked::Refused(x),
+            state,
+        };
+    }
+    if octets.len() < 8192 {
+        let none = [0u32; 4096];
+        return walk_on(&none, false, s, state, octets, marks);
+    }
+    let t = fcs::tables();
+    walk_on(&t, true, s, state, octets, marks)
 }

@@ -1,7 +1,8 @@
 // What a station is set to, what it counts and times, and the names of outcomes and refusals (document 01).
 // Struct fields have no underscore, so that the definitions read them with no quotes; what each stands for is said beside it.
 ghost use mathlib.Core.Path.{_≡_};
-ghost use Rattle.station.specs.Station.{badSettings, fresh};
+ghost use Rattle.station.specs.Numbers.{outcomeNumber, refusalNumber};
+ghost use Rattle.station.specs.Station.{badSettings, badBuffers, badPlace, counted, fresh, isPauseMode, isPfcMode};
 
 // Six octets.
 pub struct Address(pub [u8; 6]);
@@ -107,5 +108,90 @@ pub fn fresh_state() -> State
     State {
         counters: [0u32; 11],
         timers: [Slots(0); 8],
+    }
+}
+
+// Document 01's number of an outcome.
+pub fn outcome_number(o: Outcome) -> u8
+    ensures { λ r. ⌜ r ≡ outcomeNumber o ⌝ }
+{
+    match o {
+        Outcome::Cut => 1,
+        Outcome::BadPreamble => 2,
+        Outcome::Undersized => 3,
+        Outcome::Oversized => 4,
+        Outcome::WrongFcs => 5,
+        Outcome::WrongLength => 6,
+        Outcome::Filtered => 7,
+        Outcome::PauseTaken => 8,
+        Outcome::PfcTaken => 9,
+        Outcome::ControlDropped => 10,
+        Outcome::HandedOut => 11,
+    }
+}
+
+// Document 01's number of a refusal.
+pub fn refusal_number(r: Refusal) -> u8
+    ensures { λ n. ⌜ n ≡ refusalNumber r ⌝ }
+{
+    match r {
+        Refusal::BadSettings => 1,
+        Refusal::BadBuffers => 2,
+        Refusal::BadPlace => 3,
+        Refusal::OtherFlow => 4,
+        Refusal::BadClass => 5,
+        Refusal::BadType => 6,
+        Refusal::LongData => 7,
+        Refusal::NoRoom => 8,
+        Refusal::Held => 9,
+    }
+}
+
+// The counters with one more of an outcome, which rolls over to zero.
+pub fn counted(o: Outcome, mut counters: [u32; 11]) -> [u32; 11]
+    ensures { λ r. ⌜ r ≡ counted o counters ⌝ }
+{
+    let i = (outcome_number(o) - 1) as usize;
+    let n = counters[i];
+    counters[i] = std::num::wrapping_add_u32(n, 1);
+    counters
+}
+
+// Refusal 2.
+pub fn bad_buffers(octets: &[u8], marks: &[u8]) -> bool
+    ensures { λ r. ⌜ r ≡ badBuffers (now (octets .entry)) (now (marks .entry)) ⌝ }
+{
+    if octets.len() != marks.len() {
+        return true;
+    }
+    65536 < octets.len()
+}
+
+// Refusal 3.
+pub fn bad_place(octets: &[u8], place: usize) -> bool
+    ensures { λ r. ⌜ r ≡ badPlace (now (octets .entry)) place ⌝ }
+{
+    octets.len() < place
+}
+
+// Whether the flow mode is `pause`.
+pub fn is_pause_mode(flow: Flow) -> bool
+    ensures { λ r. ⌜ r ≡ isPauseMode flow ⌝ }
+{
+    match flow {
+        Flow::Off => false,
+        Flow::Pause => true,
+        Flow::Pfc => false,
+    }
+}
+
+// Whether the flow mode is `PFC`.
+pub fn is_pfc_mode(flow: Flow) -> bool
+    ensures { λ r. ⌜ r ≡ isPfcMode flow ⌝ }
+{
+    match flow {
+        Flow::Off => false,
+        Flow::Pause => false,
+        Flow::Pfc => true,
     }
 }

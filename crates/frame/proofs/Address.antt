@@ -1,0 +1,73 @@
+-- Laws of specs/Address.antt and of a destination, octet by octet. Assumes nothing.
+use Prim.Native.Nat.{ℕ, _+_, _≤_, _<_}
+use native.Mathlib.Omega.{arith}
+use native.Mathlib.Numerals.{add-one}
+use mathlib.Core.Path.{_≡_, sym, ap, _∙_}
+use mathlib.Core.Bool.{true, false}
+use mathlib.Core.List.{List, map}
+use lib.ListN.{length, getD, take, drop, length-take, length-map, drop-of-length-le}
+use lib.Seq.{getD-take, ext-getD, length-take-le, take-all, drop-cons}
+use Rattle.line.specs.Octets.{sameOctets}
+use Rattle.line.proofs.Octets.{sameOctets-refl}
+use Rattle.station.specs.declared.Address.{Address}
+use Rattle.station.specs.declared.Settings.{Settings}
+use Rattle.frame.specs.Frame.{destination}
+use Rattle.frame.specs.Address.{broadcastAddress, among, accepts}
+use Rattle.frame.proofs.Octets.{sameOctets-not}
+
+-- ---- one address: in which order its octets are compared does not matter
+module _ (f a : List ℕ) where
+  pub to-short : length f < 6 → length a ≡ 6 → sameOctets (destination f) a ≡ false
+  unfolding destination
+  to-short h n = sameOctets-not (take 6 f) a (λ e. omega (arith, ap length e, ap length (take-all 6 f (omega arith))))
+
+  pub to-differs : (k : ℕ) → k < 6 → (getD f k 0 ≡ getD a k 0 → ⊥) → sameOctets (destination f) a ≡ false
+  unfolding destination
+  to-differs k h d = sameOctets-not (take 6 f) a (λ e. d (sym (getD-take 6 f k 0 h) ∙ ap (λ (l : List ℕ). getD l k 0) e))
+
+  pub to-same : 6 ≤ length f → length a ≡ 6 → ((k : ℕ) → k < 6 → getD f k 0 ≡ getD a k 0) → sameOctets (destination f) a ≡ true
+  unfolding destination
+  to-same h n s =
+      let m : length (take 6 f) ≡ 6 = length-take-le 6 f h in
+      let e : take 6 f ≡ a = ext-getD 0 (take 6 f) a (m ∙ sym n) (λ k lt. getD-take 6 f k 0 (omega arith) ∙ s k (omega arith)) in
+      rw e (sameOctets-refl a)
+
+-- ---- the first n of a list of addresses, from place k on
+module _ (d : List ℕ) (l : List Address) (n k : ℕ) (z : Address) (h : k < length (take n l)) where
+  here : getD (take n l) k z ≡ getD l k z
+  here = getD-take n l k z (omega (arith, length-take n l))
+
+  pub among-here : sameOctets d (getD l k z .0) ≡ true → among d (drop k (take n l)) ≡ true
+  unfolding among
+  among-here e = rw (drop-cons (take n l) k z h, here, e)
+
+  pub among-next : sameOctets d (getD l k z .0) ≡ false → among d (drop (k + 1) (take n l)) ≡ among d (drop k (take n l))
+  unfolding among
+  among-next e = rw (add-one k, drop-cons (take n l) k z h, here, e)
+
+pub among-end : (d : List ℕ) (l : List Address) (k : ℕ) → length l ≤ k → among d (drop k l) ≡ false
+unfolding among
+among-end d l k h = rw (drop-of-length-le l {i = k} h)
+
+-- ---- the rule
+module _ (s : Settings) (d : List ℕ) where
+  pub accepts-all : s .promiscuous ≡ true → accepts s d ≡ true
+  unfolding accepts
+  accepts-all p = rw p
+
+  pub accepts-broadcast : s .promiscuous ≡ false → sameOctets d broadcastAddress ≡ true → accepts s d ≡ s .broadcast
+  unfolding accepts
+  accepts-broadcast p b = rw (p, b)
+
+  pub accepts-own : s .promiscuous ≡ false → sameOctets d broadcastAddress ≡ false → sameOctets d (s .own .0) ≡ true → accepts s d ≡ true
+  unfolding accepts
+  accepts-own p b o = rw (p, b, o)
+
+  pub accepts-listed : s .promiscuous ≡ false → sameOctets d broadcastAddress ≡ false → sameOctets d (s .own .0) ≡ false
+      → accepts s d ≡ among d (take (s .count) (s .listed))
+  unfolding accepts
+  accepts-listed p b o = rw (p, b, o)
+
+-- The length of an array of structs: what owning it tells is the length of a list that is mapped. `search (mapped-length)` finds that fact.
+pub mapped-length : {A B : Type 0} (f : A → B) (l : List A) (n : ℕ) → length (map f l) ≡ n → length l ≡ n
+mapped-length f l n p = sym (length-map l f) ∙ p

@@ -1,0 +1,44 @@
+-- `frame::frame_data` meets its contract: the part between the two places, or nothing. Assumes nothing.
+use borrow.Author.Needs.{needs}
+use Rattle.frame.proofs.Tags.{frameData-none}
+use Rattle.frame.specs.Frame.{frameData}
+use Rattle.line.specs.Octets.{between}
+use denote.Ref.{now}
+use mathlib.Core.Path.{sym}
+use native.Mathlib.Omega.{arith}
+use Rattle.frame.proofs.frame_data.Statement.{statement}
+use Rattle.frame.proofs.frame_data.Tie as tie
+
+data-place-requires : tie.Need-data-place-requires
+data-place-requires c κs = search needs
+
+fcs-place-requires : tie.Need-fcs-place-requires
+fcs-place-requires c κs = search needs
+
+slice-aggregate-result : tie.Need-slice-aggregate-result
+slice-aggregate-result c = search needs
+
+returns : tie.Need-returns
+returns c = let f = now (c .before .before .before .before .before .args .f) in sym (frameData-none f (omega arith))
+
+part-result-start : tie.Need-part-result-start
+part-result-start c = search needs
+
+part-result-end : tie.Need-part-result-end
+part-result-end c = search needs
+
+returns-2 : tie.Need-returns-2
+unfolding frameData between
+returns-2 c = rw (c .before .before .fcs-place .ensures, c .before .before .before .data-place .ensures)
+
+pub frame-data-spec : {M : Type 1} → statement M
+frame-data-spec =
+    tie.close
+    (tie.spec
+    data-place-requires
+    fcs-place-requires
+    slice-aggregate-result
+    returns
+    part-result-start
+    part-result-end
+    returns-2)

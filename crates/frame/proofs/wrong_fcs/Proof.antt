@@ -1,0 +1,33 @@
+-- `frame::wrong_fcs` meets its contract: the check is made of what it covers. Assumes nothing.
+use borrow.Author.Needs.{needs}
+use Rattle.fcs.specs.Fcs.{fcsOf}
+use Rattle.frame.proofs.Fcs.{covered-part, wrong-by}
+use denote.Ref.{now}
+use lib.Seq.{length-take-le}
+use mathlib.Core.Path.{sym, ap, _∙_}
+use native.Mathlib.Omega.{arith}
+use Rattle.frame.proofs.wrong_fcs.Statement.{statement}
+use Rattle.frame.proofs.wrong_fcs.Tie as tie
+
+fcs-place-requires : tie.Need-fcs-place-requires
+fcs-place-requires c κs = search needs
+
+slice-aggregate-check : tie.Need-slice-aggregate-check
+slice-aggregate-check c = sym (length-take-le (c .before .fcs-place .result) (now (c .before .before .before .args .f)) (omega arith))
+
+check-requires : tie.Need-check-requires
+check-requires c κs = search needs
+
+differs-requires : tie.Need-differs-requires
+differs-requires c κs = search needs
+
+returns : tie.Need-returns
+returns c =
+    let p = c .before .before .before in
+    let f = now (p .before .before .args .f) in
+    c .differs .ensures ∙ wrong-by f _ (c .before .check .ensures ∙ ap fcsOf (covered-part f _ (p .fcs-place .ensures)))
+
+pub wrong-fcs-spec : {M : Type 1} → statement M
+wrong-fcs-spec =
+    tie.close
+    (tie.spec fcs-place-requires slice-aggregate-check check-requires differs-requires returns)

@@ -1,0 +1,123 @@
+-- Rules 1 and 2, and the table of outcomes in the two steps that the code takes. Assumes nothing.
+use Prim.Native.Nat.{ℕ, _≤_, _<_}
+use native.Mathlib.Omega.{arith}
+use mathlib.Core.Path.{_≡_, refl, sym, ap, ap₂, _∙_}
+use mathlib.Core.Bool.{Bool, true, false, not, _||_, or-true}
+use mathlib.Core.List.{List, [], _∷_}
+use lib.ListN.{length, getD, take, drop, drop-of-length-le}
+use lib.Seq.{getD-take, ext-getD, length-take-le}
+use lib.Dec.{eqb, ltb}
+use borrow.Author.Tests.{lt-ltb, le-ltb, eq-eqb, ne-eqb}
+use Rattle.line.specs.Line.{preamble, terminate}
+use Rattle.line.specs.Octets.{sameOctets}
+use Rattle.line.specs.Table.{Table, otherwise, _∣_, _⇒_, first}
+use Rattle.line.proofs.Octets.{sameOctets-refl}
+use Rattle.line.proofs.Tables.{first-here, first-next, first-other}
+use Rattle.frame.proofs.Octets.{sameOctets-not}
+use Rattle.station.specs.declared.Settings.{Settings}
+use Rattle.station.specs.declared.Outcome.{Outcome}
+use Rattle.station.specs.declared.Outcome.the-variants.{Cut, BadPreamble, Undersized, Oversized, WrongFcs}
+use Rattle.station.specs.Numbers.{outcomeNumber}
+use Rattle.frame.specs.Frame.{undersized, oversized, wrongFcs}
+use Rattle.receive.specs.declared.Early.{Early}
+use Rattle.receive.specs.declared.Early.the-variants.{Decided, Framed}
+use Rattle.receive.specs.Outcomes.{cut, badPreamble, frameOf, outcomes, outcome}
+use Rattle.receive.specs.Steps.{earlyOutcomes, lateOutcomes}
+
+-- ---- rule 1
+
+pub cut-by : (by : ℕ) → (by ≡ terminate → ⊥) → cut by ≡ true
+unfolding cut
+cut-by by h = ap not (ne-eqb by terminate h)
+
+pub not-cut : (by : ℕ) → by ≡ terminate → cut by ≡ false
+unfolding cut
+not-cut by h = ap not (eq-eqb by terminate h)
+
+-- ---- rule 2
+
+pub preamble-short : (r : List ℕ) → length r < 7 → badPreamble r ≡ true
+unfolding badPreamble
+preamble-short r h = rw (lt-ltb (length r) 7 h)
+
+module _ (r right : List ℕ) (e : right ≡ preamble) (long : 7 ≤ length r) where
+  pub preamble-differs : (k : ℕ) → k < 7 → (getD r k 0 ≡ getD right k 0 → ⊥) → badPreamble r ≡ true
+  unfolding badPreamble
+  preamble-differs k h d =
+      ap (λ (b : Bool). ltb (length r) 7 || not b) (sameOctets-not (take 7 r) preamble (λ q. d (sym (getD-take 7 r k 0 h) ∙ ap (λ (l : List ℕ). getD l k 0) (q ∙ sym e))))
+      ∙ ap (λ (b : Bool). b || true) (le-ltb (length r) 7 long)
+
+  pub preamble-right : ((k : ℕ) → k < 7 → getD r k 0 ≡ getD right k 0) → badPreamble r ≡ false
+  unfolding badPreamble
+  preamble-right s =
+      let m : length (take 7 r) ≡ 7 = length-take-le 7 r long in
+      let seven : length preamble ≡ 7 = (unfold preamble in refl) in
+      let same : take 7 r ≡ preamble =
+      ext-getD 0 (take 7 r) preamble (m ∙ sym seven) (λ k lt. getD-take 7 r k 0 (omega arith) ∙ s k (omega arith) ∙ ap (λ (l : List ℕ). getD l k 0) e) in
+      ap₂ (λ (a : Bool) (l : List ℕ). a || not (sameOctets l preamble)) (le-ltb (length r) 7 long) same ∙ ap not (sameOctets-refl preamble)
+
+-- ---- the frame of a run
+
+pub frame-none : (r : List ℕ) → length r < 7 → frameOf r ≡ []
+unfolding frameOf
+frame-none r h = drop-of-length-le r {i = 7} (omega arith)
+
+-- ---- the table in two steps: e decides as t does, or leaves the rows of k
+
+record Agrees (e : Table Early) (t k : Table Outcome) : Type 0 where
+  decided : (o : Outcome) → first e ≡ Decided o → first t ≡ o
+  framed : first e ≡ Framed → first t ≡ first k
+
+agrees-end : (k : Table Outcome) → Agrees (otherwise Framed) k k
+agrees-end k =
+    record {
+      decided = λ o h. let z : Framed ≡ Decided o = sym (first-other Framed) ∙ h in let bad : _≡_ {A = ℕ} 0 1 = cc in absurd (omega arith);
+      framed = λ h. refl;
+    }
+
+agrees-row : (b : Bool) (o : Outcome) (e : Table Early) (t k : Table Outcome) → Agrees e t k → Agrees (b ⇒ Decided o ∣ e) (b ⇒ o ∣ t) k
+agrees-row true o e t k w =
+    record {
+      decided = λ p h. let z : Decided o ≡ Decided p = sym (first-here (Decided o) e refl) ∙ h in let q : o ≡ p = cc in first-here o t refl ∙ q;
+      framed = λ h. let z : Decided o ≡ Framed = sym (first-here (Decided o) e refl) ∙ h in let bad : _≡_ {A = ℕ} 0 1 = cc in absurd (omega arith);
+    }
+agrees-row false o e t k w =
+    record {
+      decided = λ p h. first-next o t refl ∙ w .decided p (sym (first-next (Decided o) e refl) ∙ h);
+      framed = λ h. first-next o t refl ∙ w .framed (sym (first-next (Decided o) e refl) ∙ h);
+    }
+
+module _ (s : Settings) (run : List ℕ) (by : ℕ) where
+  abbrev f : List ℕ
+  f = frameOf run
+
+  abbrev late : Table Outcome
+  late = wrongFcs f ⇒ WrongFcs ∣ lateOutcomes s f
+
+  agrees : Agrees (earlyOutcomes (s .limit) run by) (outcomes s run by f) late
+  unfolding earlyOutcomes outcomes lateOutcomes
+  agrees =
+      agrees-row (cut by) Cut _ _ late
+      (agrees-row (badPreamble run) BadPreamble _ _ late
+      (agrees-row (undersized f) Undersized _ _ late (agrees-row (oversized (s .limit) f) Oversized _ _ late (agrees-end late))))
+
+  pub outcome-decided : (o : Outcome) → first (earlyOutcomes (s .limit) run by) ≡ Decided o → outcome s run by ≡ o
+  unfolding outcome
+  outcome-decided o h = agrees .decided o h
+
+  pub outcome-wrong : first (earlyOutcomes (s .limit) run by) ≡ Framed → wrongFcs f ≡ true → outcome s run by ≡ WrongFcs
+  unfolding outcome
+  outcome-wrong h e = agrees .framed h ∙ first-here WrongFcs _ e
+
+  pub outcome-right : first (earlyOutcomes (s .limit) run by) ≡ Framed → wrongFcs f ≡ false → outcome s run by ≡ first (lateOutcomes s f)
+  unfolding outcome
+  outcome-right h e = agrees .framed h ∙ first-next WrongFcs _ e
+
+-- the table bears document 01's numbers, in order
+unfoldable pub numbersIn : Table Outcome → List ℕ
+numbersIn (otherwise o) = outcomeNumber o ∷ []
+numbersIn (r ∣ rows) = outcomeNumber (r .gives) ∷ numbersIn rows
+
+pub outcomes-in-order : (s : Settings) (run : List ℕ) (by : ℕ) (f : List ℕ) → numbersIn (outcomes s run by f) ≡ 1 ∷ 2 ∷ 3 ∷ 4 ∷ 5 ∷ 6 ∷ 7 ∷ 8 ∷ 9 ∷ 10 ∷ 11 ∷ []
+unfolding numbersIn outcomes
+outcomes-in-order s run by f = refl

@@ -1,0 +1,113 @@
+-- `receive::status` meets its contract: each arm computes the definition at its outcome. Assumes nothing.
+use denote.Ref.{now}
+use Prim.Native.Nat.{ℕ, _+_}
+use mathlib.Core.Path.{_≡_, ap₂}
+use native.Mathlib.Omega.{arith}
+use borrow.Author.Needs.{needs}
+use Rattle.receive.proofs.Words.{no-status}
+use Rattle.frame.proofs.Length.{handed-le}
+use Rattle.receive.specs.Status.{status}
+use Rattle.frame.proofs.Tags.{frameData-length}
+use Rattle.receive.proofs.status.Statement.{statement}
+use Rattle.receive.proofs.status.Tie as tie
+
+enum-told : tie.Need-enum-told
+enum-told c = search needs
+
+frame-bits-requires : tie.Need-frame-bits-requires
+frame-bits-requires c κs = search needs
+
+add-result : tie.Need-add-result
+add-result c = search needs
+
+data-length-requires : tie.Need-data-length-requires
+data-length-requires c κs = search needs
+
+add-result-2 : tie.Need-add-result-2
+add-result-2 c = search needs
+
+enum-told-2 : tie.Need-enum-told-2
+enum-told-2 c = search needs
+
+frame-bits-requires-2 : tie.Need-frame-bits-requires-2
+frame-bits-requires-2 c κs = search needs
+
+add-result-3 : tie.Need-add-result-3
+add-result-3 c = search needs
+
+data-length-requires-2 : tie.Need-data-length-requires-2
+data-length-requires-2 c κs = search needs
+
+add-result-4 : tie.Need-add-result-4
+add-result-4 c = search needs
+
+enum-told-3 : tie.Need-enum-told-3
+enum-told-3 c = search needs
+
+frame-bits-requires-3 : tie.Need-frame-bits-requires-3
+frame-bits-requires-3 c κs = search needs
+
+data-length-requires-3 : tie.Need-data-length-requires-3
+data-length-requires-3 c κs = search needs
+
+add-result-5 : tie.Need-add-result-5
+add-result-5 c = search needs
+
+enum-told-4 : tie.Need-enum-told-4
+enum-told-4 c = search needs
+
+frame-bits-requires-4 : tie.Need-frame-bits-requires-4
+frame-bits-requires-4 c κs = search needs
+
+handed-length-requires : tie.Need-handed-length-requires
+handed-length-requires c κs = search needs
+
+add-result-6 : tie.Need-add-result-6
+add-result-6 c = let a = c .before .before .before .before .before .args in omega (arith, handed-le (now (a .f)) (a .s .checking), frameData-length (now (a .f)))
+
+returns : tie.Need-returns
+unfolding status
+returns c = rw (c .before .before .enum-told .given .1) (ap₂ (λ (a b : ℕ). 34359738368 + a + b) (c .before .frame-bits .ensures .0) (c .data-length .ensures .0))
+
+returns-2 : tie.Need-returns-2
+unfolding status
+returns-2 c = rw (c .before .before .enum-told2 .given .1) (ap₂ (λ (a b : ℕ). 549755813888 + a + b) (c .before .frame-bits2 .ensures .0) (c .data-length2 .ensures .0))
+
+returns-3 : tie.Need-returns-3
+unfolding status
+returns-3 c = rw (c .before .before .enum-told3 .given .1) (ap₂ (λ (a b : ℕ). a + b) (c .before .frame-bits3 .ensures .0) (c .data-length3 .ensures .0))
+
+returns-4 : tie.Need-returns-4
+unfolding status
+returns-4 c = rw (c .before .before .enum-told4 .given .1) (ap₂ (λ (a b : ℕ). a + b) (c .before .frame-bits4 .ensures .0) (c .handed-length .ensures))
+
+returns-5 : tie.Need-returns-5
+returns-5 c = let a = c .before .before .args in no-status (a .s) (a .o) (now (a .f)) (c .match .keys5)
+
+pub status-spec : {M : Type 1} → statement M
+status-spec =
+    tie.close
+    (tie.spec
+    enum-told
+    frame-bits-requires
+    add-result
+    data-length-requires
+    add-result-2
+    enum-told-2
+    frame-bits-requires-2
+    add-result-3
+    data-length-requires-2
+    add-result-4
+    enum-told-3
+    frame-bits-requires-3
+    data-length-requires-3
+    add-result-5
+    enum-told-4
+    frame-bits-requires-4
+    handed-length-requires
+    add-result-6
+    returns
+    returns-2
+    returns-3
+    returns-4
+    returns-5)

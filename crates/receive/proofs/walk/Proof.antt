@@ -1,0 +1,55 @@
+-- `receive::walk` meets its contract. Assumes nothing.
+use mathlib.Core.Bool.{false≢true}
+use mathlib.Core.Path.{_≡_, sym, _∙_}
+use denote.Ref.{now}
+use borrow.Author.Needs.{needs}
+use Rattle.line.specs.Table.{first}
+use Rattle.receive.specs.Reading.{readRefusals}
+use Rattle.station.specs.declared.Checked.the-variants.{Fine}
+use Rattle.receive.proofs.Walks.{walked-refused}
+use Rattle.receive.proofs.walk.Statement.{statement}
+use Rattle.receive.proofs.walk.Tie as tie
+
+fine : (c : tie.After-enum-told) → let a = c .before .before .before .before .before .args in first (readRefusals (a .s) (now (a .octets)) (now (a .marks)) 0) ≡ Fine
+fine c = sym (c .before .before .check-read .ensures) ∙ c .enum-told .given .1
+
+check-read-requires : tie.Need-check-read-requires
+check-read-requires c κs = search needs
+
+enum-known-checked : tie.Need-enum-known-checked
+enum-known-checked c = search needs
+
+returns : tie.Need-returns
+returns c = sym (walked-refused _ _ _ _ _ (sym (c .before .before .before .check-read .ensures) ∙ c .before .checked .given .1))
+
+enum-told : tie.Need-enum-told
+enum-told c = search needs
+
+walk-on-requires : tie.Need-walk-on-requires
+walk-on-requires c κs = ((λ h. absurd (false≢true h)), fine (c .before .before))
+
+returns-2 : tie.Need-returns-2
+returns-2 c = search needs
+
+tables-requires : tie.Need-tables-requires
+tables-requires c κs = search needs
+
+walk-on-requires-2 : tie.Need-walk-on-requires-2
+walk-on-requires-2 c κs = ((λ h. c .before .tables .ensures), fine (c .before .before .before))
+
+returns-3 : tie.Need-returns-3
+returns-3 c = search needs
+
+pub walk-spec : {M : Type 1} → statement M
+walk-spec =
+    tie.close
+    (tie.spec
+    check-read-requires
+    enum-known-checked
+    returns
+    enum-told
+    walk-on-requires
+    returns-2
+    tables-requires
+    walk-on-requires-2
+    returns-3)
