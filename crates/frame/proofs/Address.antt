@@ -8,29 +8,25 @@ use mathlib.Core.List.{List, map}
 use lib.ListN.{length, getD, take, drop, length-take, length-map, drop-of-length-le}
 use lib.Seq.{getD-take, ext-getD, length-take-le, take-all, drop-cons}
 use Rattle.line.specs.Octets.{sameOctets}
-use Rattle.line.proofs.Octets.{sameOctets-refl}
+use Rattle.line.proofs.Octets.{front-short, front-differs, front-same}
 use Rattle.station.specs.declared.Address.{Address}
 use Rattle.station.specs.declared.Settings.{Settings}
 use Rattle.frame.specs.Frame.{destination}
 use Rattle.frame.specs.Address.{broadcastAddress, among, accepts}
-use Rattle.frame.proofs.Octets.{sameOctets-not}
 
 -- ---- one address: in which order its octets are compared does not matter
 module _ (f a : List ℕ) where
   pub to-short : length f < 6 → length a ≡ 6 → sameOctets (destination f) a ≡ false
   unfolding destination
-  to-short h n = sameOctets-not (take 6 f) a (λ e. omega (arith, ap length e, ap length (take-all 6 f (omega arith))))
+  to-short h n = front-short 6 f a h n
 
   pub to-differs : (k : ℕ) → k < 6 → (getD f k 0 ≡ getD a k 0 → ⊥) → sameOctets (destination f) a ≡ false
   unfolding destination
-  to-differs k h d = sameOctets-not (take 6 f) a (λ e. d (sym (getD-take 6 f k 0 h) ∙ ap (λ (l : List ℕ). getD l k 0) e))
+  to-differs k h d = front-differs 6 f a k h d
 
   pub to-same : 6 ≤ length f → length a ≡ 6 → ((k : ℕ) → k < 6 → getD f k 0 ≡ getD a k 0) → sameOctets (destination f) a ≡ true
   unfolding destination
-  to-same h n s =
-      let m : length (take 6 f) ≡ 6 = length-take-le 6 f h in
-      let e : take 6 f ≡ a = ext-getD 0 (take 6 f) a (m ∙ sym n) (λ k lt. getD-take 6 f k 0 (omega arith) ∙ s k (omega arith)) in
-      rw e (sameOctets-refl a)
+  to-same h n s = front-same 6 f a h n s
 
 -- ---- the first n of a list of addresses, from place k on
 module _ (d : List ℕ) (l : List Address) (n k : ℕ) (z : Address) (h : k < length (take n l)) where

@@ -14,7 +14,7 @@ use Rattle.line.proofs.Octets.{sameOctets-refl}
 use Rattle.fcs.specs.Fcs.{fcsOf, fcsOctets}
 use Rattle.fcs.proofs.Laws.{fcs-is}
 use Rattle.frame.specs.Frame.{covered, lastFour, wrongFcs}
-use Rattle.frame.proofs.Octets.{same-test, sameOctets-eq, sameOctets-not}
+use Rattle.line.proofs.Octets.{same-test, sameOctets-eq, sameOctets-not}
 
 -- four octets as one number, the first lowest
 abbrev lowFirst : ℕ → ℕ → ℕ → ℕ → ℕ

@@ -8,7 +8,7 @@ use lib.ListN.{length, drop, length-take, length-drop}
 use Rattle.line.specs.Octets.{highFirstAt, between}
 use Rattle.frame.specs.Tags.{isTagKind, mostTags, tagRun, tagCount}
 use Rattle.frame.specs.Frame.{firstField, fieldPlace, dataPlace, frameData}
-use Rattle.frame.proofs.Octets.{highFirst-drop}
+use Rattle.line.proofs.Octets.{highFirst-drop}
 
 -- what the first field says of the tags
 pub tagged : (f : List ℕ) → isTagKind (firstField f) ≡ true → tagCount f ≡ 1

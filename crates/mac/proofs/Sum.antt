@@ -8,7 +8,7 @@ use mathlib.Core.Bool.{Bool, true, false, cond}
 use mathlib.Core.List.{List, [], _∷_}
 use lib.ListN.{length, getD, set, length-set}
 use lib.Seq.{getD-set-same, getD-set-other}
-use lib.Dec.{eqb, lit<}
+use lib.Dec.{eqb}
 use borrow.Author.Tests.{eqb-true, eqb-false}
 use Rattle.line.specs.Line.{Symbol, capture, AfterStart, unended, ended, MetStart, metStarts, startCount}
 use Rattle.line.proofs.Symbols.{by-test}
@@ -16,9 +16,9 @@ use Rattle.line.proofs.Starts.{met-starts}
 use Rattle.station.specs.declared.Settings.{Settings}
 use Rattle.station.specs.declared.State.{State}
 use Rattle.station.specs.declared.Outcome.{Outcome}
-use Rattle.station.specs.declared.Outcome.the-variants.{Cut, BadPreamble, Undersized, Oversized, WrongFcs, WrongLength, Filtered, PauseTaken, PfcTaken, ControlDropped, HandedOut}
 use Rattle.station.specs.Numbers.{outcomeNumber}
 use Rattle.station.specs.Station.{counterSize, counter, counted, total}
+use Rattle.station.proofs.Counters.{row}
 use Rattle.receive.specs.declared.Reading.{Reading}
 use Rattle.receive.specs.declared.Walked.{Walked}
 use Rattle.receive.specs.declared.Walked.the-variants.{Ended}
@@ -40,19 +40,6 @@ chain : (w c a z one rest : ℕ) → a % w ≡ (c + one) % w → z % w ≡ (a + 
 chain w c a z one rest p q = q ∙ more w a (c + one) rest p ∙ ap (λ (x : ℕ). x % w) (let e : c + one + rest ≡ c + (one + rest) = omega arith in e)
 
 -- ---- one counter
-
-row : (o : Outcome) → (0 < outcomeNumber o) × (outcomeNumber o - 1 < 11)
-row Cut = (lit< tt, lit< tt)
-row BadPreamble = (lit< tt, lit< tt)
-row Undersized = (lit< tt, lit< tt)
-row Oversized = (lit< tt, lit< tt)
-row WrongFcs = (lit< tt, lit< tt)
-row WrongLength = (lit< tt, lit< tt)
-row Filtered = (lit< tt, lit< tt)
-row PauseTaken = (lit< tt, lit< tt)
-row PfcTaken = (lit< tt, lit< tt)
-row ControlDropped = (lit< tt, lit< tt)
-row HandedOut = (lit< tt, lit< tt)
 
 total-set : (cs : List ℕ) (i : ℕ) → i < length cs → total (set cs i ((getD cs i 0 + 1) % counterSize)) % counterSize ≡ (total cs + 1) % counterSize
 unfolding total

@@ -5,15 +5,13 @@ use mathlib.Core.Path.{_≡_, refl, sym, ap, ap₂, _∙_}
 use mathlib.Core.Bool.{Bool, true, false, not, _||_, or-true}
 use mathlib.Core.List.{List, [], _∷_}
 use lib.ListN.{length, getD, take, drop, drop-of-length-le}
-use lib.Seq.{getD-take, ext-getD, length-take-le}
 use lib.Dec.{eqb, ltb}
 use borrow.Author.Tests.{lt-ltb, le-ltb, eq-eqb, ne-eqb}
 use Rattle.line.specs.Line.{preamble, terminate}
 use Rattle.line.specs.Octets.{sameOctets}
 use Rattle.line.specs.Table.{Table, otherwise, _∣_, _⇒_, first}
-use Rattle.line.proofs.Octets.{sameOctets-refl}
+use Rattle.line.proofs.Octets.{front-differs, front-same}
 use Rattle.line.proofs.Tables.{first-here, first-next, first-other}
-use Rattle.frame.proofs.Octets.{sameOctets-not}
 use Rattle.station.specs.declared.Settings.{Settings}
 use Rattle.station.specs.declared.Outcome.{Outcome}
 use Rattle.station.specs.declared.Outcome.the-variants.{Cut, BadPreamble, Undersized, Oversized, WrongFcs}
@@ -44,17 +42,14 @@ module _ (r right : List ℕ) (e : right ≡ preamble) (long : 7 ≤ length r) w
   pub preamble-differs : (k : ℕ) → k < 7 → (getD r k 0 ≡ getD right k 0 → ⊥) → badPreamble r ≡ true
   unfolding badPreamble
   preamble-differs k h d =
-      ap (λ (b : Bool). ltb (length r) 7 || not b) (sameOctets-not (take 7 r) preamble (λ q. d (sym (getD-take 7 r k 0 h) ∙ ap (λ (l : List ℕ). getD l k 0) (q ∙ sym e))))
-      ∙ ap (λ (b : Bool). b || true) (le-ltb (length r) 7 long)
+      ap₂ (λ (a b : Bool). a || not b) (le-ltb (length r) 7 long)
+      (front-differs 7 r preamble k h (λ q. d (q ∙ ap (λ (l : List ℕ). getD l k 0) (sym e))))
 
   pub preamble-right : ((k : ℕ) → k < 7 → getD r k 0 ≡ getD right k 0) → badPreamble r ≡ false
   unfolding badPreamble
   preamble-right s =
-      let m : length (take 7 r) ≡ 7 = length-take-le 7 r long in
-      let seven : length preamble ≡ 7 = (unfold preamble in refl) in
-      let same : take 7 r ≡ preamble =
-      ext-getD 0 (take 7 r) preamble (m ∙ sym seven) (λ k lt. getD-take 7 r k 0 (omega arith) ∙ s k (omega arith) ∙ ap (λ (l : List ℕ). getD l k 0) e) in
-      ap₂ (λ (a : Bool) (l : List ℕ). a || not (sameOctets l preamble)) (le-ltb (length r) 7 long) same ∙ ap not (sameOctets-refl preamble)
+      ap₂ (λ (a b : Bool). a || not b) (le-ltb (length r) 7 long)
+      (front-same 7 r preamble long (unfold preamble in refl) (λ k h. s k h ∙ ap (λ (l : List ℕ). getD l k 0) e))
 
 -- ---- the frame of a run
 

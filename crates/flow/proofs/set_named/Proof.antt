@@ -19,11 +19,11 @@ Inv-loop f timers₀ classes₀ k₀ timers classes k =
 abbrev μ-loop : tie.MeasureT-loop
 μ-loop f timers₀ classes₀ k₀ timers classes k = 8 - k
 
-class-octet-requires : tie.Need-class-octet-requires Inv-loop μ-loop
-class-octet-requires c κs = search needs
+octet-requires : tie.Need-octet-requires Inv-loop μ-loop
+octet-requires c κs = search needs
 
 loop-holds : tie.Need-loop-holds Inv-loop μ-loop
-loop-holds c = (search needs, search needs, omega (arith, c .class-octet .ensures), rest-begin _ _)
+loop-holds c = (search needs, search needs, omega (arith, c .octet .ensures), rest-begin _ _)
 
 mul-high-first : tie.Need-mul-high-first Inv-loop μ-loop
 mul-high-first c = search needs
@@ -85,7 +85,7 @@ set-named-spec =
     (tie.spec
     Inv-loop
     μ-loop
-    class-octet-requires
+    octet-requires
     loop-holds
     mul-high-first
     add-high-first

@@ -1,6 +1,6 @@
 -- `frame::high_first` meets its contract. Assumes nothing.
 use borrow.Author.Needs.{needs}
-use Rattle.frame.proofs.Octets.{highFirst-end}
+use Rattle.line.proofs.Octets.{highFirst-end}
 use Rattle.line.specs.Octets.{highFirstAt}
 use mathlib.Core.Path.{sym}
 use Rattle.frame.proofs.high_first.Statement.{statement}
