@@ -1,0 +1,58 @@
+-- Laws of `Put`, for a writer that writes one piece after the other. Assumes nothing.
+use Prim.Native.Nat.{ℕ, suc, _+_}
+use mathlib.Core.Path.{_≡_, sym, ap, _∙_}
+use mathlib.Core.List.{List, [], _∷_, _++_}
+use native.Mathlib.Nat.{add-zero}
+use native.Mathlib.Omega.{arith}
+use lib.ListN.{length, set, length-append}
+use lib.Seq.{sets}
+use Rattle.lines.specs.Put.{Put}
+
+-- two writes, the second where the first ended, are one write
+pub sets-sets : (l : List ℕ) (i : ℕ) (a b : List ℕ) → sets (sets l i a) (i + length a) b ≡ sets l i (a ++ b)
+sets-sets l i [] b = rw add-zero
+sets-sets l i (x ∷ a) b =
+    let e : i + suc (length a) ≡ suc i + length a = omega arith in
+    rw e (sets-sets (set l i x) (suc i) a b)
+
+-- one store more, behind n that were written: the turn of a loop that writes
+pub sets-more : (l : List ℕ) (i : ℕ) (a : List ℕ) (n x : ℕ) → length a ≡ n → set (sets l i a) (i + n) x ≡ sets l i (a ++ (x ∷ []))
+sets-more l i a n x e = rw (← e) (sets-sets l i a (x ∷ []))
+
+-- a write, and then one from where it ended
+infixl 4 _⨾_
+pub _⨾_ : {l m n a b : List ℕ} {i j k : ℕ} → Put l i a j m → Put m j b k n → Put l i (a ++ b) k n
+_⨾_ {l} {m} {n} {a} {b} {i} {j} {k} p q =
+    record {
+      goes = rw length-append (omega arith);
+      holds = q .holds ∙ rw (p .holds, p .goes) (sets-sets l i a b);
+    }
+
+-- what was written, said by an equal list
+pub put-as : {l m a b : List ℕ} {i j : ℕ} → a ≡ b → Put l i a j m → Put l i b j m
+put-as e p = rw (← e) p
+
+-- ---- a writer that has `rest` still to write, from `at` on, so that `old` holds `whole` from its start on
+
+pub record Rest (old whole : List ℕ) (held : List ℕ) (at : ℕ) (rest : List ℕ) : Type 0 where
+  pub goes : at + length rest ≡ length whole
+  pub holds : sets held at rest ≡ sets old 0 whole
+
+-- a piece more
+pub rest-more : {old whole held held′ rest rest′ a : List ℕ} {at at′ : ℕ} → Rest old whole held at rest → Put held at a at′ held′ → rest ≡ a ++ rest′
+    → Rest old whole held′ at′ rest′
+rest-more {old} {whole} {held} {held′} {rest} {rest′} {a} {at} {at′} p q e =
+    let n = ap length e ∙ length-append a rest′ in
+    record {
+      goes = omega (arith, p .goes, q .goes);
+      holds = rw (q .holds, q .goes) (sets-sets held at a rest′) ∙ ap (sets held at) (sym e) ∙ p .holds;
+    }
+
+-- the last piece
+pub rest-last : {old whole held held′ rest a : List ℕ} {at at′ : ℕ} → Rest old whole held at rest → Put held at a at′ held′ → rest ≡ a → Put old 0 whole at′ held′
+rest-last {old} {whole} {held} {held′} {rest} {a} {at} {at′} p q e =
+    let n = ap length e in
+    record {
+      goes = omega (arith, p .goes, q .goes);
+      holds = q .holds ∙ ap (sets held at) (sym e) ∙ p .holds;
+    }

@@ -1,0 +1,152 @@
+use Rattle.lines.proofs.put_lines.Statement.{statement}
+use Rattle.lines.proofs.put_lines.Tie as tie
+use Rattle.lines.proofs.put_lines.Reads as reads
+use Rattle.lines.proofs.put_lines.Lts as lts
+use Rattle.lines.proofs.put_counted.Reads as put-counted-reads
+use Rattle.lines.proofs.put_last.Reads as put-last-reads
+use Rattle.lines.proofs.settings.Reads as settings-reads
+use Rattle.receive.proofs.read.Reads as read-reads
+use Rattle.station.proofs.fresh_state.Reads as fresh-state-reads
+
+abbrev Inv-loop : tie.InvT-loop
+Inv-loop octets marks out₀ s st₀ place₀ n₀ at₀ left₀ out st place n at left = ?
+
+abbrev μ-loop : tie.MeasureT-loop
+μ-loop octets marks out₀ s st₀ place₀ n₀ at₀ left₀ out st place n at left = ?
+
+-- src/lib.rt:118:9
+settings-requires : tie.Need-settings-requires Inv-loop μ-loop
+settings-requires c κs = ?
+
+-- src/lib.rt:119:9
+fresh-state-requires : tie.Need-fresh-state-requires Inv-loop μ-loop
+fresh-state-requires c κs = ?
+
+-- src/lib.rt:123:20
+add-left : tie.Need-add-left Inv-loop μ-loop
+add-left c = ?
+
+-- src/lib.rt:124:5
+loop-holds : tie.Need-loop-holds Inv-loop μ-loop
+loop-holds c = ?
+
+-- src/lib.rt:125:13
+read-requires : tie.Need-read-requires Inv-loop μ-loop
+read-requires c κs = ?
+
+-- src/lib.rt:128:51
+enum-told : tie.Need-enum-told Inv-loop μ-loop
+enum-told c = ?
+
+-- src/lib.rt:128:35
+put-last-requires : tie.Need-put-last-requires Inv-loop μ-loop
+put-last-requires c κs = ?
+
+-- src/lib.rt:128:35
+same-length : tie.Need-same-length Inv-loop μ-loop
+same-length c = ?
+
+-- src/lib.rt:128:35
+returns : tie.Need-returns Inv-loop μ-loop
+returns c = ?
+
+-- src/lib.rt:129:48
+enum-told-2 : tie.Need-enum-told-2 Inv-loop μ-loop
+enum-told-2 c = ?
+
+-- src/lib.rt:129:32
+put-last-requires-2 : tie.Need-put-last-requires-2 Inv-loop μ-loop
+put-last-requires-2 c κs = ?
+
+-- src/lib.rt:129:32
+same-length-2 : tie.Need-same-length-2 Inv-loop μ-loop
+same-length-2 c = ?
+
+-- src/lib.rt:129:32
+returns-2 : tie.Need-returns-2 Inv-loop μ-loop
+returns-2 c = ?
+
+-- src/lib.rt:130:45
+enum-told-3 : tie.Need-enum-told-3 Inv-loop μ-loop
+enum-told-3 c = ?
+
+-- src/lib.rt:130:29
+put-last-requires-3 : tie.Need-put-last-requires-3 Inv-loop μ-loop
+put-last-requires-3 c κs = ?
+
+-- src/lib.rt:130:29
+same-length-3 : tie.Need-same-length-3 Inv-loop μ-loop
+same-length-3 c = ?
+
+-- src/lib.rt:130:29
+returns-3 : tie.Need-returns-3 Inv-loop μ-loop
+returns-3 c = ?
+
+-- src/lib.rt:131:29
+enum-known-a : tie.Need-enum-known-a Inv-loop μ-loop
+enum-known-a c = ?
+
+-- src/lib.rt:132:17
+put-counted-requires : tie.Need-put-counted-requires Inv-loop μ-loop
+put-counted-requires c κs = ?
+
+-- src/lib.rt:135:9
+add-n : tie.Need-add-n Inv-loop μ-loop
+add-n c = ?
+
+-- src/lib.rt:138:9
+sub-left : tie.Need-sub-left Inv-loop μ-loop
+sub-left c = ?
+
+-- src/lib.rt:124:5
+loop-less : tie.Need-loop-less Inv-loop μ-loop
+loop-less c = ?
+
+-- src/lib.rt:124:5
+loop-again : tie.Need-loop-again Inv-loop μ-loop
+loop-again c = ?
+
+-- src/lib.rt:140:5
+put-last-requires-4 : tie.Need-put-last-requires-4 Inv-loop μ-loop
+put-last-requires-4 c κs = ?
+
+-- src/lib.rt:113:1
+same-length-4 : tie.Need-same-length-4 Inv-loop μ-loop
+same-length-4 c = ?
+
+-- src/lib.rt:113:1
+returns-4 : tie.Need-returns-4 Inv-loop μ-loop
+returns-4 c = ?
+
+pub put-lines-spec : {M : Type 1} → statement M
+put-lines-spec =
+    tie.close
+    (tie.spec
+    Inv-loop
+    μ-loop
+    settings-requires
+    fresh-state-requires
+    add-left
+    loop-holds
+    read-requires
+    enum-told
+    put-last-requires
+    same-length
+    returns
+    enum-told-2
+    put-last-requires-2
+    same-length-2
+    returns-2
+    enum-told-3
+    put-last-requires-3
+    same-length-3
+    returns-3
+    enum-known-a
+    put-counted-requires
+    add-n
+    sub-left
+    loop-less
+    loop-again
+    put-last-requires-4
+    same-length-4
+    returns-4)

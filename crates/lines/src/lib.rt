@@ -1,0 +1,141 @@
+// What the printing program prints (document 01, "The printing program"). Meaning: specs/.
+use receive::Answer;
+use station::Address;
+use station::Flow;
+use station::Outcome;
+use station::Settings;
+ghost use mathlib.Core.Path.{_≡_};
+ghost use mathlib.Core.List.{[], _∷_};
+ghost use Prim.Native.Nat.{_+_, _*_, _/_, _≤_};
+ghost use lib.ListN.{length, take};
+ghost use Rattle.station.specs.Numbers.{outcomeNumber};
+ghost use Rattle.lines.specs.Decimal.{decimal};
+ghost use Rattle.lines.specs.Lines.{programSettings, followed, fourNumbers, lastLine, captureLines, badInput, printed, recordOctets, recordMarks};
+ghost use Rattle.lines.specs.Put.{Put};
+
+// ---- writers: each gives the place behind what it wrote
+
+fn put_octet(out: &mut [u8], at: usize, v: u8) -> usize
+    requires { ⌜ at + 1 ≤ length (now out) ⌝ }
+    ensures { λ r. ⌜ Put (now (out .entry)) at (v ∷ []) r (now (out .exit)) ⌝ }
+{
+    out[at] = v;
+    at + 1
+}
+
+fn put_word(out: &mut [u8], at: usize, src: &[u8]) -> usize
+    requires { ⌜ at + length (now src) ≤ length (now out) ⌝ }
+    ensures { λ r. ⌜ Put (now (out .entry)) at (now (src .entry)) r (now (out .exit)) ⌝ }
+{
+    let mut j: usize = 0;
+    while j < src.len() {
+        out[at + j] = src[j];
+        j += 1;
+    }
+    at + j
+}
+
+// The digits of n: those of its tenth, and the last one.
+fn put_decimal(out: &mut [u8], at: usize, n: u64) -> usize
+    requires { ⌜ at + length (decimal n) ≤ length (now out) ⌝ }
+    ensures { λ r. ⌜ Put (now (out .entry)) at (decimal n) r (now (out .exit)) ⌝ }
+{
+    if n < 10 {
+        return put_octet(out, at, 48 + (n as u8));
+    }
+    let a = put_decimal(out, at, n / 10);
+    put_octet(out, a, 48 + ((n % 10) as u8))
+}
+
+// A number and the octet after it: 21 octets at most.
+fn put_followed(out: &mut [u8], at: usize, n: u64, v: u8) -> usize
+    requires { ⌜ at + 21 ≤ length (now out) ⌝ }
+    ensures { λ r. ⌜ Put (now (out .entry)) at (followed n v) r (now (out .exit)) ⌝ }
+    ensures { λ r. ⌜ r ≤ at + 21 ⌝ }
+{
+    let a = put_decimal(out, at, n);
+    put_octet(out, a, v)
+}
+
+// A line: 84 octets at most.
+fn put_line(out: &mut [u8], at: usize, a: u64, b: u64, c: u64, d: u64) -> usize
+    requires { ⌜ at + 84 ≤ length (now out) ⌝ }
+    ensures { λ r. ⌜ Put (now (out .entry)) at (fourNumbers a b c d) r (now (out .exit)) ⌝ }
+    ensures { λ r. ⌜ r ≤ at + 84 ⌝ }
+{
+    let i = put_followed(out, at, a, 32);
+    let j = put_followed(out, i, b, 32);
+    let k = put_followed(out, j, c, 32);
+    put_followed(out, k, d, 10)
+}
+
+fn put_last(out: &mut [u8], at: usize, n: u64, opened: u64) -> usize
+    requires { ⌜ at + 84 ≤ length (now out) ⌝ }
+    ensures { λ r. ⌜ Put (now (out .entry)) at (lastLine n opened) r (now (out .exit)) ⌝ }
+    ensures { λ r. ⌜ r ≤ at + 84 ⌝ }
+{
+    let i = put_word(out, at, b"starts ");
+    let j = put_followed(out, i, n, 32);
+    let k = put_word(out, j, b"open ");
+    put_followed(out, k, opened, 10)
+}
+
+// ---- the lines of a capture
+
+fn settings() -> Settings
+    ensures { λ r. ⌜ r ≡ programSettings ⌝ }
+{
+    let nobody = Address([0, 0, 0, 0, 0, 0]);
+    Settings {
+        own: Address([2, 0, 0, 0, 0, 1]),
+        listed: [nobody, nobody, nobody, nobody],
+        count: 0,
+        broadcast: true,
+        promiscuous: false,
+        checking: true,
+        limit: 1518,
+        flow: Flow::Off,
+        passing: false,
+    }
+}
+
+// The line of a Start that was counted.
+fn put_counted(out: &mut [u8], at: usize, start: usize, o: Outcome, word: u64, len: usize) -> usize
+    requires { ⌜ at + 84 ≤ length (now out) ⌝ }
+    ensures { λ r. ⌜ Put (now (out .entry)) at (fourNumbers start (outcomeNumber o) word len) r (now (out .exit)) ⌝ }
+    ensures { λ r. ⌜ r ≤ at + 84 ⌝ }
+{
+    let k = station::outcome_number(o);
+    put_line(out, at, start as u64, k as u64, word, len as u64)
+}
+
+// All lines: a reading after the other, each at the next place of the one before.
+fn put_lines(octets: &[u8], marks: &[u8], out: &mut [u8]) -> usize
+    requires { ⌜ 84 * (length (now octets) + 2) ≤ length (now out) ⌝ }
+    ensures { λ r. ⌜ Put (now (out .entry)) 0 (captureLines (now (octets .entry)) (now (marks .entry))) r (now (out .exit)) ⌝ }
+    ensures { λ r. ⌜ r ≤ length (now (out .entry)) ⌝ }
+{
+    let s = settings();
+    let mut st = station::fresh_state();
+    let mut place: usize = 0;
+    let mut n: u64 = 0;
+    let mut at: usize = 0;
+    let mut left = octets.len() + 1;
+    while 0 < left {
+        let r = receive::read(s, st, octets, marks, place);
+        let a = r.answer;
+        match a {
+            Answer::Refused(_) => return put_last(out, at, n, 0),
+            Answer::Nothing => return put_last(out, at, n, 0),
+            Answer::Open => return put_last(out, at, n, 1),
+            Answer::Counted(o, word, part) => {
+                at = put_counted(out, at, r.start, o, word, part.len);
+            }
+        }
+        n += 1;
+        st = r.state;
+        place = r.next;
+        left -= 1;
+    }
+    put_last(out, at, n, 0)
+}
