@@ -1,2 +1,5 @@
+pub mod Calls
+pub mod Pieces
 pub mod Refusals
+pub mod Sizes
 pub mod TagLaws

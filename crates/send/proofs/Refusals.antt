@@ -1,32 +1,115 @@
--- What a client call that is not refused knows. Assumes nothing.
-use Prim.Native.Nat.{ℕ, _+_, _-_, _≤_}
+-- The tables of refusals row by row: what a call that is not refused knows, and how the code's tests are the rows'. Assumes nothing.
+use Prim.Native.Nat.{ℕ, zero, suc, _+_, _-_, _≤_}
 use native.Mathlib.Omega.{arith}
-use mathlib.Core.Path.{_≡_}
-use mathlib.Core.Bool.{false, not}
+use mathlib.Core.Path.{_≡_, sym, ap, _∙_}
+use mathlib.Core.Bool.{Bool, true, false, not, _||_}
 use mathlib.Core.List.{List}
 use lib.ListN.{length}
 use lib.Dec.{eqb, ltb}
 use borrow.Author.Tests.{eqb-true, ltb-false}
+use Rattle.line.specs.Line.{Symbol}
+use Rattle.line.specs.Table.{Table, otherwise, _⇒_, _∣_, first}
+use Rattle.line.proofs.Tables.{first-here, first-next}
 use Rattle.station.specs.declared.Settings.{Settings}
 use Rattle.station.specs.declared.State.{State}
-use Rattle.station.specs.declared.Refusal.the-variants.{BadSettings, BadBuffers, BadPlace, BadClass, BadType, LongData, NoRoom, Held}
-use Rattle.station.specs.declared.Checked.the-variants.{Fine}
-use Rattle.station.specs.Station.{badBuffers, badPlace}
+use Rattle.station.specs.declared.Refusal.{Refusal}
+use Rattle.station.specs.declared.Refusal.the-variants.{BadSettings, BadBuffers, BadPlace, OtherFlow, BadClass, BadType, LongData, NoRoom}
+use Rattle.station.specs.declared.Checked.{Checked}
+use Rattle.station.specs.declared.Checked.the-variants.{Fine, Refused}
+use Rattle.station.specs.Station.{isGroup, badSettings, badBuffers, badPlace}
 use Rattle.station.proofs.Refusals.{fine-row, or-false, not-false}
 use Rattle.send.specs.declared.Client.{Client}
-use Rattle.send.specs.Frames.{clientSymbols}
-use Rattle.send.specs.Sending.{badType, longData, noRoom, clientRefusals, clientChecked}
+use Rattle.send.specs.declared.Form.{Form}
+use Rattle.send.specs.declared.Form.the-variants.{ByLength, ByType}
+use Rattle.send.specs.Frames.{clientSymbols, idleSymbols}
+use Rattle.send.specs.Sending.{badClass, badType, longData, noRoom, clientRefusals, controlRefusals, idleRefusals, clientChecked, idleChecked}
 
-pub record Passed (s : Settings) (os ms : List ℕ) (place : ℕ) (c : Client) (d : List ℕ) : Type 0 where
+-- ---- a table whose first n rows do not hold, and its next row, whose test the code answered by r
+
+-- a table without its first n rows
+abbrev pub after : ℕ → Table Checked → Table Checked
+after zero t = t
+after (suc n) (otherwise a) = otherwise a
+after (suc n) (r ∣ rows) = after n rows
+
+pub row-holds : {a : Checked} {b r : Bool} (x : Refusal) (rows : Table Checked) → a ≡ first (b ⇒ Refused x ∣ rows) → r ≡ b → r ≡ true → Refused x ≡ a
+row-holds x rows h e was = sym (h ∙ first-here (Refused x) rows (sym e ∙ was))
+
+pub row-passed : {a : Checked} {b r : Bool} (x : Refusal) (rows : Table Checked) → a ≡ first (b ⇒ Refused x ∣ rows) → r ≡ b → r ≡ false → a ≡ first rows
+row-passed x rows h e was = h ∙ first-next (Refused x) rows (sym e ∙ was)
+
+-- ---- what a row that does not hold tells
+
+pub limit-from : (s : Settings) → badSettings s ≡ false → (1518 ≤ s .limit) × (s .limit ≤ 9618)
+unfolding badSettings
+limit-from s h =
+    let high = or-false (isGroup (s .own .0) || ltb 4 (s .count) || ltb (s .limit) 1518) (ltb 9618 (s .limit)) h in
+    let low = or-false (isGroup (s .own .0) || ltb 4 (s .count)) (ltb (s .limit) 1518) (high .0) in
+    (ltb-false (s .limit) 1518 (low .1), ltb-false 9618 (s .limit) (high .1))
+
+pub same-length : (os ms : List ℕ) → badBuffers os ms ≡ false → (length os ≡ length ms) × (length os ≤ 65536)
+unfolding badBuffers
+same-length os ms h =
+    let both = or-false (not (eqb (length os) (length ms))) (ltb 65536 (length os)) h in
+    (eqb-true (length os) (length ms) (not-false (eqb (length os) (length ms)) (both .0)), ltb-false 65536 (length os) (both .1))
+
+pub inside : (os : List ℕ) (place : ℕ) → badPlace os place ≡ false → place ≤ length os
+unfolding badPlace
+inside os place h = ltb-false (length os) place h
+
+pub class-to-7 : (c : Client) → badClass c ≡ false → c .class ≤ 7
+unfolding badClass
+class-to-7 c h = ltb-false 7 (c .class) h
+
+pub short-by-length : (m : ℕ) (d : List ℕ) → longData m ByLength d ≡ false → length d ≤ 1500
+unfolding longData
+short-by-length m d h = ltb-false 1500 (length d) h
+
+pub short-by-type : (m t : ℕ) (d : List ℕ) → longData m (ByType t) d ≡ false → length d ≤ m - 18
+unfolding longData
+short-by-type m t d h = ltb-false (m - 18) (length d) h
+
+pub short-data : (m : ℕ) (f : Form) (d : List ℕ) → m ≤ 9618 → longData m f d ≡ false → length d ≤ 9600
+short-data m ByLength d k h = let n = short-by-length m d h in omega arith
+short-data m (ByType t) d k h = let n = short-by-type m t d h in omega arith
+
+pub fits : (os : List ℕ) (place : ℕ) (new : List Symbol) → place ≤ length os → noRoom os place new ≡ false → place + length new ≤ length os
+unfolding noRoom
+fits os place new k h = let n = ltb-false (length os - place) (length new) h in omega arith
+
+-- the room that is left, compared with the number of the symbols
+pub room-by : (os : List ℕ) (place need : ℕ) (new : List Symbol) → length new ≡ need → ltb (length os - place) need ≡ noRoom os place new
+unfolding noRoom
+room-by os place need new e = ap (λ (n : ℕ). ltb (length os - place) n) (sym e)
+
+-- ---- what a call that is not refused knows
+
+-- of its buffers and place, for the symbols that it writes
+pub record Room (os ms : List ℕ) (place : ℕ) (new : List Symbol) : Type 0 where
   pub even : length os ≡ length ms
   pub small : length os ≤ 65536
+  pub room : place + length new ≤ length os
+
+room-of : (os ms : List ℕ) (place : ℕ) (new : List Symbol) → badBuffers os ms ≡ false → badPlace os place ≡ false → noRoom os place new ≡ false
+    → Room os ms place new
+room-of os ms place new b p n =
+    let same = same-length os ms b in
+    record { even = same .0; small = same .1; room = fits os place new (inside os place p) n }
+
+-- and a client frame's call of its settings, class, form and data
+pub record Passed (s : Settings) (os ms : List ℕ) (place : ℕ) (c : Client) (d : List ℕ) : Type 0 where
+  pub valid : badSettings s ≡ false
+  pub even : length os ≡ length ms
+  pub small : length os ≤ 65536
+  pub class : c .class ≤ 7
   pub type : badType (c .form) ≡ false
   pub short : longData (s .limit) (c .form) d ≡ false
+  pub data-small : length d ≤ 9600
   pub room : place + length (clientSymbols s c d) ≤ length os
 
 pub passed : (s : Settings) (st : State) (os ms : List ℕ) (place : ℕ) (c : Client) (d : List ℕ) → clientChecked s st os ms place c d ≡ Fine
     → Passed s os ms place c d
-unfolding clientChecked clientRefusals badBuffers badPlace noRoom
+unfolding clientChecked clientRefusals
 passed s st os ms place c d h =
     let r1 = fine-row BadSettings _ h in
     let r2 = fine-row BadBuffers _ (r1 .1) in
@@ -35,13 +118,33 @@ passed s st os ms place c d h =
     let r6 = fine-row BadType _ (r5 .1) in
     let r7 = fine-row LongData _ (r6 .1) in
     let r8 = fine-row NoRoom _ (r7 .1) in
-    let same = or-false (not (eqb (length os) (length ms))) (ltb 65536 (length os)) (r2 .0) in
-    let inside = ltb-false (length os) place (r3 .0) in
-    let fits = ltb-false (length os - place) (length (clientSymbols s c d)) (r8 .0) in
+    let k = room-of os ms place (clientSymbols s c d) (r2 .0) (r3 .0) (r8 .0) in
     record {
-      even = eqb-true (length os) (length ms) (not-false (eqb (length os) (length ms)) (same .0));
-      small = ltb-false 65536 (length os) (same .1);
+      valid = r1 .0;
+      even = k .even;
+      small = k .small;
+      class = class-to-7 c (r5 .0);
       type = r6 .0;
       short = r7 .0;
-      room = omega arith;
+      data-small = short-data (s .limit) (c .form) d (limit-from s (r1 .0) .1) (r7 .0);
+      room = k .room;
     }
+
+pub passed-control : (s : Settings) (os ms : List ℕ) (place : ℕ) (inMode : Bool) (new : List Symbol) → first (controlRefusals s os ms place inMode new) ≡ Fine
+    → (badSettings s ≡ false) × (inMode ≡ true) × Room os ms place new
+unfolding controlRefusals
+passed-control s os ms place inMode new h =
+    let r1 = fine-row BadSettings _ h in
+    let r2 = fine-row BadBuffers _ (r1 .1) in
+    let r3 = fine-row BadPlace _ (r2 .1) in
+    let r4 = fine-row OtherFlow _ (r3 .1) in
+    let r8 = fine-row NoRoom _ (r4 .1) in
+    (r1 .0, not-false inMode (r4 .0), room-of os ms place new (r2 .0) (r3 .0) (r8 .0))
+
+pub passed-idle : (os ms : List ℕ) (place n : ℕ) → idleChecked os ms place n ≡ Fine → Room os ms place (idleSymbols n)
+unfolding idleChecked idleRefusals
+passed-idle os ms place n h =
+    let r2 = fine-row BadBuffers _ h in
+    let r3 = fine-row BadPlace _ (r2 .1) in
+    let r8 = fine-row NoRoom _ (r3 .1) in
+    room-of os ms place (idleSymbols n) (r2 .0) (r3 .0) (r8 .0)

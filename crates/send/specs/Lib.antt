@@ -1,3 +1,4 @@
 pub mod Computed
 pub mod Frames
+pub mod Pieces
 pub mod Sending

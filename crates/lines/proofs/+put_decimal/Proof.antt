@@ -51,7 +51,7 @@ put-decimal-put-octet-requires : (t : ℕ) → put-decimal-lts.Need-put-octet-re
   put-decimal-below t,
   put-decimal.Post,
 ) (put-decimal-at t) put-decimal.Post
-put-decimal-put-octet-requires t c κs = 
+put-decimal-put-octet-requires t c κs =
     let n = c .before .before .before .args .n in
     let h : n < 10 = omega arith in
     omega (arith, ap length (decimal-small n h))
@@ -72,7 +72,7 @@ put-decimal-returns : (t : ℕ) → put-decimal-lts.Need-returns (
   put-decimal-below t,
   put-decimal.Post,
 ) (put-decimal-at t) put-decimal.Post
-put-decimal-returns t c = 
+put-decimal-returns t c =
     let n = c .before .before .before .before .before .before .args .n in
     put-as (sym (decimal-small n (omega arith))) (c .before .before .put-octet .ensures)
 
@@ -83,7 +83,7 @@ put-decimal-put-decimal-requires : (t : ℕ) → put-decimal-lts.Need-put-decima
   put-decimal-below t,
   put-decimal.Post,
 ) (put-decimal-at t) put-decimal.Post
-put-decimal-put-decimal-requires t c κs = 
+put-decimal-put-decimal-requires t c κs =
     let n = c .before .before .before .args .n in
     (omega arith, omega (arith, simp length-append at (ap length (decimal-more n (omega arith)))))
 
@@ -112,7 +112,7 @@ put-decimal-put-octet-requires-2 : (t : ℕ) → put-decimal-lts.Need-put-octet-
   put-decimal-below t,
   put-decimal.Post,
 ) (put-decimal-at t) put-decimal.Post
-put-decimal-put-octet-requires-2 t c κs = 
+put-decimal-put-octet-requires-2 t c κs =
     let n = c .before .before .before .before .before .before .before .args .n in
     let p = c .before .before .before .put-decimal .ensures in
     omega (arith, p .goes, simp length-append at (ap length (decimal-more n (omega arith))))

@@ -1,0 +1,27 @@
+-- `send::check_pfc` meets its contract: a PFC frame is 84 symbols. Assumes nothing.
+use mathlib.Core.Path.{_≡_}
+use lib.ListN.{length}
+use borrow.Author.Needs.{needs}
+use Rattle.send.specs.Frames.{pfcSymbols}
+use Rattle.send.specs.Sending.{pfcChecked}
+use Rattle.send.proofs.Sizes.{pfc-size}
+use Rattle.send.proofs.check_pfc.Statement.{statement}
+use Rattle.send.proofs.check_pfc.Tie as tie
+
+is-pfc-mode-requires : tie.Need-is-pfc-mode-requires
+is-pfc-mode-requires c κs = search needs
+
+check-control-requires : tie.Need-check-control-requires
+check-control-requires c κs = search needs
+
+own-6 : (c : tie.Start) → length (c .args .s .own .0) ≡ 6
+own-6 c = search needs
+
+returns : tie.Need-returns
+unfolding pfcChecked
+returns c = λ k eight.
+    let a = c .before .before .before .before .args in
+    rw (c .before .is-pfc-mode .ensures) at (c .check-control .ensures (pfcSymbols (a .s) k) (pfc-size (a .s) k (own-6 (c .before .before .before .before)) eight))
+
+pub check-pfc-spec : {M : Type 1} → statement M
+check-pfc-spec = tie.close (tie.spec is-pfc-mode-requires check-control-requires returns)

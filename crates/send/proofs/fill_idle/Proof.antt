@@ -1,0 +1,75 @@
+-- `send::fill_idle` meets its contract: refused, or written. Assumes nothing.
+use native.Mathlib.Omega.{arith}
+use borrow.Author.Needs.{needs}
+use mathlib.Core.Path.{_≡_, sym, _∙_}
+use denote.Ref.{now}
+use Rattle.station.specs.declared.Checked.the-variants.{Fine}
+use Rattle.send.specs.Sending.{idleChecked, idleSending}
+use Rattle.send.proofs.Refusals.{passed-idle}
+use Rattle.send.proofs.Calls.{call-refused, call-wrote}
+use Rattle.send.proofs.Sizes.{idle-size}
+use Rattle.send.proofs.fill_idle.Statement.{statement}
+use Rattle.send.proofs.fill_idle.Tie as tie
+
+fine : (c : tie.After-enum-told) → let a = c .before .before .before .before .before .before .before .args in idleChecked (now (a .octets)) (now (a .marks)) (a .place) (a .n) ≡ Fine
+fine c = sym (c .before .before .check-idle .ensures) ∙ c .enum-told .given .1
+
+check-idle-requires : tie.Need-check-idle-requires
+check-idle-requires c κs = search needs
+
+enum-known-checked : tie.Need-enum-known-checked
+enum-known-checked c = search needs
+
+same-length : tie.Need-same-length
+same-length c = search needs
+
+same-length-2 : tie.Need-same-length-2
+same-length-2 c = search needs
+
+returns : tie.Need-returns
+unfolding idleSending
+returns c = call-refused _ _ _ _ _ _ _ (sym (c .before .before .before .check-idle .ensures) ∙ c .before .checked .given .1)
+
+enum-told : tie.Need-enum-told
+enum-told c = search needs
+
+idle-at-requires : tie.Need-idle-at-requires
+idle-at-requires c κs =
+    let k = passed-idle _ _ _ _ (fine (c .before .before)) in
+    let z = idle-size (c .before .before .before .before .before .before .before .before .before .args .n) in
+    let e = k .even in
+    let r = k .room in
+    (omega arith, omega arith)
+
+sub-state-sent : tie.Need-sub-state-sent
+sub-state-sent c = search needs
+
+state-sent-requires : tie.Need-state-sent-requires
+state-sent-requires c κs = search needs
+
+same-length-3 : tie.Need-same-length-3
+same-length-3 c = search needs
+
+same-length-4 : tie.Need-same-length-4
+same-length-4 c = search needs
+
+returns-2 : tie.Need-returns-2
+unfolding idleSending
+returns-2 c = call-wrote _ _ _ _ _ _ _ (fine (c .before .before .before .before .before .before .before .before)) (c .before .before .before .before .before .idle-at .ensures) (c .state-sent .ensures)
+
+pub fill-idle-spec : {M : Type 1} → statement M
+fill-idle-spec =
+    tie.close
+    (tie.spec
+    check-idle-requires
+    enum-known-checked
+    same-length
+    same-length-2
+    returns
+    enum-told
+    idle-at-requires
+    sub-state-sent
+    state-sent-requires
+    same-length-3
+    same-length-4
+    returns-2)

@@ -1,0 +1,16 @@
+-- `send::state_sent` meets its contract. Assumes nothing.
+use borrow.Author.Needs.{needs}
+use mathlib.Core.Path.{_≡_}
+use Rattle.send.specs.Pieces.{stateSent}
+use Rattle.send.proofs.state_sent.Statement.{statement}
+use Rattle.send.proofs.state_sent.Tie as tie
+
+lower-requires : tie.Need-lower-requires
+lower-requires c κs = search needs
+
+returns : tie.Need-returns
+unfolding stateSent
+returns c = cc
+
+pub state-sent-spec : {M : Type 1} → statement M
+state-sent-spec = tie.close (tie.spec lower-requires returns)
