@@ -38,6 +38,12 @@ pub record Rest (old whole : List ℕ) (held : List ℕ) (at : ℕ) (rest : List
   pub goes : at + length rest ≡ length whole
   pub holds : sets held at rest ≡ sets old 0 whole
 
+-- nothing is written yet
+pub rest-start : {old whole rest : List ℕ} → rest ≡ whole → Rest old whole old 0 rest
+rest-start {old} {whole} {rest} e =
+    let n = ap length e in
+    record { goes = omega arith; holds = ap (sets old 0) e }
+
 -- a piece more
 pub rest-more : {old whole held held′ rest rest′ a : List ℕ} {at at′ : ℕ} → Rest old whole held at rest → Put held at a at′ held′ → rest ≡ a ++ rest′
     → Rest old whole held′ at′ rest′

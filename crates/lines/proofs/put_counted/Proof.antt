@@ -1,3 +1,8 @@
+use native.Mathlib.Omega.{arith}
+use mathlib.Core.Path.{_≡_, refl, sym, ap, ap₂, _∙_}
+use Prim.Native.Nat.{ℕ}
+use Rattle.lines.specs.Lines.{fourNumbers}
+use Rattle.lines.proofs.Puts.{put-as}
 use borrow.Author.Needs.{needs}
 use Rattle.lines.proofs.put_counted.Statement.{statement}
 use Rattle.lines.proofs.put_counted.Tie as tie
@@ -24,7 +29,9 @@ same-length c = search needs
 
 -- src/lib.rt:103:1
 returns : tie.Need-returns
-returns c = ?
+returns c =
+    let a = c .before .before .before .before .before .before .args in
+    (put-as (ap (λ (k : ℕ). fourNumbers (a .start) k (a .word) (a .len)) (c .before .before .before .before .outcome-number .ensures)) (c .before .before .put-line .ensures .0), search needs)
 
 pub put-counted-spec : {M : Type 1} → statement M
 put-counted-spec =

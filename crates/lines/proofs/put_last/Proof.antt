@@ -1,3 +1,7 @@
+use native.Mathlib.Omega.{arith}
+use mathlib.Core.Path.{_≡_, refl, sym, ap, ap₂, _∙_}
+use Rattle.lines.specs.Lines.{lastLine}
+use Rattle.lines.proofs.Puts.{_⨾_}
 use borrow.Author.Needs.{needs}
 use Rattle.lines.proofs.put_last.Statement.{statement}
 use Rattle.lines.proofs.put_last.Tie as tie
@@ -36,7 +40,11 @@ same-length c = search needs
 
 -- src/lib.rt:72:1
 returns : tie.Need-returns
-returns c = ?
+unfolding lastLine
+returns c =
+    let p = c .before .before .before .before .before .before .before .before .before .before .before .before .before .before .before .put-word .ensures in
+    let q = c .before .before .before .before .before .before .put-word2 .ensures in
+    (p ⨾ c .before .before .before .before .before .before .before .before .before .before .before .put-followed .ensures .0 ⨾ q ⨾ c .before .before .put-followed2 .ensures .0, omega (arith, p .goes, q .goes))
 
 pub put-last-spec : {M : Type 1} → statement M
 put-last-spec =

@@ -1,3 +1,7 @@
+use native.Mathlib.Omega.{arith}
+use mathlib.Core.Path.{_≡_, refl, sym, ap, ap₂, _∙_}
+use Rattle.lines.specs.Lines.{fourNumbers}
+use Rattle.lines.proofs.Puts.{_⨾_}
 use borrow.Author.Needs.{needs}
 use Rattle.lines.proofs.put_line.Statement.{statement}
 use Rattle.lines.proofs.put_line.Tie as tie
@@ -27,7 +31,12 @@ same-length c = search needs
 
 -- src/lib.rt:61:1
 returns : tie.Need-returns
-returns c = ?
+unfolding fourNumbers
+returns c =
+    (c .before .before .before .before .before .before .before .before .before .before .before .before .before .before .put-followed .ensures .0
+    ⨾ c .before .before .before .before .before .before .before .before .before .before .put-followed2 .ensures .0
+    ⨾ c .before .before .before .before .before .before .put-followed3 .ensures .0
+    ⨾ c .before .before .put-followed4 .ensures .0, omega arith)
 
 pub put-line-spec : {M : Type 1} → statement M
 put-line-spec =
