@@ -1,6 +1,6 @@
 use native.Mathlib.Omega.{arith}
 use mathlib.Core.Path.{_≡_, refl, sym, ap, ap₂, _∙_}
-use Prim.Native.Nat.{ℕ, _+_, _-_, _*_, _≤_}
+use Prim.Native.Nat.{ℕ, _+_, _-_, _*_, _≤_, _<_}
 use borrow.Author.Needs.{needs}
 use lib.ListN.{length}
 use denote.Ref.{now}
@@ -74,7 +74,11 @@ same-length c = search needs
 
 -- src/lib.rt:128:35
 returns : tie.Need-returns Inv-loop μ-loop
-returns c = ?
+returns c =
+    let l = c .before .before .before .before .before .before .before .before in
+    let more : 0 < l .loop .left = omega arith in
+    let p = c .before .before .put-last .ensures in
+    (rest-last (l .loop .inv .3) (p .0) (lines-refused _ _ _ _ _ _ _ more _ (c .before .before .before .before .before .before .read .ensures) _ (c .before .before .before .before .enum-told .given .1)), omega arith)
 
 -- src/lib.rt:129:48
 enum-told-2 : tie.Need-enum-told-2 Inv-loop μ-loop
@@ -90,7 +94,11 @@ same-length-2 c = search needs
 
 -- src/lib.rt:129:32
 returns-2 : tie.Need-returns-2 Inv-loop μ-loop
-returns-2 c = ?
+returns-2 c =
+    let l = c .before .before .before .before .before .before .before .before in
+    let more : 0 < l .loop .left = omega arith in
+    let p = c .before .before .put-last2 .ensures in
+    (rest-last (l .loop .inv .3) (p .0) (lines-nothing _ _ _ _ _ _ _ more _ (c .before .before .before .before .before .before .read .ensures) (c .before .before .before .before .enum-told2 .given .1)), omega arith)
 
 -- src/lib.rt:130:45
 enum-told-3 : tie.Need-enum-told-3 Inv-loop μ-loop
@@ -106,7 +114,11 @@ same-length-3 c = search needs
 
 -- src/lib.rt:130:29
 returns-3 : tie.Need-returns-3 Inv-loop μ-loop
-returns-3 c = ?
+returns-3 c =
+    let l = c .before .before .before .before .before .before .before .before in
+    let more : 0 < l .loop .left = omega arith in
+    let p = c .before .before .put-last3 .ensures in
+    (rest-last (l .loop .inv .3) (p .0) (lines-open _ _ _ _ _ _ _ more _ (c .before .before .before .before .before .before .read .ensures) (c .before .before .before .before .enum-told3 .given .1)), omega arith)
 
 -- src/lib.rt:131:29
 enum-known-a : tie.Need-enum-known-a Inv-loop μ-loop
@@ -130,7 +142,15 @@ loop-less c = search needs
 
 -- src/lib.rt:124:5
 loop-again : tie.Need-loop-again Inv-loop μ-loop
-loop-again c = ?
+loop-again c =
+    let l = c .before .before .before .before .before .before .before .before .before .before in
+    let more : 0 < l .loop .left = omega arith in
+    let p = c .before .before .before .put-counted .ensures in (
+      search needs,
+      omega arith,
+      omega arith,
+      rest-more (l .loop .inv .3) (p .0) (lines-counted _ _ _ _ _ _ _ more _ (c .before .before .before .before .before .before .before .before .read .ensures) _ _ _ (c .before .before .before .before .before .before .a .given .1)),
+    )
 
 -- src/lib.rt:140:5
 put-last-requires-4 : tie.Need-put-last-requires-4 Inv-loop μ-loop
@@ -142,7 +162,11 @@ same-length-4 c = search needs
 
 -- src/lib.rt:113:1
 returns-4 : tie.Need-returns-4 Inv-loop μ-loop
-returns-4 c = ?
+returns-4 c =
+    let l = c .before .before .before .before .before in
+    let none : l .loop .left ≡ 0 = omega arith in
+    let p = c .before .before .put-last4 .ensures in
+    (rest-last (l .loop .inv .3) (p .0) (rw none (lines-none _ _ _ _ _ _)), omega arith)
 
 pub put-lines-spec : {M : Type 1} → statement M
 put-lines-spec =
