@@ -6,7 +6,7 @@ use native.Mathlib.Nat.{add-zero}
 use native.Mathlib.Numerals.{add-one}
 use native.Mathlib.Omega.{arith}
 use lib.ListN.{length, take, drop, set, length-append}
-use lib.Seq.{sets, sets-eq, take-append-seam}
+use lib.Seq.{sets, sets-eq, length-sets, length-take-le, take-append-seam}
 use Rattle.lines.specs.Put.{Put}
 
 -- two writes, the second where the first ended, are one write
@@ -87,3 +87,9 @@ pub put-front : {old new held : List ℕ} {next : ℕ} → Put old 0 new next he
 put-front {old} {new} {held} {next} p h =
     let e : next ≡ length new = omega (arith, p .goes) in
     ap₂ take e (p .holds ∙ sets-eq new old 0 (omega (arith, p .goes))) ∙ take-append-seam new (drop (0 + length new) old)
+
+-- how many octets were written counts those at the front
+pub put-counts : {old new held : List ℕ} {next : ℕ} → Put old 0 new next held → next ≤ length old → (next ≤ length held) × (next ≡ length (take next held))
+put-counts {old} {new} {held} {next} p h =
+    let e : length held ≡ length old = ap length (p .holds) ∙ length-sets old 0 new in
+    (omega arith, sym (length-take-le next held (omega arith)))

@@ -168,6 +168,13 @@ fn split(input: &[u8], octets: &mut [u8], marks: &mut [u8])
     }
 }
 
+// Room for the longest capture.
+fn room() -> [u8; 32768]
+    ensures { λ r. ⌜ length r ≡ 32768 ⌝ }
+{
+    [0u8; 32768]
+}
+
 // The output of a whole input of at most 32,768 records.
 fn print_good(input: &[u8], out: &mut [u8]) -> usize
     requires { ⌜ (badInput (now input) ≡ false) × (2752680 ≤ length (now out)) ⌝ }
@@ -175,8 +182,8 @@ fn print_good(input: &[u8], out: &mut [u8]) -> usize
     ensures { λ r. ⌜ r ≤ length (now (out .entry)) ⌝ }
 {
     let n = input.len() / 2;
-    let mut o = [0u8; 32768];
-    let mut m = [0u8; 32768];
+    let mut o = room();
+    let mut m = room();
     split(input, &mut o, &mut m);
     put_lines(&o[..n], &m[..n], out)
 }

@@ -1,3 +1,8 @@
+use native.Mathlib.Omega.{arith}
+use mathlib.Core.Path.{sym, _∙_}
+use denote.Ref.{now}
+use Rattle.lines.proofs.Puts.{put-as, put-counts}
+use Rattle.lines.proofs.Records.{bad-printed}
 use borrow.Author.Needs.{needs}
 use Rattle.lines.proofs.print_lines.Statement.{statement}
 use Rattle.lines.proofs.print_lines.Tie as tie
@@ -7,29 +12,33 @@ use Rattle.lines.proofs.bad_input.Reads as bad-input-reads
 use Rattle.lines.proofs.print_good.Reads as print-good-reads
 use Rattle.lines.proofs.put_word.Reads as put-word-reads
 
--- src/lib.rt:190:8
+-- src/lib.rt:197:8
 bad-input-requires : tie.Need-bad-input-requires
 bad-input-requires c κs = search needs
 
--- src/lib.rt:191:33
+-- src/lib.rt:198:33
 slice-aggregate-put-word : tie.Need-slice-aggregate-put-word
 slice-aggregate-put-word c = search needs
 
--- src/lib.rt:191:9
+-- src/lib.rt:198:9
 put-word-requires : tie.Need-put-word-requires
 put-word-requires c κs = search needs
 
--- src/lib.rt:191:9
+-- src/lib.rt:198:9
 returns : tie.Need-returns
-returns c = ?
+returns c =
+    let p = put-as (bad-printed (now (c .before .before .before .before .before .before .args .input)) (sym (c .before .before .before .before .bad-input .ensures) ∙ c .before .before .before .if1 .taken)) (c .put-word .ensures) in
+    (p, put-counts p (omega (arith, c .put-word .ensures .goes)))
 
--- src/lib.rt:193:5
+-- src/lib.rt:200:5
 print-good-requires : tie.Need-print-good-requires
-print-good-requires c κs = ?
+print-good-requires c κs = (sym (c .before .before .bad-input .ensures) ∙ c .before .if1 .left, search needs)
 
--- src/lib.rt:186:1
+-- src/lib.rt:193:1
 returns-2 : tie.Need-returns-2
-returns-2 c = ?
+returns-2 c =
+    let p = c .print-good .ensures in
+    (p .0, put-counts (p .0) (p .1))
 
 pub print-lines-spec : {M : Type 1} → statement M
 print-lines-spec =
