@@ -309,7 +309,12 @@ fn every(name: &[u8], s: Settings, from: State, octets: &[u8], marks: &[u8]) {
 fn settings(flow: Flow) -> Settings {
     Settings {
         own: numbered(1),
-        listed: [numbered(0x11), numbered(0x12), numbered(0x13), numbered(0x14)],
+        listed: [
+            numbered(0x11),
+            numbered(0x12),
+            numbered(0x13),
+            numbered(0x14),
+        ],
         count: 0,
         broadcast: true,
         promiscuous: false,
@@ -378,7 +383,15 @@ fn cut_by_start() {
     }
     f.by = 0xFD;
     let n = frame(&mut o, &mut m, a - 1, f, b"");
-    every_to(b"cut by Start", settings(Flow::Off), station::fresh_state(), &o, &m, n, n);
+    every_to(
+        b"cut by Start",
+        settings(Flow::Off),
+        station::fresh_state(),
+        &o,
+        &m,
+        n,
+        n,
+    );
 }
 
 // Two frames with no gap, then a Start that stays open.
@@ -389,15 +402,31 @@ fn two_and_open() {
     let a = frame(&mut o, &mut m, 0, f, b"");
     let b = frame(&mut o, &mut m, a, f, b"");
     let n = put(&mut o, &mut m, b, 0xFB, 1);
-    every_to(b"two and open", settings(Flow::Off), station::fresh_state(), &o, &m, n, n);
+    every_to(
+        b"two and open",
+        settings(Flow::Off),
+        station::fresh_state(),
+        &o,
+        &m,
+        n,
+        n,
+    );
 }
 
 fn starts() {
     symbols(b"nothing", b"", b"");
     symbols(b"Start alone", &[0xFB], &[1]);
     symbols(b"Start, Start, Terminate", &[0xFB, 0xFB, 0xFD], &[1, 1, 1]);
-    symbols(b"the page's own", &[0xFB, 7, 0xFB, 0x55, 0xFD], &[1, 1, 1, 0, 1]);
-    symbols(b"open after one", &[7, 0xFB, 0xFD, 0xFB, 0x55], &[1, 1, 1, 1, 0]);
+    symbols(
+        b"the page's own",
+        &[0xFB, 7, 0xFB, 0x55, 0xFD],
+        &[1, 1, 1, 0, 1],
+    );
+    symbols(
+        b"open after one",
+        &[7, 0xFB, 0xFD, 0xFB, 0x55],
+        &[1, 1, 1, 1, 0],
+    );
 }
 
 fn odd_marks() {
@@ -410,12 +439,32 @@ fn odd_marks() {
 
 fn preambles() {
     let m = [1u8, 0, 0, 0, 0, 0, 0, 0, 1];
-    symbols(b"preamble alone", &[0xFB, 0x55, 0x55, 0x55, 0x55, 0x55, 0x55, 0xD5, 0xFD], &m);
-    symbols(b"first octet wrong", &[0xFB, 0x54, 0x55, 0x55, 0x55, 0x55, 0x55, 0xD5, 0xFD], &m);
-    symbols(b"sixth octet wrong", &[0xFB, 0x55, 0x55, 0x55, 0x55, 0x55, 0xD5, 0xD5, 0xFD], &m);
-    symbols(b"seventh octet wrong", &[0xFB, 0x55, 0x55, 0x55, 0x55, 0x55, 0x55, 0x55, 0xFD], &m);
+    symbols(
+        b"preamble alone",
+        &[0xFB, 0x55, 0x55, 0x55, 0x55, 0x55, 0x55, 0xD5, 0xFD],
+        &m,
+    );
+    symbols(
+        b"first octet wrong",
+        &[0xFB, 0x54, 0x55, 0x55, 0x55, 0x55, 0x55, 0xD5, 0xFD],
+        &m,
+    );
+    symbols(
+        b"sixth octet wrong",
+        &[0xFB, 0x55, 0x55, 0x55, 0x55, 0x55, 0xD5, 0xD5, 0xFD],
+        &m,
+    );
+    symbols(
+        b"seventh octet wrong",
+        &[0xFB, 0x55, 0x55, 0x55, 0x55, 0x55, 0x55, 0x55, 0xFD],
+        &m,
+    );
     let k = [1u8, 0, 0, 0, 0, 0, 0, 1];
-    symbols(b"six octets", &[0xFB, 0x55, 0x55, 0x55, 0x55, 0x55, 0x55, 0xFD], &k);
+    symbols(
+        b"six octets",
+        &[0xFB, 0x55, 0x55, 0x55, 0x55, 0x55, 0x55, 0xFD],
+        &k,
+    );
 }
 
 // ---- refusals and places
@@ -637,7 +686,28 @@ fn pfc_from(name: &[u8], s: Settings, state: State, dest: Address, named: u8) {
         s,
         state,
         framed(dest, 0x8808, 26),
-        &[1, 1, 0xFF, named, 1, 1, 2, 2, 3, 3, 4, 4, 5, 5, 6, 6, 7, 7, 8, 8],
+        &[
+            1,
+            1,
+            0xFF,
+            named,
+            1,
+            1,
+            2,
+            2,
+            3,
+            3,
+            4,
+            4,
+            5,
+            5,
+            6,
+            6,
+            7,
+            7,
+            8,
+            8,
+        ],
     );
 }
 
@@ -662,7 +732,13 @@ fn pauses_by_settings() {
     s.broadcast = false;
     pause(b"pause to all, broadcast off", s, everyone(), 0, 1);
     s.promiscuous = true;
-    pause(b"promiscuous, pause to another station", s, numbered(2), 0, 1);
+    pause(
+        b"promiscuous, pause to another station",
+        s,
+        numbered(2),
+        0,
+        1,
+    );
     s.passing = true;
     pause(b"passing, pause to another station", s, numbered(2), 0, 1);
     pause(b"passing, pause to the group", s, reserved(), 0, 1);
@@ -685,7 +761,13 @@ fn no_flow() {
     s.passing = true;
     pause(b"passing, pause, flow none", s, reserved(), 0, 1);
     pfc(b"passing, PFC to the own address", s, numbered(1), 255);
-    pause(b"passing, pause to another station, filtered", s, numbered(2), 0, 1);
+    pause(
+        b"passing, pause to another station, filtered",
+        s,
+        numbered(2),
+        0,
+        1,
+    );
 }
 
 fn other_control() {
@@ -726,7 +808,28 @@ fn replaced_by_class() {
     let s = settings(Flow::Pfc);
     pfc_from(b"PFC, classes 1 and 6", s, used(), reserved(), 0x42);
     let f = framed(reserved(), 0x8808, 26);
-    let zeros = [1u8, 1, 0, 0x0F, 0, 0, 0, 0, 0, 9, 0, 0, 0, 9, 0, 9, 0, 9, 0, 9];
+    let zeros = [
+        1u8,
+        1,
+        0,
+        0x0F,
+        0,
+        0,
+        0,
+        0,
+        0,
+        9,
+        0,
+        0,
+        0,
+        9,
+        0,
+        9,
+        0,
+        9,
+        0,
+        9,
+    ];
     case_from(b"PFC, zero quanta for some", s, used(), f, &zeros);
 }
 

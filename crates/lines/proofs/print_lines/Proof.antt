@@ -1,3 +1,4 @@
+-- `lines::print_lines` meets its contract. Its two cases are those of `printed`. Assumes nothing.
 use native.Mathlib.Omega.{arith}
 use mathlib.Core.Path.{sym, _∙_}
 use denote.Ref.{now}
@@ -6,35 +7,24 @@ use Rattle.lines.proofs.Records.{bad-printed}
 use borrow.Author.Needs.{needs}
 use Rattle.lines.proofs.print_lines.Statement.{statement}
 use Rattle.lines.proofs.print_lines.Tie as tie
-use Rattle.lines.proofs.print_lines.Reads as reads
-use Rattle.lines.proofs.print_lines.Lts as lts
-use Rattle.lines.proofs.bad_input.Reads as bad-input-reads
-use Rattle.lines.proofs.print_good.Reads as print-good-reads
-use Rattle.lines.proofs.put_word.Reads as put-word-reads
 
--- src/lib.rt:197:8
 bad-input-requires : tie.Need-bad-input-requires
 bad-input-requires c κs = search needs
 
--- src/lib.rt:198:33
 slice-aggregate-put-word : tie.Need-slice-aggregate-put-word
 slice-aggregate-put-word c = search needs
 
--- src/lib.rt:198:9
 put-word-requires : tie.Need-put-word-requires
 put-word-requires c κs = search needs
 
--- src/lib.rt:198:9
 returns : tie.Need-returns
 returns c =
     let p = put-as (bad-printed (now (c .before .before .before .before .before .before .args .input)) (sym (c .before .before .before .before .bad-input .ensures) ∙ c .before .before .before .if1 .taken)) (c .put-word .ensures) in
     (p, put-counts p (omega (arith, c .put-word .ensures .goes)))
 
--- src/lib.rt:200:5
 print-good-requires : tie.Need-print-good-requires
 print-good-requires c κs = (sym (c .before .before .bad-input .ensures) ∙ c .before .if1 .left, search needs)
 
--- src/lib.rt:193:1
 returns-2 : tie.Need-returns-2
 returns-2 c =
     let p = c .print-good .ensures in

@@ -1,7 +1,8 @@
+-- `lines::split` meets its contract. The invariant: with the records left, each buffer is whole. Assumes nothing.
 use Prim.Native.Nat.{ℕ, _+_, _-_, _*_, _/_, _≤_, _<_}
 use native.Mathlib.Omega.{arith}
-use mathlib.Core.Path.{_≡_, refl, sym, ap, _∙_}
-use mathlib.Core.List.{List, _∷_}
+use mathlib.Core.Path.{_≡_, refl, ap, _∙_}
+use mathlib.Core.List.{_∷_}
 use borrow.Author.Needs.{needs}
 use lib.ListN.{length, getD, drop, length-set}
 use denote.Ref.{now}
@@ -10,11 +11,9 @@ use Rattle.lines.proofs.Puts.{Rest, rest-start, rest-one, rest-done}
 use Rattle.lines.proofs.Records.{octets-more, marks-more, octets-end, marks-end}
 use Rattle.lines.proofs.split.Statement.{statement}
 use Rattle.lines.proofs.split.Tie as tie
-use Rattle.lines.proofs.split.Reads as reads
-use Rattle.lines.proofs.split.Lts as lts
 
 abbrev Inv-loop : tie.InvT-loop
-Inv-loop input octets₀ marks₀ n k₀ octets marks k = 
+Inv-loop input octets₀ marks₀ n k₀ octets marks k =
     (k ≤ n)
     × (length octets ≡ length octets₀)
     × (length marks ≡ length marks₀)
@@ -24,47 +23,36 @@ Inv-loop input octets₀ marks₀ n k₀ octets marks k =
 abbrev μ-loop : tie.MeasureT-loop
 μ-loop input octets₀ marks₀ n k₀ octets marks k = n - k
 
--- src/lib.rt:164:5
 loop-holds : tie.Need-loop-holds Inv-loop μ-loop
 loop-holds c = (search needs, refl, refl, rest-start refl, rest-start refl)
 
--- src/lib.rt:165:26
 mul-marks : tie.Need-mul-marks Inv-loop μ-loop
 mul-marks c = search needs
 
--- src/lib.rt:165:20
 shared-slice-read-marks : tie.Need-shared-slice-read-marks Inv-loop μ-loop
 shared-slice-read-marks c = search needs
 
--- src/lib.rt:165:9
 slice-write-marks : tie.Need-slice-write-marks Inv-loop μ-loop
 slice-write-marks c = search needs
 
--- src/lib.rt:166:27
 mul-octets : tie.Need-mul-octets Inv-loop μ-loop
 mul-octets c = search needs
 
--- src/lib.rt:166:27
 add-octets : tie.Need-add-octets Inv-loop μ-loop
 add-octets c = search needs
 
--- src/lib.rt:166:21
 shared-slice-read-octets : tie.Need-shared-slice-read-octets Inv-loop μ-loop
 shared-slice-read-octets c = search needs
 
--- src/lib.rt:166:9
 slice-write-octets : tie.Need-slice-write-octets Inv-loop μ-loop
 slice-write-octets c = search needs
 
--- src/lib.rt:167:9
 add-k : tie.Need-add-k Inv-loop μ-loop
 add-k c = search needs
 
--- src/lib.rt:164:5
 loop-less : tie.Need-loop-less Inv-loop μ-loop
 loop-less c = search needs
 
--- src/lib.rt:164:5
 loop-again : tie.Need-loop-again Inv-loop μ-loop
 loop-again c =
     let l = c .before .before .before in
@@ -79,15 +67,12 @@ loop-again c =
       rest-one (l .loop .inv .4) (marks-more input (2 * k) h ∙ ap (λ (j : ℕ). getD input (2 * k) 0 ∷ recordMarks (drop j input)) next),
     )
 
--- src/lib.rt:157:1
 same-length : tie.Need-same-length Inv-loop μ-loop
 same-length c = search needs
 
--- src/lib.rt:157:1
 same-length-2 : tie.Need-same-length-2 Inv-loop μ-loop
 same-length-2 c = search needs
 
--- src/lib.rt:157:1
 returns : tie.Need-returns Inv-loop μ-loop
 returns c =
     let l = c .before in
