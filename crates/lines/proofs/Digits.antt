@@ -51,7 +51,7 @@ decimal-short zero n h = rw (decimal-small n h) (omega arith)
 decimal-short (suc k) n h =
     ⊎-elim
     (λ s. rw (decimal-small n s) (omega arith))
-    (λ s. let t = decimal-short k (n / 10) (div-lt-iff-lt-mul {k = 10} {x = n} {y = 10 ^ suc k} (omega arith) .1 (let e = pow-succ' 10 (suc k) in omega arith)) in
+    (λ s. let t : length (decimal (n / 10)) ≤ suc k = decimal-short k (n / 10) (div-lt-iff-lt-mul {k = 10} {x = n} {y = 10 ^ suc k} (omega arith) .1 (let e = pow-succ' 10 (suc k) in omega arith)) in
     rw (decimal-more n s, length-append) (omega arith))
     (below-ten n (ltb n 10) refl)
 

@@ -1,11 +1,12 @@
 -- Laws of `Put`, for a writer that writes one piece after the other. Assumes nothing.
-use Prim.Native.Nat.{ℕ, suc, _+_}
-use mathlib.Core.Path.{_≡_, sym, ap, _∙_}
+use Prim.Native.Nat.{ℕ, suc, _+_, _≤_}
+use mathlib.Core.Path.{_≡_, sym, ap, ap₂, _∙_}
 use mathlib.Core.List.{List, [], _∷_, _++_}
 use native.Mathlib.Nat.{add-zero}
+use native.Mathlib.Numerals.{add-one}
 use native.Mathlib.Omega.{arith}
-use lib.ListN.{length, set, length-append}
-use lib.Seq.{sets}
+use lib.ListN.{length, take, drop, set, length-append}
+use lib.Seq.{sets, sets-eq, length-sets, length-take-le, take-append-seam}
 use Rattle.lines.specs.Put.{Put}
 
 -- two writes, the second where the first ended, are one write
@@ -38,6 +39,12 @@ pub record Rest (old whole : List ℕ) (held : List ℕ) (at : ℕ) (rest : List
   pub goes : at + length rest ≡ length whole
   pub holds : sets held at rest ≡ sets old 0 whole
 
+-- nothing is written yet
+pub rest-start : {old whole rest : List ℕ} → rest ≡ whole → Rest old whole old 0 rest
+rest-start {old} {whole} {rest} e =
+    let n = ap length e in
+    record { goes = omega arith; holds = ap (sets old 0) e }
+
 -- a piece more
 pub rest-more : {old whole held held′ rest rest′ a : List ℕ} {at at′ : ℕ} → Rest old whole held at rest → Put held at a at′ held′ → rest ≡ a ++ rest′
     → Rest old whole held′ at′ rest′
@@ -56,3 +63,33 @@ rest-last {old} {whole} {held} {held′} {rest} {a} {at} {at′} p q e =
       goes = omega (arith, p .goes, q .goes);
       holds = q .holds ∙ ap (sets held at) (sym e) ∙ p .holds;
     }
+
+-- one octet more
+pub rest-one : {old whole held rest rest′ : List ℕ} {at x : ℕ} → Rest old whole held at rest → rest ≡ x ∷ rest′ → Rest old whole (set held at x) (at + 1) rest′
+rest-one {old} {whole} {held} {rest} {rest′} {at} {x} p e =
+    let n : length rest ≡ suc (length rest′) = ap length e in
+    record {
+      goes = omega (arith, p .goes);
+      holds = ap (λ (k : ℕ). sets (set held at x) k rest′) (add-one at) ∙ ap (sets held at) (sym e) ∙ p .holds;
+    }
+
+-- nothing is left
+pub rest-done : {old whole held rest : List ℕ} {at : ℕ} → Rest old whole held at rest → rest ≡ [] → Put old 0 whole at held
+rest-done {old} {whole} {held} {rest} {at} p e =
+    let n : length rest ≡ 0 = ap length e in
+    record {
+      goes = omega (arith, p .goes);
+      holds = ap (sets held at) (sym e) ∙ p .holds;
+    }
+
+-- what was written from the start on is the front
+pub put-front : {old new held : List ℕ} {next : ℕ} → Put old 0 new next held → next ≤ length old → take next held ≡ new
+put-front {old} {new} {held} {next} p h =
+    let e : next ≡ length new = omega (arith, p .goes) in
+    ap₂ take e (p .holds ∙ sets-eq new old 0 (omega (arith, p .goes))) ∙ take-append-seam new (drop (0 + length new) old)
+
+-- how many octets were written counts those at the front
+pub put-counts : {old new held : List ℕ} {next : ℕ} → Put old 0 new next held → next ≤ length old → (next ≤ length held) × (next ≡ length (take next held))
+put-counts {old} {new} {held} {next} p h =
+    let e : length held ≡ length old = ap length (p .holds) ∙ length-sets old 0 new in
+    (omega arith, sym (length-take-le next held (omega arith)))

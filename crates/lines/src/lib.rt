@@ -5,6 +5,7 @@ use station::Flow;
 use station::Outcome;
 use station::Settings;
 ghost use mathlib.Core.Path.{_≡_};
+ghost use mathlib.Core.Bool.{false};
 ghost use mathlib.Core.List.{[], _∷_};
 ghost use Prim.Native.Nat.{_+_, _*_, _/_, _≤_};
 ghost use lib.ListN.{length, take};
@@ -138,4 +139,63 @@ fn put_lines(octets: &[u8], marks: &[u8], out: &mut [u8]) -> usize
         left -= 1;
     }
     put_last(out, at, n, 0)
+}
+
+// ---- the whole output
+
+// An odd input, or one of more than 32,768 records.
+fn bad_input(input: &[u8]) -> bool
+    ensures { λ r. ⌜ r ≡ badInput (now (input .entry)) ⌝ }
+{
+    if input.len() % 2 == 1 {
+        return true;
+    }
+    65536 < input.len()
+}
+
+// The octets and the marks of the records, from the start of the two buffers on.
+fn split(input: &[u8], octets: &mut [u8], marks: &mut [u8])
+    requires { ⌜ (length (now input) ≤ length (now octets) * 2) × (length (now input) ≤ length (now marks) * 2) ⌝ }
+    ensures { λ r. ⌜ Put (now (octets .entry)) 0 (recordOctets (now (input .entry))) (length (now (input .entry)) / 2) (now (octets .exit)) ⌝ }
+    ensures { λ r. ⌜ Put (now (marks .entry)) 0 (recordMarks (now (input .entry))) (length (now (input .entry)) / 2) (now (marks .exit)) ⌝ }
+{
+    let n = input.len() / 2;
+    let mut k: usize = 0;
+    while k < n {
+        marks[k] = input[2 * k];
+        octets[k] = input[2 * k + 1];
+        k += 1;
+    }
+}
+
+// Room for the longest capture.
+fn room() -> [u8; 32768]
+    ensures { λ r. ⌜ length r ≡ 32768 ⌝ }
+{
+    [0u8; 32768]
+}
+
+// The output of a whole input of at most 32,768 records.
+fn print_good(input: &[u8], out: &mut [u8]) -> usize
+    requires { ⌜ (badInput (now input) ≡ false) × (2752680 ≤ length (now out)) ⌝ }
+    ensures { λ r. ⌜ Put (now (out .entry)) 0 (printed (now (input .entry))) r (now (out .exit)) ⌝ }
+    ensures { λ r. ⌜ r ≤ length (now (out .entry)) ⌝ }
+{
+    let n = input.len() / 2;
+    let mut o = room();
+    let mut m = room();
+    split(input, &mut o, &mut m);
+    put_lines(&o[..n], &m[..n], out)
+}
+
+// All that the program prints of its input, from the start of `out` on; how many octets that is. 84 octets for each of 32,768 lines and more for
+// the last are enough.
+pub fn print_lines(input: &[u8], out: &mut [u8; 2752680]) -> usize
+    ensures { λ r. ⌜ Put (now (out .entry)) 0 (printed (now (input .entry))) r (now (out .exit)) ⌝ }
+    ensures { λ r. ⌜ (r ≤ length (now (out .exit))) × (r ≡ length (take r (now (out .exit)))) ⌝ }
+{
+    if bad_input(input) {
+        return put_word(out, 0, b"bad input\n");
+    }
+    print_good(input, out)
 }

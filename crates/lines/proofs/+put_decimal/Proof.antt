@@ -1,8 +1,8 @@
+-- `lines::put_decimal` meets its contract. The measure is the number: its tenth is less. Assumes nothing.
 use borrow.Author.Needs.{needs}
 use native.Mathlib.Omega.{arith}
-use mathlib.Core.Path.{_≡_, sym, ap, _∙_}
+use mathlib.Core.Path.{sym, ap}
 use lib.ListN.{length, length-append}
-use Rattle.lines.specs.Decimal.{decimal}
 use Rattle.lines.proofs.Digits.{decimal-small, decimal-more}
 use Rattle.lines.proofs.Puts.{_⨾_, put-as}
 use Prim.Native.Nat.{ℕ, _<_}
@@ -26,7 +26,6 @@ abbrev put-decimal-below : ℕ → In 1 put-decimal-kinds.ps
 put-decimal-below t =
     and 1 put-decimal-kinds.ps (falls 1 put-decimal-kinds.ps _<_ μ-put-decimal t) put-decimal.Pre
 
--- src/lib.rt:44:41
 put-decimal-cast-put-octet : (t : ℕ) → put-decimal-lts.Need-cast-put-octet (
   put-octet-reads.Asked,
   put-octet-reads.Learnt,
@@ -35,7 +34,6 @@ put-decimal-cast-put-octet : (t : ℕ) → put-decimal-lts.Need-cast-put-octet (
 ) (put-decimal-at t) put-decimal.Post
 put-decimal-cast-put-octet t c = search needs
 
--- src/lib.rt:44:35
 put-decimal-add-put-octet : (t : ℕ) → put-decimal-lts.Need-add-put-octet (
   put-octet-reads.Asked,
   put-octet-reads.Learnt,
@@ -44,7 +42,6 @@ put-decimal-add-put-octet : (t : ℕ) → put-decimal-lts.Need-add-put-octet (
 ) (put-decimal-at t) put-decimal.Post
 put-decimal-add-put-octet t c = search needs
 
--- src/lib.rt:44:9
 put-decimal-put-octet-requires : (t : ℕ) → put-decimal-lts.Need-put-octet-requires (
   put-octet-reads.Asked,
   put-octet-reads.Learnt,
@@ -56,7 +53,6 @@ put-decimal-put-octet-requires t c κs =
     let h : n < 10 = omega arith in
     omega (arith, ap length (decimal-small n h))
 
--- src/lib.rt:44:9
 put-decimal-same-length : (t : ℕ) → put-decimal-lts.Need-same-length (
   put-octet-reads.Asked,
   put-octet-reads.Learnt,
@@ -65,7 +61,6 @@ put-decimal-same-length : (t : ℕ) → put-decimal-lts.Need-same-length (
 ) (put-decimal-at t) put-decimal.Post
 put-decimal-same-length t c = search needs
 
--- src/lib.rt:44:9
 put-decimal-returns : (t : ℕ) → put-decimal-lts.Need-returns (
   put-octet-reads.Asked,
   put-octet-reads.Learnt,
@@ -76,7 +71,6 @@ put-decimal-returns t c =
     let n = c .before .before .before .before .before .before .args .n in
     put-as (sym (decimal-small n (omega arith))) (c .before .before .put-octet .ensures)
 
--- src/lib.rt:46:9
 put-decimal-put-decimal-requires : (t : ℕ) → put-decimal-lts.Need-put-decimal-requires (
   put-octet-reads.Asked,
   put-octet-reads.Learnt,
@@ -87,7 +81,6 @@ put-decimal-put-decimal-requires t c κs =
     let n = c .before .before .before .args .n in
     (omega arith, omega (arith, simp length-append at (ap length (decimal-more n (omega arith)))))
 
--- src/lib.rt:47:29
 put-decimal-cast-put-octet-2 : (t : ℕ) → put-decimal-lts.Need-cast-put-octet-2 (
   put-octet-reads.Asked,
   put-octet-reads.Learnt,
@@ -96,7 +89,6 @@ put-decimal-cast-put-octet-2 : (t : ℕ) → put-decimal-lts.Need-cast-put-octet
 ) (put-decimal-at t) put-decimal.Post
 put-decimal-cast-put-octet-2 t c = search needs
 
--- src/lib.rt:47:23
 put-decimal-add-put-octet-2 : (t : ℕ) → put-decimal-lts.Need-add-put-octet-2 (
   put-octet-reads.Asked,
   put-octet-reads.Learnt,
@@ -105,7 +97,6 @@ put-decimal-add-put-octet-2 : (t : ℕ) → put-decimal-lts.Need-add-put-octet-2
 ) (put-decimal-at t) put-decimal.Post
 put-decimal-add-put-octet-2 t c = search needs
 
--- src/lib.rt:47:5
 put-decimal-put-octet-requires-2 : (t : ℕ) → put-decimal-lts.Need-put-octet-requires-2 (
   put-octet-reads.Asked,
   put-octet-reads.Learnt,
@@ -117,7 +108,6 @@ put-decimal-put-octet-requires-2 t c κs =
     let p = c .before .before .before .put-decimal .ensures in
     omega (arith, p .goes, simp length-append at (ap length (decimal-more n (omega arith))))
 
--- src/lib.rt:39:1
 put-decimal-same-length-2 : (t : ℕ) → put-decimal-lts.Need-same-length-2 (
   put-octet-reads.Asked,
   put-octet-reads.Learnt,
@@ -126,7 +116,6 @@ put-decimal-same-length-2 : (t : ℕ) → put-decimal-lts.Need-same-length-2 (
 ) (put-decimal-at t) put-decimal.Post
 put-decimal-same-length-2 t c = search needs
 
--- src/lib.rt:39:1
 put-decimal-returns-2 : (t : ℕ) → put-decimal-lts.Need-returns-2 (
   put-octet-reads.Asked,
   put-octet-reads.Learnt,

@@ -1,122 +1,140 @@
+-- `lines::put_lines` meets its contract. The invariant: with the lines of the readings left, the output is whole. The measure is how many are left. Assumes nothing.
+use native.Mathlib.Omega.{arith}
+use mathlib.Core.Path.{_≡_, refl, ap₂, _∙_}
+use Prim.Native.Nat.{_+_, _-_, _*_, _≤_, _<_}
+use borrow.Author.Needs.{needs}
+use lib.ListN.{length}
+use denote.Ref.{now}
+use Rattle.station.specs.declared.Settings.{Settings}
+use Rattle.station.specs.declared.State.{State}
+use Rattle.receive.specs.Walk.{readingsFrom}
+use Rattle.lines.specs.Lines.{linesOf, captureLines}
+use Rattle.lines.proofs.Puts.{Rest, rest-start, rest-more, rest-last}
+use Rattle.lines.proofs.Steps.{lines-counted, lines-refused, lines-nothing, lines-open, lines-none, lines-all}
 use Rattle.lines.proofs.put_lines.Statement.{statement}
 use Rattle.lines.proofs.put_lines.Tie as tie
-use Rattle.lines.proofs.put_lines.Reads as reads
-use Rattle.lines.proofs.put_lines.Lts as lts
-use Rattle.lines.proofs.put_counted.Reads as put-counted-reads
-use Rattle.lines.proofs.put_last.Reads as put-last-reads
-use Rattle.lines.proofs.settings.Reads as settings-reads
-use Rattle.receive.proofs.read.Reads as read-reads
-use Rattle.station.proofs.fresh_state.Reads as fresh-state-reads
 
 abbrev Inv-loop : tie.InvT-loop
-Inv-loop octets marks out₀ s st₀ place₀ n₀ at₀ left₀ out st place n at left = ?
+Inv-loop octets marks out₀ s st₀ place₀ n₀ at₀ left₀ out st place n at left =
+    (length out ≡ length out₀)
+    × (at + 84 * (left + 1) ≤ length out)
+    × (n + left ≡ length octets + 1)
+    × Rest out₀ (captureLines octets marks) out at (linesOf n (readingsFrom left s st octets marks place))
 
 abbrev μ-loop : tie.MeasureT-loop
-μ-loop octets marks out₀ s st₀ place₀ n₀ at₀ left₀ out st place n at left = ?
+μ-loop octets marks out₀ s st₀ place₀ n₀ at₀ left₀ out st place n at left = left
 
--- src/lib.rt:118:9
 settings-requires : tie.Need-settings-requires Inv-loop μ-loop
-settings-requires c κs = ?
+settings-requires c κs = search needs
 
--- src/lib.rt:119:9
 fresh-state-requires : tie.Need-fresh-state-requires Inv-loop μ-loop
-fresh-state-requires c κs = ?
+fresh-state-requires c κs = search needs
 
--- src/lib.rt:123:20
 add-left : tie.Need-add-left Inv-loop μ-loop
-add-left c = ?
+add-left c = search needs
 
--- src/lib.rt:124:5
 loop-holds : tie.Need-loop-holds Inv-loop μ-loop
-loop-holds c = ?
+loop-holds c =
+    let a = c .before .before .before .before .before .args in
+    let os = now (a .octets) in
+    let ms = now (a .marks) in (
+      refl,
+      search needs,
+      search needs,
+      rest-start
+          (ap₂ (λ (s : Settings) (st : State). linesOf 0 (readingsFrom (length os + 1) s st os ms 0)) (c .before .settings .ensures) (c .fresh-state .ensures)
+          ∙ lines-all os ms),
+    )
 
--- src/lib.rt:125:13
 read-requires : tie.Need-read-requires Inv-loop μ-loop
-read-requires c κs = ?
+read-requires c κs = search needs
 
--- src/lib.rt:128:51
 enum-told : tie.Need-enum-told Inv-loop μ-loop
-enum-told c = ?
+enum-told c = search needs
 
--- src/lib.rt:128:35
 put-last-requires : tie.Need-put-last-requires Inv-loop μ-loop
-put-last-requires c κs = ?
+put-last-requires c κs = search needs
 
--- src/lib.rt:128:35
 same-length : tie.Need-same-length Inv-loop μ-loop
-same-length c = ?
+same-length c = search needs
 
--- src/lib.rt:128:35
 returns : tie.Need-returns Inv-loop μ-loop
-returns c = ?
+returns c =
+    let l = c .before .before .before .before .before .before .before .before in
+    let more : 0 < l .loop .left = omega arith in
+    let p = c .before .before .put-last .ensures in
+    (rest-last (l .loop .inv .3) (p .0) (lines-refused _ _ _ _ _ _ _ more _ (c .before .before .before .before .before .before .read .ensures) _ (c .before .before .before .before .enum-told .given .1)), omega arith)
 
--- src/lib.rt:129:48
 enum-told-2 : tie.Need-enum-told-2 Inv-loop μ-loop
-enum-told-2 c = ?
+enum-told-2 c = search needs
 
--- src/lib.rt:129:32
 put-last-requires-2 : tie.Need-put-last-requires-2 Inv-loop μ-loop
-put-last-requires-2 c κs = ?
+put-last-requires-2 c κs = search needs
 
--- src/lib.rt:129:32
 same-length-2 : tie.Need-same-length-2 Inv-loop μ-loop
-same-length-2 c = ?
+same-length-2 c = search needs
 
--- src/lib.rt:129:32
 returns-2 : tie.Need-returns-2 Inv-loop μ-loop
-returns-2 c = ?
+returns-2 c =
+    let l = c .before .before .before .before .before .before .before .before in
+    let more : 0 < l .loop .left = omega arith in
+    let p = c .before .before .put-last2 .ensures in
+    (rest-last (l .loop .inv .3) (p .0) (lines-nothing _ _ _ _ _ _ _ more _ (c .before .before .before .before .before .before .read .ensures) (c .before .before .before .before .enum-told2 .given .1)), omega arith)
 
--- src/lib.rt:130:45
 enum-told-3 : tie.Need-enum-told-3 Inv-loop μ-loop
-enum-told-3 c = ?
+enum-told-3 c = search needs
 
--- src/lib.rt:130:29
 put-last-requires-3 : tie.Need-put-last-requires-3 Inv-loop μ-loop
-put-last-requires-3 c κs = ?
+put-last-requires-3 c κs = search needs
 
--- src/lib.rt:130:29
 same-length-3 : tie.Need-same-length-3 Inv-loop μ-loop
-same-length-3 c = ?
+same-length-3 c = search needs
 
--- src/lib.rt:130:29
 returns-3 : tie.Need-returns-3 Inv-loop μ-loop
-returns-3 c = ?
+returns-3 c =
+    let l = c .before .before .before .before .before .before .before .before in
+    let more : 0 < l .loop .left = omega arith in
+    let p = c .before .before .put-last3 .ensures in
+    (rest-last (l .loop .inv .3) (p .0) (lines-open _ _ _ _ _ _ _ more _ (c .before .before .before .before .before .before .read .ensures) (c .before .before .before .before .enum-told3 .given .1)), omega arith)
 
--- src/lib.rt:131:29
 enum-known-a : tie.Need-enum-known-a Inv-loop μ-loop
-enum-known-a c = ?
+enum-known-a c = search needs
 
--- src/lib.rt:132:17
 put-counted-requires : tie.Need-put-counted-requires Inv-loop μ-loop
-put-counted-requires c κs = ?
+put-counted-requires c κs = search needs
 
--- src/lib.rt:135:9
 add-n : tie.Need-add-n Inv-loop μ-loop
-add-n c = ?
+add-n c = search needs
 
--- src/lib.rt:138:9
 sub-left : tie.Need-sub-left Inv-loop μ-loop
-sub-left c = ?
+sub-left c = search needs
 
--- src/lib.rt:124:5
 loop-less : tie.Need-loop-less Inv-loop μ-loop
-loop-less c = ?
+loop-less c = search needs
 
--- src/lib.rt:124:5
 loop-again : tie.Need-loop-again Inv-loop μ-loop
-loop-again c = ?
+loop-again c =
+    let l = c .before .before .before .before .before .before .before .before .before .before in
+    let more : 0 < l .loop .left = omega arith in
+    let p = c .before .before .before .put-counted .ensures in (
+      search needs,
+      omega arith,
+      omega arith,
+      rest-more (l .loop .inv .3) (p .0) (lines-counted _ _ _ _ _ _ _ more _ (c .before .before .before .before .before .before .before .before .read .ensures) _ _ _ (c .before .before .before .before .before .before .a .given .1)),
+    )
 
--- src/lib.rt:140:5
 put-last-requires-4 : tie.Need-put-last-requires-4 Inv-loop μ-loop
-put-last-requires-4 c κs = ?
+put-last-requires-4 c κs = search needs
 
--- src/lib.rt:113:1
 same-length-4 : tie.Need-same-length-4 Inv-loop μ-loop
-same-length-4 c = ?
+same-length-4 c = search needs
 
--- src/lib.rt:113:1
 returns-4 : tie.Need-returns-4 Inv-loop μ-loop
-returns-4 c = ?
+returns-4 c =
+    let l = c .before .before .before .before .before in
+    let none : l .loop .left ≡ 0 = omega arith in
+    let p = c .before .before .put-last4 .ensures in
+    (rest-last (l .loop .inv .3) (p .0) (rw none (lines-none _ _ _ _ _ _)), omega arith)
 
 pub put-lines-spec : {M : Type 1} → statement M
 put-lines-spec =

@@ -1,21 +1,17 @@
+-- `read_cases::front` is safe. Assumes nothing.
 use mathlib.Core.Path.{sym}
 use native.Mathlib.Omega.{arith}
 use lib.Seq.{length-take-le}
 use borrow.Author.Needs.{needs}
 use Rattle.read_cases.proofs.front.Statement.{statement}
 use Rattle.read_cases.proofs.front.Tie as tie
-use Rattle.read_cases.proofs.front.Reads as reads
-use Rattle.read_cases.proofs.front.Lts as lts
 
--- src/main.rt:326:9
 returns : tie.Need-returns
 returns c = search needs
 
--- src/main.rt:328:5
 slice-aggregate-result : tie.Need-slice-aggregate-result
 slice-aggregate-result c = sym (length-take-le _ _ (omega arith))
 
--- src/main.rt:324:1
 returns-2 : tie.Need-returns-2
 returns-2 c = search needs
 

@@ -1,0 +1,9 @@
+// The printing program (document 01): standard input is records of mark then octet, standard output the readings of that capture. What is
+// printed is `lines::print_lines`, whose contract says it all; one octet more than the longest input is read, so that a longer one shows.
+fn main() {
+    let mut input = [0u8; 65537];
+    let mut out = [0u8; 2752680];
+    let n = io::read_full(0, &mut input);
+    let k = lines::print_lines(&input[..n], &mut out);
+    io::write_all(1, &out[..k]);
+}
