@@ -1,4 +1,4 @@
--- What a writer did: `new` was written over `old` from `at` on. As a record, so that two writes that follow each other are one by a law.
+-- Internal: What a writer did: `new` was written over `old` from `at` on. As a record, so that two writes that follow each other are one by a law.
 use Prim.Native.Nat.{ℕ, _+_}
 use mathlib.Core.Path.{_≡_}
 use mathlib.Core.List.{List}
