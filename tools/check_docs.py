@@ -1,8 +1,9 @@
 #!/usr/bin/env python3
-"""Holds docs/DEFINITIONS.md to the sources: every definition and record of crates/*/specs is named there, and every
+"""Holds docs/DEFINITIONS.md and docs/PROMISES.md to the sources: every definition and record of crates/*/specs is named there, and every
 name and theorem there exists.
 
-Internal files (those whose first line says `Internal`) need not be named. Prints what is missing and exits 1, or says nothing.
+Every public function and no other is in docs/PROMISES.md, and every must-fail edit named there exists. Internal files (those whose first line
+says `Internal`) need not be named. Prints what is missing and exits 1, or says nothing.
 """
 import pathlib
 import re
@@ -44,6 +45,17 @@ for path in list(root.glob("crates/**/*.antt")) + list(root.glob("crates/**/*.rt
 for name in sorted(named):
     if re.fullmatch(r"[A-Za-z][\w-]*", name) and name not in words:
         missing.append(f"docs/DEFINITIONS.md: `{name}` is nowhere in crates/")
+promises = (root / "docs" / "PROMISES.md").read_text()
+promised = set(re.findall(r"`(\w+::\w+)`", promises))
+public = set()
+for path in root.glob("crates/*/src/lib.rt"):
+    for name in re.findall(r"^pub (?:extern \"C\" )?fn (\w+)", path.read_text(), re.M):
+        public.add(f"{path.parent.parent.name}::{name}")
+missing += [f"docs/PROMISES.md: `{name}` is not there" for name in sorted(public - promised)]
+missing += [f"docs/PROMISES.md: there is no public `{name}`" for name in sorted(promised - public)]
+for crate, edit in re.findall(r"\b(\w+)/`(\w+)`", promises):
+    if not (root / "crates" / crate / "must-fail" / f"{edit}.edit").exists():
+        missing.append(f"docs/PROMISES.md: no edit {crate}/{edit}")
 for line in missing:
     print(line)
 sys.exit(1 if missing else 0)
