@@ -1,0 +1,245 @@
+#!/usr/bin/env python3
+"""The lines that crates/send_cases must print, worked out by model.py alone: `tools/oracle/send_cases.py > crates/send_cases/stdout`.
+
+The case names and their order are those of the program.
+"""
+import zlib
+from dataclasses import dataclass, replace
+
+from model import BROADCAST, RESERVED_GROUP, Client, Settings, State, client_sending, idle_sending, pause_sending, pfc_sending
+
+FAR = 2**64 - 1
+QUANTA = [0x0101 * (n + 1) for n in range(7)] + [65535]
+
+
+def station(n):
+    return [2, 0, 0, 0, 0, n]
+
+
+def settings(flow, **changes):
+    base = Settings(own=station(1), listed=[station(0x11 + i) for i in range(4)], count=0, broadcast=True, promiscuous=False, checking=True,
+                    limit=1518, flow=flow, pass_control=False)
+    return replace(base, **changes)
+
+
+@dataclass(frozen=True)
+class Call:
+    """Where a call writes: the length of each buffer, and a place."""
+    place: int
+    flow: str = "none"
+    octets: int = 1700
+    marks: int = 1700
+    changes: tuple = ()
+    state: State = State()
+
+    def buffers(self):
+        return [0xA5] * self.octets, [0x5A] * self.marks
+
+    def settings(self):
+        return settings(self.flow, **dict(self.changes))
+
+
+def of(n, place, flow="none", **changes):
+    return Call(place, flow, n, n, **changes)
+
+
+def changed(word, before, after, base):
+    return " " + word + "".join(f" {base + i}={b}" for i, (a, b) in enumerate(zip(before, after)) if a != b)
+
+
+def whole(word, octets):
+    return f" {word} {len(octets)} {zlib.crc32(bytes(octets)):08x}"
+
+
+def report(name, before, r):
+    answer = f"refused {r.refusal}" if r.refusal else "wrote"
+    print(f"{name}: {answer} place {r.place}" + whole("octets", r.octets) + whole("marks", r.marks)
+          + changed("counters", before.counters, r.state.counters, 1) + changed("timers", before.timers, r.state.timers, 0))
+
+
+def client(name, call, n, kind=None, cls=0, tag=None, to=station(2)):
+    data = [(1 + 7 * i) % 256 for i in range(n)]
+    report(name, call.state, client_sending(call.settings(), call.state, *call.buffers(), call.place, Client(to, tag, kind, cls, data)))
+
+
+def pause(name, call, quanta=9):
+    report(name, call.state, pause_sending(call.settings(), call.state, *call.buffers(), call.place, quanta))
+
+
+def pfc(name, call, named=9):
+    report(name, call.state, pfc_sending(call.settings(), call.state, *call.buffers(), call.place, named, QUANTA))
+
+
+def idle(name, call, n):
+    report(name, call.state, idle_sending(call.state, *call.buffers(), call.place, n))
+
+
+def wide(limit):
+    return of(10000, 5, changes=(("limit", limit),))
+
+
+def data_cases():
+    for n in [0, 1, 45, 46, 47, 1500]:
+        client(f"length {n}", Call(3 if n else 0), n)
+    for name, n in [("0", 0), ("45", 45), ("46", 46), ("47", 47), ("M - 18", 1500)]:
+        client(f"type with {name}", Call(3 if n else 0), n, 0x0800)
+    for n in [0, 42, 46, 1500]:
+        client(f"tagged, length {n}", Call(3 if n else 0), n, tag=0x2005)
+    client("tagged, type with 45", Call(3), 45, 0x86DD, tag=0x2005)
+    client("tagged, type with M - 18", Call(3), 1500, 0x86DD, tag=0x2005)
+    client("M 9618, type with 9600", wide(9618), 9600, 0x0800)
+    client("M 9618, type with 9601", wide(9618), 9601, 0x0800)
+    client("M 9618, length 1500", wide(9618), 1500)
+    client("M 9618, length 1501", wide(9618), 1501)
+    client("M 9618, tagged, type with 9600", wide(9618), 9600, 0x0800, tag=0x2005)
+    client("length 1501", Call(0), 1501)
+    client("type with M - 17", Call(0), 1501, 0x0800)
+    client("tagged, length 1501", Call(0), 1501, tag=0x2005)
+    client("M 1519, type with 1501", wide(1519), 1501, 0x0800)
+    client("M 1519, type with 1502", wide(1519), 1502, 0x0800)
+    client("to all", Call(3), 50, cls=3, to=BROADCAST)
+    client("to the reserved group", Call(3), 50, cls=3, to=RESERVED_GROUP)
+    client("tag control 0xFFFF", Call(3), 50, cls=3, to=RESERVED_GROUP, tag=0xFFFF)
+    client("tag control 0", Call(3), 50, cls=3, to=RESERVED_GROUP, tag=0)
+
+
+def field_cases():
+    for c in [7, 8, 255]:
+        client(f"class {c}", Call(3), 50, cls=c)
+    for name in ["0", "1535", "1536", "0x8100", "0x8101", "0x8808", "0x88A8", "0xFFFF"]:
+        client(f"type {name}", Call(3), 50, int(name, 0))
+    pause("pause 0", Call(0, "pause"), 0)
+    pause("pause 0x1234", Call(3, "pause"), 0x1234)
+    pause("pause 65,535", Call(3, "pause"), 65535)
+    pause("pause, flow none", Call(3), 1)
+    pause("pause in PFC mode", Call(3, "PFC"), 1)
+    pfc("PFC, no class", Call(0, "PFC"), 0)
+    pfc("PFC, all classes", Call(3, "PFC"), 255)
+    pfc("PFC, classes 0, 2 and 7", Call(3, "PFC"), 0b10000101)
+    pfc("PFC, classes 1 and 6", Call(3, "PFC"), 0b01000010)
+    pfc("PFC, flow none", Call(3), 255)
+    pfc("PFC in pause mode", Call(3, "pause"), 255)
+    for n in [0, 1, 1000]:
+        idle(f"Idle {n}", Call(3), n)
+    idle("Idle, all", Call(0), 1700)
+    idle("Idle, one more", Call(0), 1701)
+    refused_idle("Idle, most", Call(3), FAR)
+
+
+def refused_idle(name, call, n):
+    """A number of Idles that no list holds: more than the buffers have is refused in the same way."""
+    idle(name, call, min(n, 65537))
+
+
+def place_cases():
+    client("client fills 84", of(84, 0), 46)
+    client("client in 83", of(83, 0), 46)
+    client("client ends at the end", of(100, 16), 0)
+    client("client, one short", of(100, 17), 0)
+    client("tagged fills 88", of(88, 0), 0, tag=0x2005)
+    client("tagged in 87", of(87, 0), 0, tag=0x2005)
+    client("47 in 84", of(84, 0), 47)
+    client("1500 fills 1538", of(1538, 0), 1500)
+    client("1500 in 1537", of(1537, 0), 1500)
+    pause("pause fills 84", of(84, 0, "pause"))
+    pause("pause, one short", of(100, 17, "pause"))
+    pfc("PFC fills 84", of(84, 0, "PFC"))
+    pfc("PFC, one short", of(100, 17, "PFC"))
+    idle("Idle in none", of(0, 0), 0)
+    idle("Idle 1 in none", of(0, 0), 1)
+    idle("Idle 0 at the end", Call(1700), 0)
+    client("client at the end", Call(1700), 46)
+    client("client past the end", Call(1701), 46)
+    client("client, largest place", Call(FAR), 46)
+    client("client at 1 of none", of(0, 1), 46)
+    for word, send, flow in [("pause", pause, "pause"), ("PFC", pfc, "PFC")]:
+        send(f"{word} at the end", Call(1700, flow))
+        send(f"{word} past the end", Call(1701, flow))
+        send(f"{word}, largest place", Call(FAR, flow))
+    idle("Idle 1 at the end", Call(1700), 1)
+    idle("Idle past the end", Call(1701), 0)
+    idle("Idle, largest place", Call(FAR), 1)
+
+
+def buffer_cases():
+    group, five = (("own", [3, 0, 0, 0, 0, 1]),), (("count", 5),)
+    client("client, own with group bit", Call(3, changes=group), 46)
+    client("client, five listed", Call(3, changes=five), 46)
+    client("client, M 1517", wide(1517), 46)
+    client("client, M 9619", wide(9619), 46)
+    for word, send, flow in [("pause", pause, "pause"), ("PFC", pfc, "PFC")]:
+        send(f"{word}, own with group bit", Call(3, flow, changes=group))
+        send(f"{word}, five listed", Call(3, flow, changes=five))
+    idle("Idle, five listed", Call(3, changes=five), 9)
+    for word, send, flow in [("client", lambda name, call: client(name, call, 46), "none"), ("pause", pause, "pause"), ("PFC", pfc, "PFC"),
+                             ("Idle", lambda name, call: idle(name, call, 9), "none")]:
+        send(f"{word}, fewer marks", Call(3, flow, 500, 499))
+        send(f"{word}, fewer octets", Call(3, flow, 499, 500))
+    client("client, 65,537 symbols", of(65537, 9), 0)
+    client("client ends at 65,536", of(65536, 65452), 0)
+    pause("pause, 65,537 symbols", of(65537, 9, "pause"))
+    pfc("PFC, 65,537 symbols", of(65537, 9, "PFC"))
+    idle("Idle, 65,537 symbols", of(65537, 9), 9)
+    idle("Idle, 65,536 symbols", of(65536, 0), 65536)
+
+
+def timed(flow, *three):
+    return Call(3, flow, state=State([5] * 11, [*three, 0, 1, 4194240, 2**32 - 1, 0]))
+
+
+def all_at(n, flow="none", place=3):
+    return Call(place, flow, state=State([5] * 11, [n] * 8))
+
+
+def timer_cases():
+    client("client lowers", timed("none", 83, 84, 85), 46, cls=3)
+    client("client of 138 lowers", timed("none", 137, 138, 139), 100, cls=3)
+    client("tagged lowers", timed("none", 87, 88, 89), 46, cls=3, tag=1)
+    pause("pause lowers", timed("pause", 83, 84, 85))
+    pfc("PFC lowers", timed("PFC", 83, 84, 85))
+    tens = timed("none", 9, 10, 11)
+    idle("Idle 9 lowers", tens, 9)
+    idle("Idle 10 lowers", tens, 10)
+    idle("Idle 0 lowers nothing", tens, 0)
+    idle("a refused one lowers nothing", tens, 9999)
+    client("held, class 0", all_at(1), 46)
+    client("held, class 7", all_at(1), 46, cls=7)
+    client("held, largest time", timed("none", 0, 0, 0), 46, cls=6)
+    client("not held", timed("none", 0, 0, 0), 46, cls=7)
+    pause("pause goes", all_at(1, "pause"))
+    pfc("PFC goes", all_at(1, "PFC"))
+    idle("Idle goes", all_at(1), 1)
+
+
+def bad(flow, place):
+    """Settings that are refused, and buffers that differ in length."""
+    return Call(place, flow, 500, 499, changes=(("limit", 1517),))
+
+
+def order_cases():
+    client("client, 1 before 2", bad("none", 3), 46)
+    client("client, 2 before 3", Call(501, "none", 500, 499), 46)
+    client("client, 3 before 5", Call(1701), 46, cls=8)
+    client("client, 5 before 6", Call(3), 46, 1535, cls=8)
+    client("client, 6 before 7", Call(3), 1501, 0x8100)
+    client("client, 7 before 8", Call(1000), 1501)
+    client("client, 7 before 9", all_at(1), 1501)
+    client("client, 8 before 9", all_at(1, place=1650), 46)
+    client("client, 1 before all", bad("none", 501), 1501, 1535, cls=8)
+    for word, send, flow in [("pause", pause, "pause"), ("PFC", pfc, "PFC")]:
+        send(f"{word}, 1 before 2", bad(flow, 3))
+        send(f"{word}, 2 before 3", Call(501, flow, 500, 499))
+        send(f"{word}, 3 before 4", Call(1701))
+        send(f"{word}, 4 before 8", Call(1650))
+        send(f"{word}, 1 before all", bad("none", 501))
+    idle("Idle, 2 before 3", bad("none", 501), 1)
+    idle("Idle, 2 before 8", bad("none", 500), 9)
+    idle("Idle, 3 before 8", Call(1701), 9)
+
+
+data_cases()
+field_cases()
+place_cases()
+buffer_cases()
+timer_cases()
+order_cases()
