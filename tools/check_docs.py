@@ -54,7 +54,8 @@ for path in root.glob("crates/*/src/lib.rt"):
 missing += [f"docs/PROMISES.md: `{name}` is not there" for name in sorted(public - promised)]
 missing += [f"docs/PROMISES.md: there is no public `{name}`" for name in sorted(promised - public)]
 for crate, edit in re.findall(r"\b(\w+)/`(\w+)`", promises):
-    if not (root / "crates" / crate / "must-fail" / f"{edit}.edit").exists():
+    waits = root / "wip" / "must-fail" / crate / f"{edit}.edit.txt"
+    if not (root / "crates" / crate / "must-fail" / f"{edit}.edit").exists() and not waits.exists():
         missing.append(f"docs/PROMISES.md: no edit {crate}/{edit}")
 for line in missing:
     print(line)
