@@ -2,14 +2,14 @@
 // and the readings from place 0 and the walk are printed; tools/oracle/loopback.py works the expected lines out from the oracle's model.
 use receive::Answer;
 use receive::Walked;
-use send::Client;
-use send::Form;
-use send::Tag;
 use station::Address;
 use station::Flow;
 use station::Part;
 use station::Settings;
 use station::State;
+use writing::Client;
+use writing::Form;
+use writing::Tag;
 ghost use Prim.Native.Nat.{_<_, _≤_};
 
 // ---- the two stations

@@ -24,12 +24,12 @@ use Rattle.frame.specs.Address.{accepts}
 use Rattle.frame.proofs.FrameLaws.{fcs-four, fcs-right, frame-length, frame-field, frame-payload, kept-type, kept-long, kept-short}
 use Rattle.flow.specs.Control.{isControlFrame, filtered, takesPause, takesPfc, dropsControl}
 use Rattle.receive.specs.Outcomes.{cut, badPreamble, frameOf, outcomes, outcome}
-use Rattle.send.specs.declared.Client.{Client}
-use Rattle.send.specs.declared.Tag.{Tag}
-use Rattle.send.specs.declared.Form.{Form}
-use Rattle.send.specs.declared.Form.the-variants.{ByLength, ByType}
-use Rattle.send.specs.Frames.{padded, tagOctets, tagsSent, fieldSent, clientBody}
-use Rattle.send.proofs.TagLaws.{tag-length, tags-are, not-control}
+use Rattle.writing.specs.declared.Client.{Client}
+use Rattle.writing.specs.declared.Tag.{Tag}
+use Rattle.writing.specs.declared.Form.{Form}
+use Rattle.writing.specs.declared.Form.the-variants.{ByLength, ByType}
+use Rattle.writing.specs.Frames.{padded, tagOctets, tagsSent, fieldSent, clientBody}
+use Rattle.writing.proofs.TagLaws.{tag-length, tags-are, not-control}
 use Rattle.send.specs.Sending.{badType, longData}
 use Rattle.mac.specs.Demand3.{Frame, Carried, Bits16, delivered}
 

@@ -31,9 +31,9 @@ use Rattle.receive.specs.Reading.{readRun, readStart, readFound, readAt, readRe
 use Rattle.receive.specs.declared.WalkEnd.{WalkEnd}
 use Rattle.receive.specs.Values.{answerRefusal, walkedRefusal, isCounted}
 use Rattle.receive.specs.Walk.{readingsFrom, walk, walkOf, walked}
-use Rattle.send.specs.declared.Client.{Client}
-use Rattle.send.specs.declared.Classes.{Classes}
-use Rattle.send.specs.Frames.{clientSymbols, pauseSymbols, pfcSymbols, idleSymbols}
+use Rattle.writing.specs.declared.Client.{Client}
+use Rattle.writing.specs.declared.Classes.{Classes}
+use Rattle.writing.specs.Frames.{clientSymbols, pauseSymbols, pfcSymbols, idleSymbols}
 use Rattle.send.specs.Sending.{Sending, wentRefusal, sendChecked, clientRefusals, controlRefusals, idleRefusals, clientChecked, pauseChecked, pfcChecked, idleChecked, clientSending, pauseSending, pfcSending, idleSending}
 use Rattle.mac.specs.Demand1.{numbersOf, rowHolds, Exactly, ReadRefused, SendRefused, ReadsOrRefuses, SendsOrRefuses}
 use Rattle.receive.proofs.Walks.{through, walk-through, walked-refused}

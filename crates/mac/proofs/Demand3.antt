@@ -20,7 +20,7 @@ use Rattle.frame.specs.Length.{clientData}
 use Rattle.receive.specs.Outcomes.{frameOf, outcome}
 use Rattle.receive.specs.Walk.{walk, handedOut}
 use Rattle.receive.proofs.Refusals.{passed, fine as refuses-none}
-use Rattle.send.specs.Frames.{gap, onLine, clientBody, clientSymbols}
+use Rattle.writing.specs.Frames.{gap, onLine, clientBody, clientSymbols}
 use Rattle.mac.specs.Demand2.{Readable}
 use Rattle.mac.specs.Demand3.{Frame, Carried, AllCarried, rowSymbols, delivered, allDelivered}
 use Rattle.mac.proofs.Accepted.{accepted, read-back}

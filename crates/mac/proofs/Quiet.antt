@@ -23,8 +23,8 @@ use Rattle.station.specs.declared.Refusal.the-variants.{BadSettings, BadBuffers
 use Rattle.station.specs.declared.Checked.{Checked}
 use Rattle.station.specs.declared.Checked.the-variants.{Refused}
 use Rattle.flow.specs.Timers.{timer}
-use Rattle.send.specs.declared.Client.{Client}
-use Rattle.send.specs.Frames.{clientSymbols}
+use Rattle.writing.specs.declared.Client.{Client}
+use Rattle.writing.specs.Frames.{clientSymbols}
 use Rattle.send.specs.Sending.{held, written, clientRefusals, clientChecked}
 use Rattle.mac.specs.Calls.{Call, reads, sendsClient, sendsPause, sendsPfc, fillsIdle, afterCall, writes, setsClass, NoneSets, firstIs, isClientOf, clientStarts, allClientStarts}
 use Rattle.mac.proofs.Timers.{call-lowers, timer-set}

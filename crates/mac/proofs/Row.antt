@@ -17,7 +17,7 @@ use Rattle.station.specs.declared.Checked.the-variants.{Fine}
 use Rattle.station.specs.Station.{badSettings}
 use Rattle.receive.specs.Walk.{walk, handedOut}
 use Rattle.receive.proofs.Refusals.{fine as refuses-none}
-use Rattle.send.specs.Frames.{clientSymbols}
+use Rattle.writing.specs.Frames.{clientSymbols}
 use Rattle.send.specs.Sending.{Sending, sendChecked, clientChecked, clientSending}
 use Rattle.send.proofs.Refusals.{Passed, passed}
 use Rattle.mac.specs.Demand2.{Readable}

@@ -28,8 +28,8 @@ use Rattle.station.specs.declared.Outcome.the-variants.{Cut, BadPreamble, Under
 use Rattle.flow.specs.Timers.{slotsOf, quantaAt, timer, setAll, setNamed, timersAfter, lowered}
 use Rattle.receive.specs.Outcomes.{outcome, frameOf}
 use Rattle.receive.specs.Reading.{stateAfter, readRun, readStart, readFound, readAt, readRefusals, readChecked, reading}
-use Rattle.send.specs.declared.Client.{Client}
-use Rattle.send.specs.Sending.{held, written, wentRefusal, sendChecked, clientRefusals, clientSending, pauseSending, pfcSending, idleSending}
+use Rattle.writing.specs.declared.Client.{Client}
+use Rattle.send.specs.Sending.{held, written, wentRefusal, stateSent, sendChecked, clientRefusals, clientSending, pauseSending, pfcSending, idleSending}
 use Rattle.mac.specs.Demand1.{rowHolds}
 use Rattle.mac.specs.Calls.{Call, reads, sendsClient, sendsPause, sendsPfc, fillsIdle, afterCall, afterCalls, writes, allWritten, names, quantaOf, setBy, setByStart, setByFound, setChecked, setsClass, NoneSets}
 use Rattle.mac.proofs.Demand1.{client-refuses}
@@ -114,7 +114,7 @@ module _ (s : Settings) (st : State) (k : ℕ) where
 
 sent-lowers : (r : Checked) (st : State) (os ms : List ℕ) (p : ℕ) (new : List Symbol) (k : ℕ)
     → timer (sendChecked r st os ms p new .given .state .timers) k .0 ≡ timer (st .timers) k .0 - length (written r new)
-unfolding sendChecked written
+unfolding sendChecked stateSent written
 sent-lowers (Refused x) st os ms p new k = omega arith
 sent-lowers Fine st os ms p new k = lowered-timer (length new) (st .timers) k
 

@@ -22,9 +22,9 @@ use Rattle.station.specs.Numbers.{byOutcome}
 use Rattle.flow.specs.Timers.{quantaAt}
 use Rattle.receive.specs.Outcomes.{outcome, frameOf}
 use Rattle.receive.specs.Reading.{readRefusals, reading}
-use Rattle.send.specs.declared.Client.{Client}
-use Rattle.send.specs.declared.Classes.{Classes}
-use Rattle.send.specs.Frames.{clientSymbols, pauseSymbols, pfcSymbols, idleSymbols}
+use Rattle.writing.specs.declared.Client.{Client}
+use Rattle.writing.specs.declared.Classes.{Classes}
+use Rattle.writing.specs.Frames.{clientSymbols, pauseSymbols, pfcSymbols, idleSymbols}
 use Rattle.send.specs.Sending.{written, clientChecked, pauseChecked, pfcChecked, idleChecked, clientSending, pauseSending, pfcSending, idleSending}
 
 -- a call: its octets, its marks, its place, and what it is asked

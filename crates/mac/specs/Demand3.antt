@@ -11,11 +11,11 @@ use Rattle.station.specs.declared.State.{State}
 use Rattle.station.specs.declared.Checked.the-variants.{Fine}
 use Rattle.frame.specs.Frame.{oversized}
 use Rattle.frame.specs.Address.{accepts}
-use Rattle.send.specs.declared.Client.{Client}
-use Rattle.send.specs.declared.Form.{Form}
-use Rattle.send.specs.declared.Form.the-variants.{ByLength, ByType}
+use Rattle.writing.specs.declared.Client.{Client}
+use Rattle.writing.specs.declared.Form.{Form}
+use Rattle.writing.specs.declared.Form.the-variants.{ByLength, ByType}
 use Rattle.send.specs.declared.Went.the-variants.{Wrote}
-use Rattle.send.specs.Frames.{padded, clientBody, clientSymbols}
+use Rattle.writing.specs.Frames.{padded, clientBody, clientSymbols}
 use Rattle.send.specs.Sending.{badType, longData, Sending, sending, clientChecked, clientSending}
 
 -- a client frame and its data

@@ -18,12 +18,12 @@ use Rattle.receive.specs.declared.Reading.{Reading}
 use Rattle.receive.specs.Values.{answerOutcome, answerStatus, answerPart}
 use Rattle.receive.specs.Reading.{reading}
 use Rattle.receive.specs.Walk.{walk}
-use Rattle.send.specs.declared.Client.{Client}
-use Rattle.send.specs.declared.Classes.{Classes}
-use Rattle.send.specs.declared.Tag.{Tag}
-use Rattle.send.specs.declared.Tag.the-variants.{Untagged, Tagged}
-use Rattle.send.specs.declared.Form.the-variants.{ByLength}
-use Rattle.send.specs.Frames.{onLine, clientSymbols, pauseSymbols, pfcSymbols}
+use Rattle.writing.specs.declared.Client.{Client}
+use Rattle.writing.specs.declared.Classes.{Classes}
+use Rattle.writing.specs.declared.Tag.{Tag}
+use Rattle.writing.specs.declared.Tag.the-variants.{Untagged, Tagged}
+use Rattle.writing.specs.declared.Form.the-variants.{ByLength}
+use Rattle.writing.specs.Frames.{onLine, clientSymbols, pauseSymbols, pfcSymbols}
 
 -- ---- what the cases are about
 

@@ -1,5 +1,2 @@
 pub mod Calls
-pub mod Pieces
 pub mod Refusals
-pub mod Sizes
-pub mod TagLaws

@@ -18,10 +18,10 @@ use Rattle.station.specs.declared.Checked.{Checked}
 use Rattle.station.specs.declared.Checked.the-variants.{Fine, Refused}
 use Rattle.station.specs.Station.{isGroup, badSettings, badBuffers, badPlace}
 use Rattle.station.proofs.Refusals.{fine-row, or-false, not-false}
-use Rattle.send.specs.declared.Client.{Client}
-use Rattle.send.specs.declared.Form.{Form}
-use Rattle.send.specs.declared.Form.the-variants.{ByLength, ByType}
-use Rattle.send.specs.Frames.{clientSymbols, idleSymbols}
+use Rattle.writing.specs.declared.Client.{Client}
+use Rattle.writing.specs.declared.Form.{Form}
+use Rattle.writing.specs.declared.Form.the-variants.{ByLength, ByType}
+use Rattle.writing.specs.Frames.{clientSymbols, idleSymbols}
 use Rattle.send.specs.Sending.{badClass, badType, longData, noRoom, clientRefusals, controlRefusals, idleRefusals, clientChecked, idleChecked}
 
 -- ---- a table whose first n rows do not hold, and its next row, whose test the code answered by r

@@ -1,4 +1,2 @@
 pub mod Computed
-pub mod Frames
-pub mod Pieces
 pub mod Sending

@@ -10,20 +10,21 @@ use Rattle.line.specs.Table.{Table, _⇒_, _∣_, otherwise, first}
 use Rattle.station.specs.declared.Settings.{Settings}
 use Rattle.station.specs.declared.State.{State}
 use Rattle.station.specs.declared.Quanta.{Quanta}
+use Rattle.station.specs.declared.Refusal.{Refusal}
 use Rattle.station.specs.declared.Refusal.the-variants.{BadSettings, BadBuffers, BadPlace, OtherFlow, BadClass, BadType, LongData, NoRoom, Held}
 use Rattle.station.specs.declared.Checked.{Checked}
 use Rattle.station.specs.declared.Checked.the-variants.{Fine, Refused}
 use Rattle.station.specs.Numbers.{refusalNumber}
 use Rattle.station.specs.Station.{badSettings, badBuffers, badPlace, isPauseMode, isPfcMode}
 use Rattle.flow.specs.Timers.{timer, lowered}
-use Rattle.send.specs.declared.Client.{Client}
-use Rattle.send.specs.declared.Classes.{Classes}
-use Rattle.send.specs.declared.Form.{Form}
-use Rattle.send.specs.declared.Form.the-variants.{ByLength, ByType}
+use Rattle.writing.specs.declared.Client.{Client}
+use Rattle.writing.specs.declared.Classes.{Classes}
+use Rattle.writing.specs.declared.Form.{Form}
+use Rattle.writing.specs.declared.Form.the-variants.{ByLength, ByType}
 use Rattle.send.specs.declared.Went.{Went}
 use Rattle.send.specs.declared.Went.the-variants.{Wrote}
 use Rattle.send.specs.declared.Sent.{Sent}
-use Rattle.send.specs.Frames.{clientSymbols, pauseSymbols, pfcSymbols, idleSymbols}
+use Rattle.writing.specs.Frames.{clientSymbols, pauseSymbols, pfcSymbols, idleSymbols}
 
 -- ---- Sending: what a call gives and leaves, by its refusal and the symbols it would write
 
@@ -46,17 +47,24 @@ unfoldable pub written : Checked → List Symbol → List Symbol
 written (Refused x) new = []
 written Fine new = new
 
+-- "Every call that writes n symbols lowers each timer by n, not below zero."
+unfoldable pub stateSent : State → ℕ → State
+stateSent st n = record { counters = st .counters; timers = lowered n (st .timers) }
+
+-- what a refused call gives, and one that wrote up to a place and left a state
+abbrev pub refusedAt : Refusal → ℕ → State → Sent
+refusedAt x place st = record { answer = Went.Refused x; place = place; state = st }
+
+abbrev pub wroteUpTo : ℕ → State → Sent
+wroteUpTo next st = record { answer = Wrote; place = next; state = st }
+
 -- "gives its own place plus the number of symbols it wrote"; "lowers each timer by n"; "from the place the caller names on; every other symbol
 -- stays". "A refusal gives its number, …, the place it was called with …, the old state, and untouched buffers."
 unfoldable pub sendChecked : Checked → State → List ℕ → List ℕ → ℕ → List Symbol → Sending
-sendChecked (Refused x) st os ms place new = sending (record { answer = Went.Refused x; place = place; state = st }) os ms
+sendChecked (Refused x) st os ms place new = sending (refusedAt x place st) os ms
 sendChecked Fine st os ms place new =
     sending
-    (record {
-      answer = Wrote;
-      place = place + length new;
-      state = record { counters = st .counters; timers = lowered (length new) (st .timers) };
-    })
+    (wroteUpTo (place + length new) (stateSent st (length new)))
     (overwrite os place (octetsOf new))
     (overwrite ms place (marksOf new))
 

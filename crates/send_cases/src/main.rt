@@ -1,10 +1,6 @@
 // Sendings that are run and compared (document 01, "How tight each promise must be"). One line for each call; tools/oracle/send_cases.py
 // works the expected lines out from the oracle's model.
-use send::Classes;
-use send::Client;
-use send::Form;
 use send::Sent;
-use send::Tag;
 use send::Went;
 use station::Address;
 use station::Flow;
@@ -12,6 +8,10 @@ use station::Quanta;
 use station::Settings;
 use station::Slots;
 use station::State;
+use writing::Classes;
+use writing::Client;
+use writing::Form;
+use writing::Tag;
 
 // ---- what a case is made of
 

@@ -10,9 +10,9 @@ use Rattle.line.proofs.Tables.{first-other}
 use Rattle.station.specs.declared.Checked.{Checked}
 use Rattle.station.specs.declared.Checked.the-variants.{Fine}
 use Rattle.station.specs.declared.Refusal.the-variants.{BadSettings, BadBuffers, BadPlace, BadClass, BadType, LongData, NoRoom, Held}
-use Rattle.send.specs.Frames.{clientSymbols}
+use Rattle.writing.specs.Frames.{clientSymbols}
 use Rattle.send.specs.Sending.{noRoom, clientRefusals, clientChecked}
-use Rattle.send.proofs.Sizes.{client-size}
+use Rattle.writing.proofs.Sizes.{client-size}
 use Rattle.send.proofs.Refusals.{after, row-holds, row-passed, limit-from, inside, class-to-7, short-data, room-by}
 use Rattle.send.proofs.check_client.Statement.{statement}
 use Rattle.send.proofs.check_client.Tie as tie

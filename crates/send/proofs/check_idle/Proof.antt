@@ -8,9 +8,9 @@ use Rattle.line.proofs.Tables.{first-other}
 use Rattle.station.specs.declared.Checked.{Checked}
 use Rattle.station.specs.declared.Checked.the-variants.{Fine}
 use Rattle.station.specs.declared.Refusal.the-variants.{BadBuffers, BadPlace, NoRoom}
-use Rattle.send.specs.Frames.{idleSymbols}
+use Rattle.writing.specs.Frames.{idleSymbols}
 use Rattle.send.specs.Sending.{noRoom, idleRefusals, idleChecked}
-use Rattle.send.proofs.Sizes.{idle-size}
+use Rattle.writing.proofs.Sizes.{idle-size}
 use Rattle.send.proofs.Refusals.{after, row-holds, row-passed, inside, room-by}
 use Rattle.send.proofs.check_idle.Statement.{statement}
 use Rattle.send.proofs.check_idle.Tie as tie

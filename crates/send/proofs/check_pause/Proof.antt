@@ -2,9 +2,9 @@
 use mathlib.Core.Path.{_≡_}
 use lib.ListN.{length}
 use borrow.Author.Needs.{needs}
-use Rattle.send.specs.Frames.{pauseSymbols}
+use Rattle.writing.specs.Frames.{pauseSymbols}
 use Rattle.send.specs.Sending.{pauseChecked}
-use Rattle.send.proofs.Sizes.{pause-size}
+use Rattle.writing.proofs.Sizes.{pause-size}
 use Rattle.send.proofs.check_pause.Statement.{statement}
 use Rattle.send.proofs.check_pause.Tie as tie
 

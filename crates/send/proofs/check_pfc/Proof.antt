@@ -2,9 +2,9 @@
 use mathlib.Core.Path.{_≡_}
 use lib.ListN.{length}
 use borrow.Author.Needs.{needs}
-use Rattle.send.specs.Frames.{pfcSymbols}
+use Rattle.writing.specs.Frames.{pfcSymbols}
 use Rattle.send.specs.Sending.{pfcChecked}
-use Rattle.send.proofs.Sizes.{pfc-size}
+use Rattle.writing.proofs.Sizes.{pfc-size}
 use Rattle.send.proofs.check_pfc.Statement.{statement}
 use Rattle.send.proofs.check_pfc.Tie as tie
 

@@ -7,7 +7,7 @@ use Rattle.station.specs.declared.Checked.the-variants.{Fine}
 use Rattle.send.specs.Sending.{idleChecked, idleSending}
 use Rattle.send.proofs.Refusals.{passed-idle}
 use Rattle.send.proofs.Calls.{call-refused, call-wrote}
-use Rattle.send.proofs.Sizes.{idle-size}
+use Rattle.writing.proofs.Sizes.{idle-size}
 use Rattle.send.proofs.fill_idle.Statement.{statement}
 use Rattle.send.proofs.fill_idle.Tie as tie
 
@@ -20,6 +20,9 @@ check-idle-requires c κs = search needs
 enum-known-checked : tie.Need-enum-known-checked
 enum-known-checked c = search needs
 
+refused-requires : tie.Need-refused-requires
+refused-requires c κs = search needs
+
 same-length : tie.Need-same-length
 same-length c = search needs
 
@@ -28,7 +31,7 @@ same-length-2 c = search needs
 
 returns : tie.Need-returns
 unfolding idleSending
-returns c = call-refused _ _ _ _ _ _ _ (sym (c .before .before .before .check-idle .ensures) ∙ c .before .checked .given .1)
+returns c = call-refused _ _ _ _ _ _ _ (sym (c .before .before .before .before .check-idle .ensures) ∙ c .before .before .checked .given .1) (c .refused .ensures)
 
 enum-told : tie.Need-enum-told
 enum-told c = search needs
@@ -41,11 +44,8 @@ idle-at-requires c κs =
     let r = k .room in
     (omega arith, omega arith)
 
-sub-state-sent : tie.Need-sub-state-sent
-sub-state-sent c = search needs
-
-state-sent-requires : tie.Need-state-sent-requires
-state-sent-requires c κs = search needs
+wrote-requires : tie.Need-wrote-requires
+wrote-requires c κs = search needs
 
 same-length-3 : tie.Need-same-length-3
 same-length-3 c = search needs
@@ -55,7 +55,7 @@ same-length-4 c = search needs
 
 returns-2 : tie.Need-returns-2
 unfolding idleSending
-returns-2 c = call-wrote _ _ _ _ _ _ _ (fine (c .before .before .before .before .before .before .before .before)) (c .before .before .before .before .before .idle-at .ensures) (c .state-sent .ensures)
+returns-2 c = call-wrote _ _ _ _ _ _ (fine (c .before .before .before .before .before .before .before .before)) (c .before .before .before .before .before .idle-at .ensures) (c .wrote .ensures)
 
 pub fill-idle-spec : {M : Type 1} → statement M
 fill-idle-spec =
@@ -63,13 +63,13 @@ fill-idle-spec =
     (tie.spec
     check-idle-requires
     enum-known-checked
+    refused-requires
     same-length
     same-length-2
     returns
     enum-told
     idle-at-requires
-    sub-state-sent
-    state-sent-requires
+    wrote-requires
     same-length-3
     same-length-4
     returns-2)

@@ -19,6 +19,9 @@ check-pause-requires c κs = search needs
 enum-known-checked : tie.Need-enum-known-checked
 enum-known-checked c = search needs
 
+refused-requires : tie.Need-refused-requires
+refused-requires c κs = search needs
+
 same-length : tie.Need-same-length
 same-length c = search needs
 
@@ -27,7 +30,7 @@ same-length-2 c = search needs
 
 returns : tie.Need-returns
 unfolding pauseSending
-returns c = call-refused _ _ _ _ _ _ _ (sym (c .before .before .before .check-pause .ensures (c .before .before .before .before .before .before .before .before .args .quanta)) ∙ c .before .checked .given .1)
+returns c = call-refused _ _ _ _ _ _ _ (sym (c .before .before .before .before .check-pause .ensures (c .before .before .before .before .before .before .before .before .before .args .quanta)) ∙ c .before .before .checked .given .1) (c .refused .ensures)
 
 enum-told : tie.Need-enum-told
 enum-told c = search needs
@@ -40,11 +43,8 @@ pause-at-requires c κs =
     let r = k .room in
     (omega arith, omega arith)
 
-sub-state-sent : tie.Need-sub-state-sent
-sub-state-sent c = search needs
-
-state-sent-requires : tie.Need-state-sent-requires
-state-sent-requires c κs = search needs
+wrote-requires : tie.Need-wrote-requires
+wrote-requires c κs = search needs
 
 same-length-3 : tie.Need-same-length-3
 same-length-3 c = search needs
@@ -54,7 +54,7 @@ same-length-4 c = search needs
 
 returns-2 : tie.Need-returns-2
 unfolding pauseSending
-returns-2 c = call-wrote _ _ _ _ _ _ _ (fine (c .before .before .before .before .before .before .before .before)) (c .before .before .before .before .before .pause-at .ensures) (c .state-sent .ensures)
+returns-2 c = call-wrote _ _ _ _ _ _ (fine (c .before .before .before .before .before .before .before .before)) (c .before .before .before .before .before .pause-at .ensures) (c .wrote .ensures)
 
 pub send-pause-spec : {M : Type 1} → statement M
 send-pause-spec =
@@ -62,13 +62,13 @@ send-pause-spec =
     (tie.spec
     check-pause-requires
     enum-known-checked
+    refused-requires
     same-length
     same-length-2
     returns
     enum-told
     pause-at-requires
-    sub-state-sent
-    state-sent-requires
+    wrote-requires
     same-length-3
     same-length-4
     returns-2)

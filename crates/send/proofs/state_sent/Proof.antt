@@ -1,7 +1,7 @@
 -- `send::state_sent` meets its contract. Assumes nothing.
 use borrow.Author.Needs.{needs}
 use mathlib.Core.Path.{_≡_}
-use Rattle.send.specs.Pieces.{stateSent}
+use Rattle.send.specs.Sending.{stateSent}
 use Rattle.send.proofs.state_sent.Statement.{statement}
 use Rattle.send.proofs.state_sent.Tie as tie
 

@@ -1,5 +1,5 @@
 -- `send::tags_sent` meets its contract: each arm computes the definition. Assumes nothing.
-use Rattle.send.specs.Frames.{tagsSent}
+use Rattle.writing.specs.Frames.{tagsSent}
 use borrow.Author.Needs.{needs}
 use Rattle.send.proofs.tags_sent.Statement.{statement}
 use Rattle.send.proofs.tags_sent.Tie as tie

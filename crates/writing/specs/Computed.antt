@@ -1,0 +1,7 @@
+-- Internal: for a case that antt computes, `unfolding computed` opens every definition of this crate and of those below. It says nothing itself.
+use Rattle.writing.specs.Frames.{tagOctets, tagsSent, fieldSent, padded, clientBody, gap, onLine, clientSymbols, pauseBody, classQuanta, pfcBody, pauseSymbols, pfcSymbols, idleSymbols}
+use Rattle.flow.specs.Computed as flow
+
+unfoldable pub computed : Unit {0}
+unfolding flow.computed tagOctets tagsSent fieldSent padded clientBody gap onLine clientSymbols pauseBody classQuanta pfcBody pauseSymbols pfcSymbols idleSymbols
+computed = tt

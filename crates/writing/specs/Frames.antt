@@ -1,0 +1,83 @@
+-- Document 01, "Sending": frames as line symbols.
+use Prim.Native.Nat.{ℕ, _+_, _-_, _/_, _%_}
+use mathlib.Core.Bool.{Bool, true, false, cond}
+use mathlib.Core.List.{List, [], _∷_, _++_, map}
+use lib.ListN.{length, drop, replicate}
+use lib.Dec.{eqb}
+use Rattle.line.specs.Line.{Symbol, asData, asControl, idle, start, terminate, preamble}
+use Rattle.line.specs.Octets.{highFirst}
+use Rattle.fcs.specs.Fcs.{fcs}
+use Rattle.station.specs.declared.Settings.{Settings}
+use Rattle.station.specs.declared.Quanta.{Quanta}
+use Rattle.flow.specs.Control.{reservedGroup}
+use Rattle.writing.specs.declared.Client.{Client}
+use Rattle.writing.specs.declared.Classes.{Classes}
+use Rattle.writing.specs.declared.Tag.{Tag}
+use Rattle.writing.specs.declared.Tag.the-variants.{Untagged, Tagged}
+use Rattle.writing.specs.declared.Form.{Form}
+use Rattle.writing.specs.declared.Form.the-variants.{ByLength, ByType}
+
+-- ---- A client frame
+
+-- "an optional tag control": 0x8100 and the tag control. Item 1 of document 02 makes this a list of tags with their kinds.
+unfoldable pub tagOctets : Tag → List ℕ
+tagOctets Untagged = []
+tagOctets (Tagged control) = highFirst 0x8100 ++ highFirst control
+
+-- how many tags these are
+unfoldable pub tagsSent : Tag → ℕ
+tagsSent Untagged = 0
+tagsSent (Tagged control) = 1
+
+-- "In the length form the field is the data's length."
+unfoldable pub fieldSent : Form → List ℕ → ℕ
+fieldSent ByLength d = length d
+fieldSent (ByType t) d = t
+
+-- "Data under 46 octets is padded with zeros to 46, tagged or not."
+unfoldable pub padded : List ℕ → List ℕ
+padded d = d ++ replicate (46 - length d) 0
+
+-- "names a destination, an optional tag control, a form … and data. Source is the own address.": what the FCS covers
+unfoldable pub clientBody : Settings → Client → List ℕ → List ℕ
+clientBody s c d = c .dest .0 ++ (s .own .0 ++ (tagOctets (c .tag) ++ (highFirst (fieldSent (c .form) d) ++ padded d)))
+
+-- "one Terminate and eleven Idles". Item 5 of document 02 gives this the place and the deficit count.
+unfoldable pub gap : List Symbol
+gap = asControl terminate ∷ replicate 11 (asControl idle)
+
+-- The line: "Start; six data octets 0x55; data 0xD5 …; the frame from destination to FCS; Terminate; Idle", of what the FCS covers
+unfoldable pub onLine : List ℕ → List Symbol
+onLine body = asControl start ∷ (map asData (preamble ++ (body ++ fcs body)) ++ gap)
+
+unfoldable pub clientSymbols : Settings → Client → List ℕ → List Symbol
+clientSymbols s c d = onLine (clientBody s c d)
+
+-- ---- Pause, PFC and Idle fill
+
+-- "A pause frame: reserved group, own address, 0x8808, 0x0001, quanta, 42 zeros."
+unfoldable pub pauseBody : Settings → Quanta → List ℕ
+pauseBody s q = reservedGroup ++ (s .own .0 ++ (highFirst 0x8808 ++ (highFirst 0x0001 ++ (highFirst (q .0) ++ replicate 42 0))))
+
+-- "eight quanta (zero for a class not named)": the lowest bit of `named` names the class of the first quanta left
+unfoldable pub classQuanta : ℕ → List Quanta → List ℕ
+classQuanta named [] = []
+classQuanta named (q ∷ qs) = highFirst (cond (eqb (named % 2) 1) (q .0) 0) ++ classQuanta (named / 2) qs
+
+-- "A PFC frame: 0x0101, zero, class octet, eight quanta …, 26 zeros."
+unfoldable pub pfcBody : Settings → Classes → List ℕ
+pfcBody s k =
+    reservedGroup
+    ++ (s .own .0
+    ++ (highFirst 0x8808 ++ (highFirst 0x0101 ++ (0 ∷ k .named ∷ (classQuanta (k .named) (k .quanta) ++ replicate 26 0)))))
+
+-- "Both get preamble, FCS and gap like others"
+unfoldable pub pauseSymbols : Settings → Quanta → List Symbol
+pauseSymbols s q = onLine (pauseBody s q)
+
+unfoldable pub pfcSymbols : Settings → Classes → List Symbol
+pfcSymbols s k = onLine (pfcBody s k)
+
+-- "Idle fill writes a stated number of Idles."
+unfoldable pub idleSymbols : ℕ → List Symbol
+idleSymbols n = replicate n (asControl idle)

@@ -1,0 +1,305 @@
+// Writing frames as line symbols (document 01, "Sending"): each of the last four functions is one kind of frame, from a place on, where its
+// caller has seen that it fits. Meaning: specs/.
+use splice::fill;
+use splice::put;
+use station::Address;
+use station::Quanta;
+use station::Settings;
+ghost use mathlib.Core.Path.{_≡_};
+ghost use mathlib.Core.Bool.{cond};
+ghost use mathlib.Core.List.{_++_};
+ghost use Prim.Native.Nat.{_+_, _-_, _%_, _≤_, _<_};
+ghost use lib.Dec.{eqb};
+ghost use lib.ListN.{length};
+ghost use Rattle.line.specs.Octets.{highFirst};
+ghost use Rattle.splice.specs.Written.{Put};
+ghost use Rattle.writing.specs.Frames.{tagOctets, fieldSent, padded, clientBody, pauseBody, classQuanta, pfcBody, clientSymbols, pauseSymbols, pfcSymbols, idleSymbols};
+ghost use Rattle.writing.specs.Pieces.{lead, headOf, controlOf, gapOctets, endOf, frameMarks, Laid};
+
+// An optional tag control.
+pub enum Tag {
+    Untagged,
+    Tagged(u16),
+}
+
+// The field: the data's length, or a type.
+pub enum Form {
+    ByLength,
+    ByType(u16),
+}
+
+// A client frame but for its data, which is lent beside it as a slice.
+pub struct Client {
+    pub dest: Address,
+    pub tag: Tag,
+    pub form: Form,
+    pub class: u8,
+}
+
+// What a PFC frame says: the class octet, and a count of quanta for each class.
+pub struct Classes {
+    pub named: u8,
+    pub quanta: [Quanta; 8],
+}
+
+// ---- writing the octets of a frame, each piece where the last one ended
+
+// Start and the preamble.
+const LEAD: [u8; 8] = [0xFB, 0x55, 0x55, 0x55, 0x55, 0x55, 0x55, 0xD5];
+
+// Start, preamble, destination and source.
+fn put_head(octets: &mut [u8], dest: Address, own: Address) -> usize
+    requires { ⌜ 20 ≤ length (now octets) ⌝ }
+    ensures { λ r. ⌜ Put (now (octets .entry)) 0 (headOf (dest .0) own) r (now (octets .exit)) ⌝ }
+{
+    let to = dest.0;
+    let from = own.0;
+    let a = put(octets, 0, &LEAD);
+    let b = put(octets, a, &to);
+    put(octets, b, &from)
+}
+
+// A number in two octets, high octet first.
+fn put_number(octets: &mut [u8], at: usize, n: u16) -> usize
+    requires { ⌜ at + 2 ≤ length (now octets) ⌝ }
+    ensures { λ r. ⌜ Put (now (octets .entry)) at (highFirst n) r (now (octets .exit)) ⌝ }
+{
+    let high = (n / 256 % 256) as u8;
+    let low = (n % 256) as u8;
+    put(octets, at, &[high, low])
+}
+
+// The tag, if there is one.
+fn put_tag(octets: &mut [u8], at: usize, tag: Tag) -> usize
+    requires { ⌜ at + length (tagOctets tag) ≤ length (now octets) ⌝ }
+    ensures { λ r. ⌜ Put (now (octets .entry)) at (tagOctets tag) r (now (octets .exit)) ⌝ }
+{
+    match tag {
+        Tag::Untagged => at,
+        Tag::Tagged(control) => {
+            let a = put_number(octets, at, 0x8100);
+            put_number(octets, a, control)
+        }
+    }
+}
+
+// The field.
+fn field_sent(form: Form, d: &[u8]) -> u16
+    requires { ⌜ length (now d) < 65536 ⌝ }
+    ensures { λ r. ⌜ r ≡ fieldSent form (now (d .entry)) ⌝ }
+{
+    match form {
+        Form::ByLength => d.len() as u16,
+        Form::ByType(t) => t,
+    }
+}
+
+// How many zeros pad n octets of data.
+fn padding(n: usize) -> usize
+    ensures { λ r. ⌜ r ≡ 46 - n ⌝ }
+{
+    if n < 46 { 46 - n } else { 0 }
+}
+
+// The data, padded.
+fn put_data(octets: &mut [u8], at: usize, d: &[u8]) -> usize
+    requires { ⌜ at + length (padded (now d)) ≤ length (now octets) ⌝ }
+    ensures { λ r. ⌜ Put (now (octets .entry)) at (padded (now (d .entry))) r (now (octets .exit)) ⌝ }
+{
+    let zeros = padding(d.len());
+    let a = put(octets, at, d);
+    fill(octets, a, zeros, 0)
+}
+
+// A client frame up to its FCS.
+fn put_client(octets: &mut [u8], s: Settings, client: Client, d: &[u8]) -> usize
+    requires { ⌜ (8 + length (clientBody s client (now d)) ≤ length (now octets)) × (length (now d) < 65536) ⌝ }
+    ensures { λ r. ⌜ Put (now (octets .entry)) 0 (lead ++ clientBody s client (now (d .entry))) r (now (octets .exit)) ⌝ }
+{
+    let tag = client.tag;
+    let form = client.form;
+    let field = field_sent(form, d);
+    let a = put_head(octets, client.dest, s.own);
+    let b = put_tag(octets, a, tag);
+    let c = put_number(octets, b, field);
+    put_data(octets, c, d)
+}
+
+// A control frame up to its opcode.
+fn put_control(octets: &mut [u8], own: Address, opcode: u16) -> usize
+    requires { ⌜ 24 ≤ length (now octets) ⌝ }
+    ensures { λ r. ⌜ Put (now (octets .entry)) 0 (controlOf own opcode) r (now (octets .exit)) ⌝ }
+{
+    let group = Address([0x01, 0x80, 0xC2, 0x00, 0x00, 0x01]);
+    let a = put_head(octets, group, own);
+    let b = put_number(octets, a, 0x8808);
+    put_number(octets, b, opcode)
+}
+
+// A pause frame up to its FCS.
+fn put_pause(octets: &mut [u8], s: Settings, q: Quanta) -> usize
+    requires { ⌜ 68 ≤ length (now octets) ⌝ }
+    ensures { λ r. ⌜ Put (now (octets .entry)) 0 (lead ++ pauseBody s q) r (now (octets .exit)) ⌝ }
+{
+    let a = put_control(octets, s.own, 0x0001);
+    let b = put_number(octets, a, q.0);
+    fill(octets, b, 42, 0)
+}
+
+// The quanta of the class that the lowest bit of `named` stands for: zero if it is not named.
+fn quanta_sent(named: u8, q: Quanta) -> u16
+    ensures { λ r. ⌜ r ≡ cond (eqb (named % 2) 1) (q .0) 0 ⌝ }
+{
+    if named % 2 == 1 { q.0 } else { 0 }
+}
+
+// The quanta of all eight classes.
+fn put_quanta(octets: &mut [u8], at: usize, named: u8, quanta: [Quanta; 8]) -> usize
+    requires { ⌜ at + 16 ≤ length (now octets) ⌝ }
+    ensures { λ r. ⌜ Put (now (octets .entry)) at (classQuanta named quanta) r (now (octets .exit)) ⌝ }
+{
+    let mut left = named;
+    let mut k: usize = 0;
+    while k < 8 {
+        let q = quanta[k];
+        put_number(octets, at + 2 * k, quanta_sent(left, q));
+        left = left / 2;
+        k += 1;
+    }
+    at + 2 * k
+}
+
+// A PFC frame up to its FCS.
+fn put_pfc(octets: &mut [u8], s: Settings, classes: Classes) -> usize
+    requires { ⌜ 68 ≤ length (now octets) ⌝ }
+    ensures { λ r. ⌜ Put (now (octets .entry)) 0 (lead ++ pfcBody s classes) r (now (octets .exit)) ⌝ }
+{
+    let named = classes.named;
+    let quanta = classes.quanta;
+    let a = put_control(octets, s.own, 0x0101);
+    let b = put(octets, a, &[0, named]);
+    let c = put_quanta(octets, b, named, quanta);
+    fill(octets, c, 26, 0)
+}
+
+// ---- what all frames end in
+
+// The gap: Terminate and eleven Idles.
+fn put_gap(octets: &mut [u8], at: usize) -> usize
+    requires { ⌜ at + 12 ≤ length (now octets) ⌝ }
+    ensures { λ r. ⌜ Put (now (octets .entry)) at gapOctets r (now (octets .exit)) ⌝ }
+{
+    let a = put(octets, at, &[0xFD]);
+    fill(octets, a, 11, 0x07)
+}
+
+// The FCS of a frame that is written up to `at`, and the gap.
+fn put_end(octets: &mut [u8], at: usize) -> usize
+    requires { ⌜ (8 ≤ at) × (at + 16 ≤ length (now octets)) ⌝ }
+    ensures { λ r. ⌜ Put (now (octets .entry)) at (endOf (now (octets .entry)) at) r (now (octets .exit)) ⌝ }
+{
+    let check = fcs::octets(fcs::check(&octets[8..at]));
+    let a = put(octets, at, &check);
+    put_gap(octets, a)
+}
+
+// The marks of a frame of n symbols.
+fn put_marks(marks: &mut [u8], n: usize) -> usize
+    requires { ⌜ (13 ≤ n) × (n ≤ length (now marks)) ⌝ }
+    ensures { λ r. ⌜ Put (now (marks .entry)) 0 (frameMarks n) r (now (marks .exit)) ⌝ }
+{
+    let a = put(marks, 0, &[1]);
+    let b = fill(marks, a, n - 13, 0);
+    fill(marks, b, 12, 1)
+}
+
+// ---- frames and Idles, written from the start of two lent parts
+
+// A frame that is written up to its FCS at `at`: its marks, and then, as the octets are in memory by now, its end.
+fn finish(octets: &mut [u8], marks: &mut [u8], at: usize) -> usize
+    requires { ⌜ (8 ≤ at) × (at + 16 ≤ length (now octets)) × (at + 16 ≤ length (now marks)) ⌝ }
+    ensures octets { λ r. ⌜ Put (now (octets .entry)) at (endOf (now (octets .entry)) at) r (now (octets .exit)) ⌝ }
+    ensures marks { λ r. ⌜ Put (now (marks .entry)) 0 (frameMarks r) r (now (marks .exit)) ⌝ }
+{
+    put_marks(marks, at + 16);
+    put_end(octets, at)
+}
+
+fn write_client(octets: &mut [u8], marks: &mut [u8], s: Settings, client: Client, d: &[u8]) -> usize
+    requires { ⌜ (length (clientSymbols s client (now d)) ≤ length (now octets))
+        × (length (clientSymbols s client (now d)) ≤ length (now marks)) × (length (now d) < 65536) ⌝ }
+    ensures { λ r. ⌜ Laid (now (octets .entry)) (now (marks .entry)) 0 (clientSymbols s client (now (d .entry))) r
+        (now (octets .exit)) (now (marks .exit)) ⌝ }
+{
+    let a = put_client(octets, s, client, d);
+    finish(octets, marks, a)
+}
+
+fn write_pause(octets: &mut [u8], marks: &mut [u8], s: Settings, q: Quanta) -> usize
+    requires { ⌜ (length (pauseSymbols s q) ≤ length (now octets)) × (length (pauseSymbols s q) ≤ length (now marks)) ⌝ }
+    ensures { λ r. ⌜ Laid (now (octets .entry)) (now (marks .entry)) 0 (pauseSymbols s q) r (now (octets .exit)) (now (marks .exit)) ⌝ }
+{
+    let a = put_pause(octets, s, q);
+    finish(octets, marks, a)
+}
+
+fn write_pfc(octets: &mut [u8], marks: &mut [u8], s: Settings, classes: Classes) -> usize
+    requires { ⌜ (length (pfcSymbols s classes) ≤ length (now octets)) × (length (pfcSymbols s classes) ≤ length (now marks)) ⌝ }
+    ensures { λ r. ⌜ Laid (now (octets .entry)) (now (marks .entry)) 0 (pfcSymbols s classes) r (now (octets .exit)) (now (marks .exit)) ⌝ }
+{
+    let a = put_pfc(octets, s, classes);
+    finish(octets, marks, a)
+}
+
+fn write_idle(octets: &mut [u8], marks: &mut [u8], n: usize) -> usize
+    requires { ⌜ (n ≤ length (now octets)) × (n ≤ length (now marks)) ⌝ }
+    ensures { λ r. ⌜ Laid (now (octets .entry)) (now (marks .entry)) 0 (idleSymbols n) r (now (octets .exit)) (now (marks .exit)) ⌝ }
+{
+    fill(octets, 0, n, 0x07);
+    fill(marks, 0, n, 1)
+}
+
+// ---- the same from a place on: the part of each buffer from there is lent on
+
+pub fn client_at(
+    octets: &mut [u8],
+    marks: &mut [u8],
+    place: usize,
+    s: Settings,
+    client: Client,
+    d: &[u8],
+) -> usize
+    requires { ⌜ (place + length (clientSymbols s client (now d)) ≤ length (now octets))
+        × (place + length (clientSymbols s client (now d)) ≤ length (now marks)) × (length (now d) < 65536) ⌝ }
+    ensures { λ r. ⌜ Laid (now (octets .entry)) (now (marks .entry)) place (clientSymbols s client (now (d .entry))) r
+        (now (octets .exit)) (now (marks .exit)) ⌝ }
+{
+    place + write_client(&mut octets[place..], &mut marks[place..], s, client, d)
+}
+
+pub fn pause_at(octets: &mut [u8], marks: &mut [u8], place: usize, s: Settings, q: Quanta) -> usize
+    requires { ⌜ (place + length (pauseSymbols s q) ≤ length (now octets)) × (place + length (pauseSymbols s q) ≤ length (now marks)) ⌝ }
+    ensures { λ r. ⌜ Laid (now (octets .entry)) (now (marks .entry)) place (pauseSymbols s q) r (now (octets .exit)) (now (marks .exit)) ⌝ }
+{
+    place + write_pause(&mut octets[place..], &mut marks[place..], s, q)
+}
+
+pub fn pfc_at(
+    octets: &mut [u8],
+    marks: &mut [u8],
+    place: usize,
+    s: Settings,
+    classes: Classes,
+) -> usize
+    requires { ⌜ (place + length (pfcSymbols s classes) ≤ length (now octets)) × (place + length (pfcSymbols s classes) ≤ length (now marks)) ⌝ }
+    ensures { λ r. ⌜ Laid (now (octets .entry)) (now (marks .entry)) place (pfcSymbols s classes) r (now (octets .exit)) (now (marks .exit)) ⌝ }
+{
+    place + write_pfc(&mut octets[place..], &mut marks[place..], s, classes)
+}
+
+pub fn idle_at(octets: &mut [u8], marks: &mut [u8], place: usize, n: usize) -> usize
+    requires { ⌜ (place + n ≤ length (now octets)) × (place + n ≤ length (now marks)) ⌝ }
+    ensures { λ r. ⌜ Laid (now (octets .entry)) (now (marks .entry)) place (idleSymbols n) r (now (octets .exit)) (now (marks .exit)) ⌝ }
+{
+    place + write_idle(&mut octets[place..], &mut marks[place..], n)
+}
