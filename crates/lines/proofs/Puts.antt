@@ -1,33 +1,13 @@
--- Laws of `Put`, for a writer that writes one piece after the other. Assumes nothing.
+-- More laws of `Put`: for a writer that has a rest still to write, and of what stands at the front. Assumes nothing.
 use Prim.Native.Nat.{ℕ, suc, _+_, _≤_}
 use mathlib.Core.Path.{_≡_, sym, ap, ap₂, _∙_}
 use mathlib.Core.List.{List, [], _∷_, _++_}
-use native.Mathlib.Nat.{add-zero}
 use native.Mathlib.Numerals.{add-one}
 use native.Mathlib.Omega.{arith}
 use lib.ListN.{length, take, drop, set, length-append}
 use lib.Seq.{sets, sets-eq, length-sets, length-take-le, take-append-seam}
-use Rattle.lines.specs.Put.{Put}
-
--- two writes, the second where the first ended, are one write
-pub sets-sets : (l : List ℕ) (i : ℕ) (a b : List ℕ) → sets (sets l i a) (i + length a) b ≡ sets l i (a ++ b)
-sets-sets l i [] b = rw add-zero
-sets-sets l i (x ∷ a) b =
-    let e : i + suc (length a) ≡ suc i + length a = omega arith in
-    rw e (sets-sets (set l i x) (suc i) a b)
-
--- one store more, behind n that were written: the turn of a loop that writes
-pub sets-more : (l : List ℕ) (i : ℕ) (a : List ℕ) (n x : ℕ) → length a ≡ n → set (sets l i a) (i + n) x ≡ sets l i (a ++ (x ∷ []))
-sets-more l i a n x e = rw (← e) (sets-sets l i a (x ∷ []))
-
--- a write, and then one from where it ended
-infixl 4 _⨾_
-pub _⨾_ : {l m n a b : List ℕ} {i j k : ℕ} → Put l i a j m → Put m j b k n → Put l i (a ++ b) k n
-_⨾_ {l} {m} {n} {a} {b} {i} {j} {k} p q =
-    record {
-      goes = rw length-append (omega arith);
-      holds = q .holds ∙ rw (p .holds, p .goes) (sets-sets l i a b);
-    }
+use Rattle.splice.specs.Written.{Put}
+use Rattle.splice.proofs.Laws.{sets-sets}
 
 -- what was written, said by an equal list
 pub put-as : {l m a b : List ℕ} {i j : ℕ} → a ≡ b → Put l i a j m → Put l i b j m

@@ -1,5 +1,6 @@
 // What the printing program prints (document 01, "The printing program"). Meaning: specs/.
 use receive::Answer;
+use splice::put;
 use station::Address;
 use station::Flow;
 use station::Outcome;
@@ -12,7 +13,7 @@ ghost use lib.ListN.{length, take};
 ghost use Rattle.station.specs.Numbers.{outcomeNumber};
 ghost use Rattle.lines.specs.Decimal.{decimal};
 ghost use Rattle.lines.specs.Lines.{programSettings, followed, fourNumbers, lastLine, captureLines, badInput, printed, recordOctets, recordMarks};
-ghost use Rattle.lines.specs.Put.{Put};
+ghost use Rattle.splice.specs.Written.{Put};
 
 // ---- writers: each gives the place behind what it wrote
 
@@ -22,18 +23,6 @@ fn put_octet(out: &mut [u8], at: usize, v: u8) -> usize
 {
     out[at] = v;
     at + 1
-}
-
-fn put_word(out: &mut [u8], at: usize, src: &[u8]) -> usize
-    requires { ⌜ at + length (now src) ≤ length (now out) ⌝ }
-    ensures { λ r. ⌜ Put (now (out .entry)) at (now (src .entry)) r (now (out .exit)) ⌝ }
-{
-    let mut j: usize = 0;
-    while j < src.len() {
-        out[at + j] = src[j];
-        j += 1;
-    }
-    at + j
 }
 
 // The digits of n: those of its tenth, and the last one.
@@ -75,9 +64,9 @@ fn put_last(out: &mut [u8], at: usize, n: u64, opened: u64) -> usize
     ensures { λ r. ⌜ Put (now (out .entry)) at (lastLine n opened) r (now (out .exit)) ⌝ }
     ensures { λ r. ⌜ r ≤ at + 84 ⌝ }
 {
-    let i = put_word(out, at, b"starts ");
+    let i = put(out, at, b"starts ");
     let j = put_followed(out, i, n, 32);
-    let k = put_word(out, j, b"open ");
+    let k = put(out, j, b"open ");
     put_followed(out, k, opened, 10)
 }
 
@@ -195,7 +184,7 @@ pub fn print_lines(input: &[u8], out: &mut [u8; 2752680]) -> usize
     ensures { λ r. ⌜ (r ≤ length (now (out .exit))) × (r ≡ length (take r (now (out .exit)))) ⌝ }
 {
     if bad_input(input) {
-        return put_word(out, 0, b"bad input\n");
+        return put(out, 0, b"bad input\n");
     }
     print_good(input, out)
 }

@@ -10,7 +10,7 @@ use Rattle.line.specs.Line.{overwrite}
 use Rattle.splice.specs.Written.{Put}
 
 -- two writes, the second where the first ended, are one write
-sets-sets : (l : List ℕ) (i : ℕ) (a b : List ℕ) → sets (sets l i a) (i + length a) b ≡ sets l i (a ++ b)
+pub sets-sets : (l : List ℕ) (i : ℕ) (a b : List ℕ) → sets (sets l i a) (i + length a) b ≡ sets l i (a ++ b)
 sets-sets l i [] b = rw add-zero
 sets-sets l i (x ∷ a) b =
     let e : i + suc (length a) ≡ suc i + length a = omega arith in

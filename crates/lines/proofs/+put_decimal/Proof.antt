@@ -4,7 +4,8 @@ use native.Mathlib.Omega.{arith}
 use mathlib.Core.Path.{sym, ap}
 use lib.ListN.{length, length-append}
 use Rattle.lines.proofs.Digits.{decimal-small, decimal-more}
-use Rattle.lines.proofs.Puts.{_⨾_, put-as}
+use Rattle.splice.proofs.Laws.{_⨾_}
+use Rattle.lines.proofs.Puts.{put-as}
 use Prim.Native.Nat.{ℕ, _<_}
 use borrow.Fn.Kinds.{In}
 use borrow.Fn.PlainCycle.{Measures, is, falls, and}

@@ -11,16 +11,16 @@ use Rattle.lines.proofs.print_lines.Tie as tie
 bad-input-requires : tie.Need-bad-input-requires
 bad-input-requires c κs = search needs
 
-slice-aggregate-put-word : tie.Need-slice-aggregate-put-word
-slice-aggregate-put-word c = search needs
+slice-aggregate-put : tie.Need-slice-aggregate-put
+slice-aggregate-put c = search needs
 
-put-word-requires : tie.Need-put-word-requires
-put-word-requires c κs = search needs
+put-requires : tie.Need-put-requires
+put-requires c κs = search needs
 
 returns : tie.Need-returns
 returns c =
-    let p = put-as (bad-printed (now (c .before .before .before .before .before .before .args .input)) (sym (c .before .before .before .before .bad-input .ensures) ∙ c .before .before .before .if1 .taken)) (c .put-word .ensures) in
-    (p, put-counts p (omega (arith, c .put-word .ensures .goes)))
+    let p = put-as (bad-printed (now (c .before .before .before .before .before .before .args .input)) (sym (c .before .before .before .before .bad-input .ensures) ∙ c .before .before .before .if1 .taken)) (c .put .ensures) in
+    (p, put-counts p (omega (arith, c .put .ensures .goes)))
 
 print-good-requires : tie.Need-print-good-requires
 print-good-requires c κs = (sym (c .before .before .bad-input .ensures) ∙ c .before .if1 .left, search needs)
@@ -35,8 +35,8 @@ print-lines-spec =
     tie.close
     (tie.spec
     bad-input-requires
-    slice-aggregate-put-word
-    put-word-requires
+    slice-aggregate-put
+    put-requires
     returns
     print-good-requires
     returns-2)

@@ -2,7 +2,7 @@
 use native.Mathlib.Omega.{arith}
 use Rattle.lines.specs.Lines.{followed}
 use Rattle.lines.proofs.Digits.{decimal-64}
-use Rattle.lines.proofs.Puts.{_⨾_}
+use Rattle.splice.proofs.Laws.{_⨾_}
 use borrow.Author.Needs.{needs}
 use Rattle.lines.proofs.put_followed.Statement.{statement}
 use Rattle.lines.proofs.put_followed.Tie as tie

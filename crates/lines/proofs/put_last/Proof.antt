@@ -1,25 +1,25 @@
 -- `lines::put_last` meets its contract: four writes, one after the other. Assumes nothing.
 use native.Mathlib.Omega.{arith}
 use Rattle.lines.specs.Lines.{lastLine}
-use Rattle.lines.proofs.Puts.{_⨾_}
+use Rattle.splice.proofs.Laws.{_⨾_}
 use borrow.Author.Needs.{needs}
 use Rattle.lines.proofs.put_last.Statement.{statement}
 use Rattle.lines.proofs.put_last.Tie as tie
 
-slice-aggregate-put-word : tie.Need-slice-aggregate-put-word
-slice-aggregate-put-word c = search needs
+slice-aggregate-put : tie.Need-slice-aggregate-put
+slice-aggregate-put c = search needs
 
-put-word-requires : tie.Need-put-word-requires
-put-word-requires c κs = search needs
+put-requires : tie.Need-put-requires
+put-requires c κs = search needs
 
 put-followed-requires : tie.Need-put-followed-requires
 put-followed-requires c κs = search needs
 
-slice-aggregate-put-word-2 : tie.Need-slice-aggregate-put-word-2
-slice-aggregate-put-word-2 c = search needs
+slice-aggregate-put-2 : tie.Need-slice-aggregate-put-2
+slice-aggregate-put-2 c = search needs
 
-put-word-requires-2 : tie.Need-put-word-requires-2
-put-word-requires-2 c κs = search needs
+put-requires-2 : tie.Need-put-requires-2
+put-requires-2 c κs = search needs
 
 put-followed-requires-2 : tie.Need-put-followed-requires-2
 put-followed-requires-2 c κs = search needs
@@ -30,19 +30,19 @@ same-length c = search needs
 returns : tie.Need-returns
 unfolding lastLine
 returns c =
-    let p = c .before .before .before .before .before .before .before .before .before .before .before .before .before .before .before .put-word .ensures in
-    let q = c .before .before .before .before .before .before .put-word2 .ensures in
+    let p = c .before .before .before .before .before .before .before .before .before .before .before .before .before .before .before .put .ensures in
+    let q = c .before .before .before .before .before .before .put2 .ensures in
     (p ⨾ c .before .before .before .before .before .before .before .before .before .before .before .put-followed .ensures .0 ⨾ q ⨾ c .before .before .put-followed2 .ensures .0, omega (arith, p .goes, q .goes))
 
 pub put-last-spec : {M : Type 1} → statement M
 put-last-spec =
     tie.close
     (tie.spec
-    slice-aggregate-put-word
-    put-word-requires
+    slice-aggregate-put
+    put-requires
     put-followed-requires
-    slice-aggregate-put-word-2
-    put-word-requires-2
+    slice-aggregate-put-2
+    put-requires-2
     put-followed-requires-2
     same-length
     returns)

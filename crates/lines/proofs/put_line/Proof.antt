@@ -1,7 +1,7 @@
 -- `lines::put_line` meets its contract: four writes, one after the other. Assumes nothing.
 use native.Mathlib.Omega.{arith}
 use Rattle.lines.specs.Lines.{fourNumbers}
-use Rattle.lines.proofs.Puts.{_⨾_}
+use Rattle.splice.proofs.Laws.{_⨾_}
 use borrow.Author.Needs.{needs}
 use Rattle.lines.proofs.put_line.Statement.{statement}
 use Rattle.lines.proofs.put_line.Tie as tie
