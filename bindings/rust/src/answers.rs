@@ -1,0 +1,320 @@
+//! What a call answers: outcome, refusal, status word.
+use std::error::Error;
+use std::fmt;
+
+/// The outcome of a Start, by the first rule of document 01 that holds.
+///
+/// ```
+/// use fenhamper::Outcome;
+///
+/// assert_eq!(Outcome::WrongFcs.number(), 5);
+/// assert_eq!(Outcome::WrongFcs.to_string(), "wrong FCS");
+/// ```
+#[derive(Clone, Copy, Debug, PartialEq, Eq, PartialOrd, Ord, Hash)]
+#[repr(u8)]
+pub enum Outcome {
+    /// Ended by anything but Terminate.
+    Cut = 1,
+    /// Run under 7 octets, or the first 7 wrong.
+    BadPreamble = 2,
+    /// Frame under 64 octets.
+    Undersized = 3,
+    /// Over the limit M, or M + 4 if tagged.
+    Oversized = 4,
+    /// The last four octets differ from the check.
+    WrongFcs = 5,
+    /// Length rule broken, checking on.
+    WrongLength = 6,
+    /// The address rule refuses.
+    Filtered = 7,
+    /// A pause frame set all eight timers.
+    PauseTaken = 8,
+    /// A PFC frame set the timers of the classes that it names.
+    PfcTaken = 9,
+    /// Another control frame, with control frames not passed.
+    ControlDropped = 10,
+    /// Everything else: the client data is handed out.
+    HandedOut = 11,
+}
+
+impl Outcome {
+    /// All outcomes, in the order of their numbers.
+    ///
+    /// ```
+    /// use fenhamper::{Outcome, State};
+    ///
+    /// let state = State::default();
+    /// for outcome in Outcome::ALL {
+    ///     println!(
+    ///         "{:2} {outcome}: {}",
+    ///         outcome.number(),
+    ///         state.counter(outcome)
+    ///     );
+    /// }
+    /// ```
+    pub const ALL: [Outcome; 11] = [
+        Outcome::Cut,
+        Outcome::BadPreamble,
+        Outcome::Undersized,
+        Outcome::Oversized,
+        Outcome::WrongFcs,
+        Outcome::WrongLength,
+        Outcome::Filtered,
+        Outcome::PauseTaken,
+        Outcome::PfcTaken,
+        Outcome::ControlDropped,
+        Outcome::HandedOut,
+    ];
+
+    /// Document 01's number, 1 to 11.
+    pub const fn number(self) -> u8 {
+        self as u8
+    }
+
+    /// Document 01's name.
+    pub const fn name(self) -> &'static str {
+        match self {
+            Outcome::Cut => "cut",
+            Outcome::BadPreamble => "bad preamble",
+            Outcome::Undersized => "undersized",
+            Outcome::Oversized => "oversized",
+            Outcome::WrongFcs => "wrong FCS",
+            Outcome::WrongLength => "wrong length",
+            Outcome::Filtered => "filtered",
+            Outcome::PauseTaken => "pause taken",
+            Outcome::PfcTaken => "PFC taken",
+            Outcome::ControlDropped => "control dropped",
+            Outcome::HandedOut => "handed out",
+        }
+    }
+
+    /// The outcome of a number, if there is one.
+    ///
+    /// ```
+    /// use fenhamper::Outcome;
+    ///
+    /// assert_eq!(Outcome::from_number(11), Some(Outcome::HandedOut));
+    /// assert_eq!(Outcome::from_number(0), None);
+    /// ```
+    pub fn from_number(number: u8) -> Option<Outcome> {
+        let place = number.checked_sub(1)?;
+        Outcome::ALL.get(usize::from(place)).copied()
+    }
+}
+
+impl fmt::Display for Outcome {
+    fn fmt(&self, f: &mut fmt::Formatter<'_>) -> fmt::Result {
+        f.pad(self.name())
+    }
+}
+
+/// Why a call was refused. A refused call leaves the state and every symbol as they were.
+///
+/// ```
+/// use fenhamper::{Capture, Refusal, Settings, State};
+///
+/// let capture = Capture::new(&[0x07; 4], &[1; 4]);
+/// let refusal = capture
+///     .read(&Settings::default(), &mut State::default(), 5)
+///     .unwrap_err();
+/// assert_eq!(refusal, Refusal::BadPlace);
+/// assert_eq!(refusal.number(), 3);
+/// assert_eq!(
+///     refusal.to_string(),
+///     "refusal 3, bad place: place beyond the buffers' length"
+/// );
+/// ```
+#[derive(Clone, Copy, Debug, PartialEq, Eq, PartialOrd, Ord, Hash)]
+#[non_exhaustive]
+pub enum Refusal {
+    /// 1: own address is a group, listed count above 4, or M outside 1518 to 9618.
+    BadSettings,
+    /// 2: octets and marks differ in length, or exceed [`SYMBOLS`](crate::SYMBOLS).
+    BadBuffers,
+    /// 3: place beyond the buffers' length.
+    BadPlace,
+    /// 4: pause or PFC asked in another flow mode.
+    OtherFlow,
+    /// 5: class above 7.
+    BadClass,
+    /// 6: type under 1536, or 0x8100 or 0x8808.
+    BadType,
+    /// 7: data over 1500 in the length form, or over M - 18 in the type form.
+    LongData,
+    /// 8: too few symbols from the place to the end of the buffers.
+    NoRoom,
+    /// 9: a client frame, and the timer of its class is above zero.
+    Held,
+    /// A number that has no name here, or 0 for an answer that has no meaning here: the archive is
+    /// of another version than this face.
+    Unknown(u8),
+}
+
+impl Refusal {
+    /// Document 01's number.
+    pub const fn number(self) -> u8 {
+        match self {
+            Refusal::BadSettings => 1,
+            Refusal::BadBuffers => 2,
+            Refusal::BadPlace => 3,
+            Refusal::OtherFlow => 4,
+            Refusal::BadClass => 5,
+            Refusal::BadType => 6,
+            Refusal::LongData => 7,
+            Refusal::NoRoom => 8,
+            Refusal::Held => 9,
+            Refusal::Unknown(number) => number,
+        }
+    }
+
+    /// The header's name, in words.
+    pub const fn name(self) -> &'static str {
+        match self {
+            Refusal::BadSettings => "bad settings",
+            Refusal::BadBuffers => "bad buffers",
+            Refusal::BadPlace => "bad place",
+            Refusal::OtherFlow => "other flow",
+            Refusal::BadClass => "bad class",
+            Refusal::BadType => "bad type",
+            Refusal::LongData => "long data",
+            Refusal::NoRoom => "no room",
+            Refusal::Held => "held",
+            Refusal::Unknown(_) => "unknown",
+        }
+    }
+
+    const fn reason(self) -> &'static str {
+        match self {
+            Refusal::BadSettings => {
+                "own address is a group, listed count above 4, or M outside 1518 to 9618"
+            }
+            Refusal::BadBuffers => "octets and marks differ in length, or exceed 65536",
+            Refusal::BadPlace => "place beyond the buffers' length",
+            Refusal::OtherFlow => "pause or PFC asked in another flow mode",
+            Refusal::BadClass => "class above 7",
+            Refusal::BadType => "type under 1536, or 0x8100 or 0x8808",
+            Refusal::LongData => {
+                "data over 1500 in the length form, or over M - 18 in the type form"
+            }
+            Refusal::NoRoom => "too few symbols from the place to the end of the buffers",
+            Refusal::Held => "the timer of the frame's class is above zero",
+            Refusal::Unknown(_) => "the archive is of another version",
+        }
+    }
+
+    // Whether an answer's refusal number is 0, which is none, and else which one it is.
+    pub(crate) fn check(number: u64) -> Result<(), Refusal> {
+        Err(match number {
+            0 => return Ok(()),
+            1 => Refusal::BadSettings,
+            2 => Refusal::BadBuffers,
+            3 => Refusal::BadPlace,
+            4 => Refusal::OtherFlow,
+            5 => Refusal::BadClass,
+            6 => Refusal::BadType,
+            7 => Refusal::LongData,
+            8 => Refusal::NoRoom,
+            9 => Refusal::Held,
+            other => Refusal::Unknown(u8::try_from(other).unwrap_or(u8::MAX)),
+        })
+    }
+}
+
+impl fmt::Display for Refusal {
+    fn fmt(&self, f: &mut fmt::Formatter<'_>) -> fmt::Result {
+        write!(
+            f,
+            "refusal {}, {}: {}",
+            self.number(),
+            self.name(),
+            self.reason()
+        )
+    }
+}
+
+impl Error for Refusal {}
+
+/// The status word of a counted Start; 0 for outcomes 1 to 7.
+///
+/// ```
+/// use fenhamper::Status;
+///
+/// // a pause frame to the reserved group, 64 octets
+/// let status = Status::new(0x2C0040002E);
+/// assert!(status.pause() && status.control() && status.multicast());
+/// assert_eq!((status.frame_length(), status.data_length()), (64, 46));
+/// ```
+#[derive(Clone, Copy, Default, PartialEq, Eq, PartialOrd, Ord, Hash)]
+pub struct Status(u64);
+
+impl Status {
+    /// The status of a word.
+    pub const fn new(word: u64) -> Status {
+        Status(word)
+    }
+
+    /// The word itself.
+    pub const fn word(self) -> u64 {
+        self.0
+    }
+
+    const fn bit(self, number: u32) -> bool {
+        self.0 >> number & 1 == 1
+    }
+
+    /// Bit 39: PFC taken.
+    pub const fn pfc(self) -> bool {
+        self.bit(39)
+    }
+
+    /// Bit 38: to one station.
+    pub const fn unicast(self) -> bool {
+        self.bit(38)
+    }
+
+    /// Bit 37: to a group other than broadcast.
+    pub const fn multicast(self) -> bool {
+        self.bit(37)
+    }
+
+    /// Bit 36: broadcast.
+    pub const fn broadcast(self) -> bool {
+        self.bit(36)
+    }
+
+    /// Bit 35: pause taken.
+    pub const fn pause(self) -> bool {
+        self.bit(35)
+    }
+
+    /// Bit 34: a control frame.
+    pub const fn control(self) -> bool {
+        self.bit(34)
+    }
+
+    /// Bit 33: tagged.
+    pub const fn tagged(self) -> bool {
+        self.bit(33)
+    }
+
+    /// Bit 32: stacked tags, always false for now.
+    pub const fn stacked(self) -> bool {
+        self.bit(32)
+    }
+
+    /// Bits 31 to 16: octets from destination to FCS.
+    pub const fn frame_length(self) -> u16 {
+        (self.0 >> 16) as u16
+    }
+
+    /// Bits 15 to 0: octets handed out, or all of the data for outcomes 8 to 10.
+    pub const fn data_length(self) -> u16 {
+        self.0 as u16
+    }
+}
+
+impl fmt::Debug for Status {
+    fn fmt(&self, f: &mut fmt::Formatter<'_>) -> fmt::Result {
+        write!(f, "Status({:#012X})", self.0)
+    }
+}

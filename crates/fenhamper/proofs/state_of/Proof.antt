@@ -1,0 +1,18 @@
+-- `fenhamper::state_of` meets its contract. Assumes nothing.
+use Rattle.fenhamper.specs.Face.{stateOf}
+use borrow.Author.Needs.{needs}
+use Rattle.fenhamper.proofs.state_of.Statement.{statement}
+use Rattle.fenhamper.proofs.state_of.Tie as tie
+
+counters-requires : tie.Need-counters-requires
+counters-requires c κs = search needs
+
+timers-requires : tie.Need-timers-requires
+timers-requires c κs = search needs
+
+returns : tie.Need-returns
+unfolding stateOf
+returns c = cc
+
+pub state-of-spec : {M : Type 1} → statement M
+state-of-spec = tie.close (tie.spec counters-requires timers-requires returns)

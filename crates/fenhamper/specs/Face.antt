@@ -1,0 +1,169 @@
+-- The C face (include/fenhamper.h): what the arrays that cross stand for, and how answers and states cross back. Decoding is total: any
+-- numbers are some settings, some state, some client frame.
+use Prim.Native.Nat.{ℕ, zero, suc, _+_, _-_, _%_}
+use mathlib.Core.Bool.{Bool, true, false, cond, not, _&&_}
+use mathlib.Core.List.{List, [], _∷_, _++_}
+use lib.ListN.{length, getD, replicate}
+use lib.Dec.{eqb, leb}
+use Rattle.line.specs.Octets.{highFirstAt}
+use Rattle.station.specs.declared.Address.{Address}
+use Rattle.station.specs.declared.Flow.{Flow}
+use Rattle.station.specs.declared.Flow.the-variants.{Off, Pause, Pfc}
+use Rattle.station.specs.declared.Settings.{Settings}
+use Rattle.station.specs.declared.Slots.{Slots}
+use Rattle.station.specs.declared.Quanta.{Quanta}
+use Rattle.station.specs.declared.State.{State}
+use Rattle.flow.specs.Timers.{timer}
+use Rattle.receive.specs.declared.Answer.{Answer}
+use Rattle.receive.specs.declared.Answer.the-variants.{Nothing, Open, Counted}
+use Rattle.receive.specs.declared.Reading.{Reading}
+use Rattle.receive.specs.declared.Walked.{Walked}
+use Rattle.receive.specs.declared.Walked.the-variants.{Ended}
+use Rattle.receive.specs.declared.WalkEnd.{WalkEnd}
+use Rattle.receive.specs.Values.{answerOutcome, answerRefusal, answerStatus, answerPart, walkedRefusal}
+use Rattle.writing.specs.declared.Client.{Client}
+use Rattle.writing.specs.declared.Classes.{Classes}
+use Rattle.writing.specs.declared.Tag.{Tag}
+use Rattle.writing.specs.declared.Tag.the-variants.{Untagged, Tagged}
+use Rattle.writing.specs.declared.Form.{Form}
+use Rattle.writing.specs.declared.Form.the-variants.{ByLength, ByType}
+use Rattle.send.specs.declared.Sent.{Sent}
+use Rattle.send.specs.Sending.{Sending, wentRefusal}
+
+-- the values of a function at n places from `at` on
+unfoldable pub each : {A : Type 0} → (ℕ → A) → ℕ → ℕ → List A
+each f at zero = []
+each f at (suc n) = f at ∷ each f (at + 1) n
+
+-- ---- what crosses to the module
+
+-- "0 off, anything else on"
+unfoldable pub isOn : List ℕ → ℕ → Bool
+isOn o i = not (eqb (getD o i 0) 0)
+
+unfoldable pub addressAt : List ℕ → ℕ → Address
+addressAt o at = record { 0 = each (λ (i : ℕ). getD o i 0) at 6 }
+
+-- "1 pause, 2 PFC, anything else none"
+unfoldable pub flowOf : ℕ → Flow
+flowOf n = cond (eqb n 1) Pause (cond (eqb n 2) Pfc Off)
+
+-- settings, of 40 octets
+unfoldable pub settingsOf : List ℕ → Settings
+settingsOf o =
+    record {
+      own = addressAt o 0;
+      listed = addressAt o 6 ∷ addressAt o 12 ∷ addressAt o 18 ∷ addressAt o 24 ∷ [];
+      count = getD o 30 0;
+      broadcast = isOn o 31;
+      promiscuous = isOn o 32;
+      checking = isOn o 33;
+      limit = highFirstAt o 36;
+      flow = flowOf (getD o 35 0);
+      passing = isOn o 34;
+    }
+
+-- "Of a counter and of a timer the low 32 bits are read"
+unfoldable pub lowAt : List ℕ → ℕ → ℕ
+lowAt l i = getD l i 0 % 4294967296
+
+-- a state, of 24 numbers: counters, then timers
+unfoldable pub countersOf : List ℕ → List ℕ
+countersOf l = each (lowAt l) 0 11
+
+unfoldable pub timersOf : List ℕ → List Slots
+timersOf l = each (λ (i : ℕ). record { 0 = lowAt l i }) 11 8
+
+unfoldable pub stateOf : List ℕ → State
+stateOf l = record { counters = countersOf l; timers = timersOf l }
+
+-- a client frame, of 44 octets: "0 none, anything else one"; "0 the data's length, anything else a type"
+unfoldable pub tagOf : List ℕ → Tag
+tagOf o = cond (eqb (getD o 10 0) 0) Untagged (Tagged (highFirstAt o 14))
+
+unfoldable pub formOf : List ℕ → Form
+formOf o = cond (eqb (getD o 7 0) 0) ByLength (ByType (highFirstAt o 8))
+
+unfoldable pub clientOf : List ℕ → Client
+clientOf o = record { dest = addressAt o 0; tag = tagOf o; form = formOf o; class = getD o 6 0 }
+
+-- quanta, of their number; and what a PFC frame says, of the class octet and eight numbers
+abbrev pub quantaOf : ℕ → Quanta
+quantaOf n = record { 0 = n }
+
+unfoldable pub classesOf : ℕ → List ℕ → Classes
+classesOf named l = record { named = named; quanta = each (λ (i : ℕ). quantaOf (getD l i 0)) 0 8 }
+
+-- ---- what crosses back
+
+-- a state as 24 numbers: counters, timers, and zeros for what is kept for later
+unfoldable pub stateNumbers : State → List ℕ
+stateNumbers st = each (λ (i : ℕ). getD (st .counters) i 0) 0 11 ++ (each (λ (i : ℕ). timer (st .timers) i .0) 0 8 ++ replicate 5 0)
+
+-- 0 counted or refused, 1 `none`, 2 `open`
+abbrev pub answerKind : Answer → ℕ
+answerKind (Answer.Refused x) = 0
+answerKind Nothing = 1
+answerKind Open = 2
+answerKind (Counted o w p) = 0
+
+-- a reading: refusal, kind, outcome, the Start's place, the next place, status word, and the client data's place and length
+unfoldable pub readingNumbers : Reading → List ℕ
+readingNumbers r =
+    answerRefusal (r .answer)
+    ∷ answerKind (r .answer)
+    ∷ answerOutcome (r .answer)
+    ∷ r .start
+    ∷ r .next
+    ∷ answerStatus (r .answer)
+    ∷ answerPart (r .answer) .at
+    ∷ answerPart (r .answer) .len
+    ∷ []
+
+-- how a walk that was not refused ended: counted Starts, and 1 if open
+abbrev pub walkedStarts : Walked → ℕ
+walkedStarts (Walked.Refused x) = 0
+walkedStarts (Ended n b) = n
+
+abbrev pub walkedOpen : Walked → ℕ
+walkedOpen (Walked.Refused x) = 0
+walkedOpen (Ended n b) = cond b 1 0
+
+unfoldable pub walkNumbers : WalkEnd → List ℕ
+walkNumbers w = walkedRefusal (w .answer) ∷ walkedStarts (w .answer) ∷ walkedOpen (w .answer) ∷ []
+
+unfoldable pub sentNumbers : Sent → List ℕ
+sentNumbers s = wentRefusal (s .answer) ∷ s .place ∷ []
+
+-- the part itself if it lies inside n octets, else 0 and 0
+unfoldable pub partWithin : ℕ → ℕ → ℕ → List ℕ
+partWithin n at len = cond (leb at n && leb len (n - at)) (at ∷ len ∷ []) (0 ∷ 0 ∷ [])
+
+-- ---- what a call leaves behind its pointers: a record, so that a promise is one equation
+
+pub record Told : Type 0 where
+  pub answer : List ℕ
+  pub state : List ℕ
+
+abbrev pub told : List ℕ → List ℕ → Told
+told a st = record { answer = a; state = st }
+
+-- of a reading, and of a walk
+unfoldable pub readTold : Reading → Told
+readTold r = told (readingNumbers r) (stateNumbers (r .state))
+
+unfoldable pub walkTold : WalkEnd → Told
+walkTold w = told (walkNumbers w) (stateNumbers (w .state))
+
+pub record Wrote : Type 0 where
+  pub answer : List ℕ
+  pub state : List ℕ
+  pub octets : List ℕ
+  pub marks : List ℕ
+
+abbrev pub wrote : List ℕ → List ℕ → List ℕ → List ℕ → Wrote
+wrote a st os ms = record { answer = a; state = st; octets = os; marks = ms }
+
+-- of a sending call
+unfoldable pub sendTold : Sending → Wrote
+sendTold x = wrote (sentNumbers (x .given)) (stateNumbers (x .given .state)) (x .octets) (x .marks)

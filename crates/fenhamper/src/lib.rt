@@ -1,0 +1,462 @@
+// The C face (include/fenhamper.h): each exported function decodes its arrays, calls the module's function of that name, and encodes what
+// comes back. Meaning: specs/Face.antt.
+use receive::Answer;
+use receive::Reading;
+use receive::WalkEnd;
+use receive::Walked;
+use send::Sent;
+use send::Went;
+use station::Address;
+use station::Flow;
+use station::Quanta;
+use station::Settings;
+use station::Slots;
+use station::State;
+use writing::Classes;
+use writing::Client;
+use writing::Form;
+use writing::Tag;
+ghost use mathlib.Core.Path.{_≡_};
+ghost use mathlib.Core.Bool.{cond, not};
+ghost use Prim.Native.Nat.{_+_, _*_, _%_, _<_, _≤_};
+ghost use lib.ListN.{length};
+ghost use lib.Dec.{eqb};
+ghost use Rattle.fcs.specs.Fcs.{fcsOf};
+ghost use Rattle.crc.specs.Crc.{crcOver};
+ghost use Rattle.station.specs.Station.{fresh};
+ghost use Rattle.flow.specs.Timers.{timer};
+ghost use Rattle.receive.specs.Reading.{reading};
+ghost use Rattle.receive.specs.Walk.{walked};
+ghost use Rattle.send.specs.Sending.{clientSending, pauseSending, pfcSending, idleSending};
+ghost use Rattle.fenhamper.specs.Face.{flowOf, addressAt, settingsOf, countersOf, timersOf, stateOf, tagOf, formOf, clientOf, quantaOf, classesOf, stateNumbers, readingNumbers, walkNumbers, sentNumbers, partWithin, told, readTold, walkTold, wrote, sendTold};
+
+// ---- what crosses to the module
+
+// 0 off, anything else on.
+fn is_on(x: u8) -> bool
+    ensures { λ r. ⌜ r ≡ not (eqb x 0) ⌝ }
+{
+    x != 0
+}
+
+// Two octets, high octet first.
+fn high_first(high: u8, low: u8) -> u16
+    ensures { λ r. ⌜ r ≡ high * 256 + low ⌝ }
+{
+    (high as u16) * 256 + (low as u16)
+}
+
+fn flow_mode(n: u8) -> Flow
+    ensures { λ r. ⌜ r ≡ flowOf n ⌝ }
+{
+    if n == 1 {
+        return Flow::Pause;
+    }
+    if n == 2 {
+        return Flow::Pfc;
+    }
+    Flow::Off
+}
+
+// The address in six octets from `at` on.
+fn address(o: &[u8], at: usize) -> Address
+    requires { ⌜ at + 6 ≤ length (now o) ⌝ }
+    ensures { λ r. ⌜ r ≡ addressAt (now (o .entry)) at ⌝ }
+{
+    Address([o[at], o[at + 1], o[at + 2], o[at + 3], o[at + 4], o[at + 5]])
+}
+
+fn settings(o: &[u8; 40]) -> Settings
+    ensures { λ r. ⌜ r ≡ settingsOf (now (o .entry)) ⌝ }
+{
+    let own = address(o, 0);
+    let listed = [
+        address(o, 6),
+        address(o, 12),
+        address(o, 18),
+        address(o, 24),
+    ];
+    let flow = flow_mode(o[35]);
+    let limit = high_first(o[36], o[37]);
+    Settings {
+        own,
+        listed,
+        count: o[30],
+        broadcast: is_on(o[31]),
+        promiscuous: is_on(o[32]),
+        checking: is_on(o[33]),
+        limit,
+        flow,
+        passing: is_on(o[34]),
+    }
+}
+
+// Of each number the low 32 bits.
+fn counters(n: &[u64; 24]) -> [u32; 11]
+    ensures { λ r. ⌜ r ≡ countersOf (now (n .entry)) ⌝ }
+{
+    [
+        (n[0] % 4294967296) as u32,
+        (n[1] % 4294967296) as u32,
+        (n[2] % 4294967296) as u32,
+        (n[3] % 4294967296) as u32,
+        (n[4] % 4294967296) as u32,
+        (n[5] % 4294967296) as u32,
+        (n[6] % 4294967296) as u32,
+        (n[7] % 4294967296) as u32,
+        (n[8] % 4294967296) as u32,
+        (n[9] % 4294967296) as u32,
+        (n[10] % 4294967296) as u32,
+    ]
+}
+
+fn timers(n: &[u64; 24]) -> [Slots; 8]
+    ensures { λ r. ⌜ r ≡ timersOf (now (n .entry)) ⌝ }
+{
+    [
+        Slots((n[11] % 4294967296) as u32),
+        Slots((n[12] % 4294967296) as u32),
+        Slots((n[13] % 4294967296) as u32),
+        Slots((n[14] % 4294967296) as u32),
+        Slots((n[15] % 4294967296) as u32),
+        Slots((n[16] % 4294967296) as u32),
+        Slots((n[17] % 4294967296) as u32),
+        Slots((n[18] % 4294967296) as u32),
+    ]
+}
+
+fn state_of(n: &[u64; 24]) -> State
+    ensures { λ r. ⌜ r ≡ stateOf (now (n .entry)) ⌝ }
+{
+    let counters = counters(n);
+    let timers = timers(n);
+    State { counters, timers }
+}
+
+fn tag(o: &[u8; 44]) -> Tag
+    ensures { λ r. ⌜ r ≡ tagOf (now (o .entry)) ⌝ }
+{
+    if o[10] == 0 {
+        return Tag::Untagged;
+    }
+    Tag::Tagged(high_first(o[14], o[15]))
+}
+
+fn form(o: &[u8; 44]) -> Form
+    ensures { λ r. ⌜ r ≡ formOf (now (o .entry)) ⌝ }
+{
+    if o[7] == 0 {
+        return Form::ByLength;
+    }
+    Form::ByType(high_first(o[8], o[9]))
+}
+
+fn client(o: &[u8; 44]) -> Client
+    ensures { λ r. ⌜ r ≡ clientOf (now (o .entry)) ⌝ }
+{
+    let dest = address(o, 0);
+    let tag = tag(o);
+    let form = form(o);
+    let class = o[6];
+    Client {
+        dest,
+        tag,
+        form,
+        class,
+    }
+}
+
+fn classes(named: u8, q: &[u16; 8]) -> Classes
+    ensures { λ r. ⌜ r ≡ classesOf named (now (q .entry)) ⌝ }
+{
+    let quanta = [
+        Quanta(q[0]),
+        Quanta(q[1]),
+        Quanta(q[2]),
+        Quanta(q[3]),
+        Quanta(q[4]),
+        Quanta(q[5]),
+        Quanta(q[6]),
+        Quanta(q[7]),
+    ];
+    Classes { named, quanta }
+}
+
+// ---- what crosses back
+
+// The slots of a class.
+fn slots(timers: [Slots; 8], class: usize) -> u64
+    requires { ⌜ class < 8 ⌝ }
+    ensures { λ r. ⌜ r ≡ timer timers class .0 ⌝ }
+{
+    let t = timers[class];
+    t.0 as u64
+}
+
+fn state_numbers(state: State) -> [u64; 24]
+    ensures { λ r. ⌜ r ≡ stateNumbers state ⌝ }
+{
+    let c = state.counters;
+    let t = state.timers;
+    [
+        c[0] as u64,
+        c[1] as u64,
+        c[2] as u64,
+        c[3] as u64,
+        c[4] as u64,
+        c[5] as u64,
+        c[6] as u64,
+        c[7] as u64,
+        c[8] as u64,
+        c[9] as u64,
+        c[10] as u64,
+        slots(t, 0),
+        slots(t, 1),
+        slots(t, 2),
+        slots(t, 3),
+        slots(t, 4),
+        slots(t, 5),
+        slots(t, 6),
+        slots(t, 7),
+        0,
+        0,
+        0,
+        0,
+        0,
+    ]
+}
+
+fn reading_numbers(r: Reading) -> [u64; 8]
+    ensures { λ n. ⌜ n ≡ readingNumbers r ⌝ }
+{
+    let answer = r.answer;
+    let start = r.start as u64;
+    let next = r.next as u64;
+    match answer {
+        Answer::Refused(x) => {
+            let n = station::refusal_number(x) as u64;
+            [n, 0, 0, start, next, 0, 0, 0]
+        }
+        Answer::Nothing => [0, 1, 0, start, next, 0, 0, 0],
+        Answer::Open => [0, 2, 0, start, next, 0, 0, 0],
+        Answer::Counted(outcome, status, part) => {
+            let n = station::outcome_number(outcome) as u64;
+            [
+                0,
+                0,
+                n,
+                start,
+                next,
+                status,
+                part.at as u64,
+                part.len as u64,
+            ]
+        }
+    }
+}
+
+fn walk_numbers(w: WalkEnd) -> [u64; 3]
+    ensures { λ n. ⌜ n ≡ walkNumbers w ⌝ }
+{
+    let answer = w.answer;
+    match answer {
+        Walked::Refused(x) => {
+            let n = station::refusal_number(x) as u64;
+            [n, 0, 0]
+        }
+        Walked::Ended(starts, open) => {
+            let n = starts as u64;
+            if open { [0, n, 1] } else { [0, n, 0] }
+        }
+    }
+}
+
+fn sent_numbers(s: Sent) -> [u64; 2]
+    ensures { λ n. ⌜ n ≡ sentNumbers s ⌝ }
+{
+    let answer = s.answer;
+    let place = s.place as u64;
+    match answer {
+        Went::Wrote => [0, place],
+        Went::Refused(x) => {
+            let n = station::refusal_number(x) as u64;
+            [n, place]
+        }
+    }
+}
+
+// The part itself if it lies inside n octets, else 0 and 0. No sum, so that none is too large.
+fn part_within(n: usize, at: usize, len: usize) -> [u64; 2]
+    ensures { λ r. ⌜ r ≡ partWithin n at len ⌝ }
+{
+    if n < at {
+        return [0, 0];
+    }
+    if n - at < len {
+        return [0, 0];
+    }
+    [at as u64, len as u64]
+}
+
+// ---- the exported functions
+
+#[no_mangle]
+pub extern "C" fn fenhamper_fresh_state(state: &mut [u64; 24])
+    ensures { λ _. ⌜ now (state .exit) ≡ stateNumbers fresh ⌝ }
+{
+    *state = state_numbers(station::fresh_state());
+}
+
+#[no_mangle]
+pub extern "C" fn fenhamper_fcs(octets: &[u8]) -> u32
+    ensures { λ r. ⌜ r ≡ fcsOf (now (octets .entry)) ⌝ }
+{
+    fcs::check(octets)
+}
+
+#[no_mangle]
+pub extern "C" fn fenhamper_fcs_update(from: u32, octets: &[u8]) -> u32
+    ensures { λ r. ⌜ r ≡ crcOver from (now (octets .entry)) ⌝ }
+{
+    fcs::update(from, octets)
+}
+
+#[no_mangle]
+pub extern "C" fn fenhamper_read(
+    s: &[u8; 40],
+    state: &mut [u64; 24],
+    octets: &[u8],
+    marks: &[u8],
+    place: usize,
+    answer: &mut [u64; 8],
+)
+    ensures { λ _. ⌜ told (now (answer .exit)) (now (state .exit))
+        ≡ readTold (reading (settingsOf (now (s .entry))) (stateOf (now (state .entry))) (now (octets .entry)) (now (marks .entry)) place) ⌝ }
+{
+    let r = receive::read(settings(s), state_of(state), octets, marks, place);
+    *answer = reading_numbers(r);
+    *state = state_numbers(r.state);
+}
+
+#[no_mangle]
+pub extern "C" fn fenhamper_client_data(
+    octets: usize,
+    at: usize,
+    length: usize,
+    part: &mut [u64; 2],
+)
+    ensures { λ _. ⌜ now (part .exit) ≡ partWithin octets at length ⌝ }
+{
+    *part = part_within(octets, at, length);
+}
+
+#[no_mangle]
+pub extern "C" fn fenhamper_walk(
+    s: &[u8; 40],
+    state: &mut [u64; 24],
+    octets: &[u8],
+    marks: &[u8],
+    answer: &mut [u64; 3],
+)
+    ensures { λ _. ⌜ told (now (answer .exit)) (now (state .exit))
+        ≡ walkTold (walked (settingsOf (now (s .entry))) (stateOf (now (state .entry))) (now (octets .entry)) (now (marks .entry))) ⌝ }
+{
+    let w = receive::walk(settings(s), state_of(state), octets, marks);
+    *answer = walk_numbers(w);
+    *state = state_numbers(w.state);
+}
+
+#[no_mangle]
+pub extern "C" fn fenhamper_send_client(
+    s: &[u8; 40],
+    state: &mut [u64; 24],
+    octets: &mut [u8],
+    marks: &mut [u8],
+    place: usize,
+    frame: &[u8; 44],
+    data: &[u8],
+    answer: &mut [u64; 2],
+)
+    ensures { λ _. ⌜ wrote (now (answer .exit)) (now (state .exit)) (now (octets .exit)) (now (marks .exit))
+        ≡ sendTold (clientSending (settingsOf (now (s .entry))) (stateOf (now (state .entry))) (now (octets .entry)) (now (marks .entry)) place (clientOf (now (frame .entry))) (now («data» .entry))) ⌝ }
+{
+    let r = send::send_client(
+        settings(s),
+        state_of(state),
+        octets,
+        marks,
+        place,
+        client(frame),
+        data,
+    );
+    *answer = sent_numbers(r);
+    *state = state_numbers(r.state);
+}
+
+#[no_mangle]
+pub extern "C" fn fenhamper_send_pause(
+    s: &[u8; 40],
+    state: &mut [u64; 24],
+    octets: &mut [u8],
+    marks: &mut [u8],
+    place: usize,
+    quanta: u16,
+    answer: &mut [u64; 2],
+)
+    ensures { λ _. ⌜ wrote (now (answer .exit)) (now (state .exit)) (now (octets .exit)) (now (marks .exit))
+        ≡ sendTold (pauseSending (settingsOf (now (s .entry))) (stateOf (now (state .entry))) (now (octets .entry)) (now (marks .entry)) place (quantaOf quanta)) ⌝ }
+{
+    let r = send::send_pause(
+        settings(s),
+        state_of(state),
+        octets,
+        marks,
+        place,
+        Quanta(quanta),
+    );
+    *answer = sent_numbers(r);
+    *state = state_numbers(r.state);
+}
+
+#[no_mangle]
+pub extern "C" fn fenhamper_send_pfc(
+    s: &[u8; 40],
+    state: &mut [u64; 24],
+    octets: &mut [u8],
+    marks: &mut [u8],
+    place: usize,
+    named: u8,
+    quanta: &[u16; 8],
+    answer: &mut [u64; 2],
+)
+    ensures { λ _. ⌜ wrote (now (answer .exit)) (now (state .exit)) (now (octets .exit)) (now (marks .exit))
+        ≡ sendTold (pfcSending (settingsOf (now (s .entry))) (stateOf (now (state .entry))) (now (octets .entry)) (now (marks .entry)) place (classesOf named (now (quanta .entry)))) ⌝ }
+{
+    let r = send::send_pfc(
+        settings(s),
+        state_of(state),
+        octets,
+        marks,
+        place,
+        classes(named, quanta),
+    );
+    *answer = sent_numbers(r);
+    *state = state_numbers(r.state);
+}
+
+#[no_mangle]
+pub extern "C" fn fenhamper_fill_idle(
+    state: &mut [u64; 24],
+    octets: &mut [u8],
+    marks: &mut [u8],
+    place: usize,
+    idles: usize,
+    answer: &mut [u64; 2],
+)
+    ensures { λ _. ⌜ wrote (now (answer .exit)) (now (state .exit)) (now (octets .exit)) (now (marks .exit))
+        ≡ sendTold (idleSending (stateOf (now (state .entry))) (now (octets .entry)) (now (marks .entry)) place idles) ⌝ }
+{
+    let r = send::fill_idle(state_of(state), octets, marks, place, idles);
+    *answer = sent_numbers(r);
+    *state = state_numbers(r.state);
+}
