@@ -1,0 +1,23 @@
+//! A reference implementation of document 01: the work of an Ethernet MAC on
+//! line symbols kept in memory.
+//!
+//! Written from that document alone, to be compared with the proved program.
+//! The words in quotes in the comments are the names of its sections.
+
+#![forbid(unsafe_code)]
+#![warn(missing_docs)]
+
+mod check;
+mod frame;
+mod line;
+mod print;
+mod receive;
+mod refusal;
+mod send;
+mod settings;
+
+pub use check::{fcs, fcs_update, Check};
+pub use print::print;
+pub use receive::{read, walk, Answer, Reading, Walked};
+pub use send::{fill_idle, send_client, send_pause, send_pfc, Client, Form, Sent};
+pub use settings::{Flow, Settings, State};

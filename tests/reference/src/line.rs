@@ -1,0 +1,61 @@
+//! "The line": symbols, and where things are in a capture.
+
+/// Most symbols that the two buffers may hold.
+pub(crate) const MAX_SYMBOLS: usize = 65_536;
+
+/// The mark written for data.
+pub(crate) const DATA: u8 = 0;
+/// The mark written for control; in a capture any mark but 0 means control.
+pub(crate) const CONTROL: u8 = 1;
+
+pub(crate) const IDLE: u8 = 0x07;
+pub(crate) const START: u8 = 0xFB;
+pub(crate) const TERMINATE: u8 = 0xFD;
+
+/// The seven data octets between Start and frame.
+pub(crate) const PREAMBLE: [u8; 7] = [0x55, 0x55, 0x55, 0x55, 0x55, 0x55, 0xD5];
+
+/// Idles that follow Terminate on sending.
+pub(crate) const GAP: usize = 11;
+
+/// Octets of the FCS.
+pub(crate) const FCS_LEN: usize = 4;
+
+/// Data shorter than this is padded.
+pub(crate) const MIN_DATA: usize = 46;
+
+/// Field that says that a tag follows.
+pub(crate) const TAG: u16 = 0x8100;
+/// Field of a control frame.
+pub(crate) const CONTROL_FIELD: u16 = 0x8808;
+/// Opcode of a pause frame.
+pub(crate) const PAUSE_OPCODE: u16 = 0x0001;
+/// Opcode of a PFC frame.
+pub(crate) const PFC_OPCODE: u16 = 0x0101;
+/// Smallest field that is a type.
+pub(crate) const FIRST_TYPE: u16 = 1536;
+/// Largest field that is a length.
+pub(crate) const LAST_LENGTH: u16 = 1500;
+
+/// Destination of control frames.
+pub(crate) const RESERVED_GROUP: [u8; 6] = [0x01, 0x80, 0xC2, 0x00, 0x00, 0x01];
+pub(crate) const BROADCAST: [u8; 6] = [0xFF; 6];
+
+/// Is the group bit (lowest bit of the first octet) set?
+pub(crate) fn is_group(address: &[u8; 6]) -> bool {
+    address[0] & 1 == 1
+}
+
+/// Place of the first Start at `place` or later. Only a control symbol
+/// starts a frame: 0xFB as data is passed over.
+pub(crate) fn find_start(octets: &[u8], marks: &[u8], place: usize) -> Option<usize> {
+    let mut symbols = octets.get(place..)?.iter().zip(marks.get(place..)?);
+    let ahead = symbols.position(|(&octet, &mark)| mark != DATA && octet == START)?;
+    Some(place + ahead)
+}
+
+/// Place of the first control symbol at `place` or later.
+pub(crate) fn find_control(marks: &[u8], place: usize) -> Option<usize> {
+    let ahead = marks.get(place..)?.iter().position(|&mark| mark != DATA)?;
+    Some(place + ahead)
+}

@@ -1,0 +1,59 @@
+//! "The printing program".
+
+use std::fmt::Write;
+
+use crate::check::Check;
+use crate::receive::{walk_with, Answer, Walked};
+use crate::settings::{Flow, Settings, State};
+
+/// Most records of two octets that are read.
+const MAX_RECORDS: usize = 32_768;
+
+const BAD_INPUT: &str = "bad input\n";
+
+const SETTINGS: Settings = Settings {
+    own: [0x02, 0x00, 0x00, 0x00, 0x00, 0x01],
+    listed: [[0; 6]; 4],
+    count: 0,
+    broadcast: true,
+    promiscuous: false,
+    checking: true,
+    limit: 1518,
+    flow: Flow::None,
+    pass_control: false,
+};
+
+/// What the printing program prints for this standard input.
+///
+/// Open point: every line, `bad input` included, ends with a newline.
+pub fn print(input: &[u8]) -> String {
+    let records = input.chunks_exact(2);
+    if !records.remainder().is_empty() || records.len() > MAX_RECORDS {
+        return BAD_INPUT.to_owned();
+    }
+    let (marks, octets): (Vec<u8>, Vec<u8>) = records.map(|record| (record[0], record[1])).unzip();
+
+    let mut text = String::new();
+    let mut state = State::default();
+    let kind = Check::Slicing16;
+    let walked = walk_with(kind, &SETTINGS, &mut state, &octets, &marks, |reading| {
+        if let Answer::Counted {
+            outcome,
+            status,
+            len,
+            ..
+        } = reading.answer
+        {
+            // Writing to a string doesn't fail.
+            let _ = writeln!(text, "{} {outcome} {status} {len}", reading.start);
+        }
+    });
+    match walked {
+        // Not reached: the settings are valid and the buffers of equal length.
+        Walked::Refused(_) => return BAD_INPUT.to_owned(),
+        Walked::Ended { starts, open } => {
+            let _ = writeln!(text, "starts {starts} open {}", u8::from(open));
+        }
+    }
+    text
+}

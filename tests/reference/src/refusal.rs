@@ -1,0 +1,71 @@
+//! "Refusals and their order". Each check gives its number as the error, so a
+//! call that makes its checks in rising order, with `?` between them, gives
+//! the lowest.
+
+use crate::line::{CONTROL_FIELD, FIRST_TYPE, LAST_LENGTH, MAX_SYMBOLS, TAG};
+use crate::send::Form;
+use crate::settings::{Flow, Settings, State};
+
+pub(crate) type Checked = Result<(), u8>;
+
+fn refuse(number: u8, when: bool) -> Checked {
+    if when {
+        Err(number)
+    } else {
+        Ok(())
+    }
+}
+
+/// Refusal 1.
+pub(crate) fn settings(settings: &Settings) -> Checked {
+    refuse(1, !settings.are_valid())
+}
+
+/// Refusals 2 and 3. A place equal to the length isn't beyond it.
+pub(crate) fn line(octets: &[u8], marks: &[u8], place: usize) -> Checked {
+    let differ = octets.len() != marks.len();
+    refuse(2, differ || octets.len() > MAX_SYMBOLS)?;
+    refuse(3, place > octets.len())
+}
+
+/// Refusal 4.
+pub(crate) fn flow(settings: &Settings, asked: Flow) -> Checked {
+    refuse(4, settings.flow != asked)
+}
+
+/// Refusal 5.
+pub(crate) fn class(class: u8) -> Checked {
+    refuse(5, class > 7)
+}
+
+/// Refusals 6 and 7.
+///
+/// Open point: a tag doesn't lower the data limit of the type form, as the
+/// table names none and a tag raises the frame's limit by its own four octets.
+pub(crate) fn form(settings: &Settings, form: Form, data: usize) -> Checked {
+    let most = match form {
+        Form::Length => usize::from(LAST_LENGTH),
+        Form::Type(field) => {
+            refuse(
+                6,
+                field < FIRST_TYPE || [TAG, CONTROL_FIELD].contains(&field),
+            )?;
+            usize::from(settings.limit).saturating_sub(18)
+        }
+    };
+    refuse(7, data > most)
+}
+
+/// Refusal 8, for a place that isn't beyond the buffers.
+pub(crate) fn room(octets: &[u8], place: usize, needed: usize) -> Checked {
+    refuse(8, octets.len().saturating_sub(place) < needed)
+}
+
+/// Refusal 9.
+///
+/// Open point: the flow mode isn't asked, as the table doesn't name it. A
+/// timer set earlier holds in every mode.
+pub(crate) fn timer(state: &State, class: u8) -> Checked {
+    let timer = state.timers.get(usize::from(class));
+    refuse(9, timer.is_some_and(|&slots| slots > 0))
+}

@@ -1,0 +1,285 @@
+//! "Sending".
+
+use crate::check::{fcs, Check};
+use crate::line::{CONTROL, CONTROL_FIELD, DATA, FCS_LEN, GAP, IDLE, MIN_DATA, PAUSE_OPCODE};
+use crate::line::{PFC_OPCODE, PREAMBLE, RESERVED_GROUP, START, TAG, TERMINATE};
+use crate::refusal;
+use crate::settings::{is_named, Flow, Settings, State};
+
+/// The form of a client frame.
+#[derive(Clone, Copy, Debug, PartialEq, Eq)]
+pub enum Form {
+    /// The field is the data's length.
+    Length,
+    /// The field is this type.
+    Type(u16),
+}
+
+/// What a client frame names besides its data.
+#[derive(Clone, Copy, Debug, PartialEq, Eq)]
+pub struct Client {
+    /// Destination.
+    pub dest: [u8; 6],
+    /// Tag control, if tagged.
+    pub tag: Option<u16>,
+    /// Length or type.
+    pub form: Form,
+    /// Class, 0 to 7; above that is refused.
+    pub class: u8,
+}
+
+/// What a sending call answers.
+#[derive(Clone, Copy, Debug, PartialEq, Eq)]
+pub enum Sent {
+    /// Written; holds the place after what was written.
+    Wrote(usize),
+    /// Refused, with the number of the refusal.
+    Refused(u8),
+}
+
+impl From<Result<usize, u8>> for Sent {
+    fn from(result: Result<usize, u8>) -> Self {
+        result.map_or_else(Sent::Refused, Sent::Wrote)
+    }
+}
+
+/// The lent buffers and the place to write from.
+struct Line<'a> {
+    octets: &'a mut [u8],
+    marks: &'a mut [u8],
+    place: usize,
+}
+
+impl Line<'_> {
+    /// Refusals 2 and 3.
+    fn check(&self) -> refusal::Checked {
+        refusal::line(self.octets, self.marks, self.place)
+    }
+
+    /// Refusal 8.
+    fn has_room(&self, symbols: usize) -> refusal::Checked {
+        refusal::room(self.octets, self.place, symbols)
+    }
+}
+
+/// Octets before the frame: Start and preamble.
+const OPENING: usize = 1 + PREAMBLE.len();
+/// Octets after the frame: Terminate and gap.
+const CLOSING: usize = 1 + GAP;
+/// Zeros to pad with.
+const ZEROS: [u8; MIN_DATA] = [0; MIN_DATA];
+
+/// A frame to send: the parts that follow each other from the destination to
+/// the end of data, and the zeros behind them.
+struct Outgoing<'a> {
+    parts: [&'a [u8]; 5],
+    padding: &'static [u8],
+}
+
+impl<'a> Outgoing<'a> {
+    /// Puts source, tag and padding where they belong.
+    fn new(
+        dest: &'a [u8; 6],
+        s: &'a Settings,
+        tag: &'a [u8],
+        field: &'a [u8; 2],
+        data: &'a [u8],
+    ) -> Self {
+        Outgoing {
+            parts: [dest, &s.own, tag, field, data],
+            padding: &ZEROS[data.len().min(MIN_DATA)..],
+        }
+    }
+
+    fn parts(&self) -> impl Iterator<Item = &[u8]> {
+        self.parts.into_iter().chain([self.padding])
+    }
+
+    /// Octets that the FCS covers.
+    fn covered(&self) -> usize {
+        self.parts().map(<[u8]>::len).sum()
+    }
+
+    /// Symbols from Start to the last Idle.
+    fn symbols(&self) -> usize {
+        OPENING + self.covered() + FCS_LEN + CLOSING
+    }
+
+    /// Writes the frame where room was found for it, and gives the place
+    /// after it.
+    fn write(&self, kind: Check, state: &mut State, line: Line) -> usize {
+        let covered = self.covered();
+        let symbols = self.symbols();
+        let after = line.place + symbols;
+
+        let octets = &mut line.octets[line.place..after];
+        let (opening, octets) = octets.split_at_mut(OPENING);
+        let (frame, octets) = octets.split_at_mut(covered);
+        let (check, closing) = octets.split_at_mut(FCS_LEN);
+        opening[0] = START;
+        opening[1..].copy_from_slice(&PREAMBLE);
+        let mut at = 0;
+        for part in self.parts() {
+            frame[at..at + part.len()].copy_from_slice(part);
+            at += part.len();
+        }
+        check.copy_from_slice(&fcs(kind, frame).to_le_bytes());
+        closing.fill(IDLE);
+        closing[0] = TERMINATE;
+
+        let marks = &mut line.marks[line.place..after];
+        marks.fill(DATA);
+        marks[0] = CONTROL;
+        marks[symbols - CLOSING..].fill(CONTROL);
+
+        state.pass(symbols);
+        after
+    }
+}
+
+/// Sends a client frame, unless the timer of its class runs.
+#[allow(clippy::too_many_arguments)] // The shape is that of the compared call.
+pub fn send_client(
+    kind: Check,
+    s: &Settings,
+    state: &mut State,
+    octets: &mut [u8],
+    marks: &mut [u8],
+    place: usize,
+    client: &Client,
+    data: &[u8],
+) -> Sent {
+    let line = Line {
+        octets,
+        marks,
+        place,
+    };
+    client_frame(kind, s, state, line, client, data).into()
+}
+
+fn client_frame(
+    kind: Check,
+    s: &Settings,
+    state: &mut State,
+    line: Line,
+    client: &Client,
+    data: &[u8],
+) -> Result<usize, u8> {
+    refusal::settings(s)?;
+    line.check()?;
+    refusal::class(client.class)?;
+    refusal::form(s, client.form, data.len())?;
+
+    let field = match client.form {
+        // At most 1500, by refusal 7.
+        Form::Length => data.len() as u16,
+        Form::Type(field) => field,
+    }
+    .to_be_bytes();
+    let tag = client.tag.map(|control| {
+        let ([a, b], [c, d]) = (TAG.to_be_bytes(), control.to_be_bytes());
+        [a, b, c, d]
+    });
+    let tag = tag.as_ref().map_or(&[][..], <[u8; 4]>::as_slice);
+    let frame = Outgoing::new(&client.dest, s, tag, &field, data);
+
+    line.has_room(frame.symbols())?;
+    refusal::timer(state, client.class)?;
+    Ok(frame.write(kind, state, line))
+}
+
+/// Sends a pause frame, whatever the timers are.
+pub fn send_pause(
+    kind: Check,
+    s: &Settings,
+    state: &mut State,
+    octets: &mut [u8],
+    marks: &mut [u8],
+    place: usize,
+    quanta: u16,
+) -> Sent {
+    let line = Line {
+        octets,
+        marks,
+        place,
+    };
+    let mut data = [0; 4];
+    data[..2].copy_from_slice(&PAUSE_OPCODE.to_be_bytes());
+    data[2..].copy_from_slice(&quanta.to_be_bytes());
+    control_frame(kind, s, state, line, Flow::Pause, &data).into()
+}
+
+/// Sends a PFC frame, whatever the timers are. Bit n of `named` names class
+/// n; the quanta of a class that isn't named are sent as zero.
+#[allow(clippy::too_many_arguments)] // The shape is that of the compared call.
+pub fn send_pfc(
+    kind: Check,
+    s: &Settings,
+    state: &mut State,
+    octets: &mut [u8],
+    marks: &mut [u8],
+    place: usize,
+    named: u8,
+    quanta: &[u16; 8],
+) -> Sent {
+    let line = Line {
+        octets,
+        marks,
+        place,
+    };
+    let mut data = [0; 20];
+    data[..2].copy_from_slice(&PFC_OPCODE.to_be_bytes());
+    data[3] = named;
+    let fields = data[4..].chunks_exact_mut(2);
+    for (class, (field, quanta)) in fields.zip(quanta).enumerate() {
+        if is_named(named, class) {
+            field.copy_from_slice(&quanta.to_be_bytes());
+        }
+    }
+    control_frame(kind, s, state, line, Flow::Pfc, &data).into()
+}
+
+/// A control frame: both kinds have 46 octets of data, the rest of which is
+/// zeros, so the padding of short data does for the 42 and the 26.
+fn control_frame(
+    kind: Check,
+    s: &Settings,
+    state: &mut State,
+    line: Line,
+    asked: Flow,
+    data: &[u8],
+) -> Result<usize, u8> {
+    refusal::settings(s)?;
+    line.check()?;
+    refusal::flow(s, asked)?;
+    let field = CONTROL_FIELD.to_be_bytes();
+    let frame = Outgoing::new(&RESERVED_GROUP, s, &[], &field, data);
+    line.has_room(frame.symbols())?;
+    Ok(frame.write(kind, state, line))
+}
+
+/// Writes `n` Idles.
+pub fn fill_idle(
+    state: &mut State,
+    octets: &mut [u8],
+    marks: &mut [u8],
+    place: usize,
+    n: usize,
+) -> Sent {
+    let line = Line {
+        octets,
+        marks,
+        place,
+    };
+    idles(state, line, n).into()
+}
+
+fn idles(state: &mut State, line: Line, n: usize) -> Result<usize, u8> {
+    line.check()?;
+    line.has_room(n)?;
+    let after = line.place + n;
+    line.octets[line.place..after].fill(IDLE);
+    line.marks[line.place..after].fill(CONTROL);
+    state.pass(n);
+    Ok(after)
+}

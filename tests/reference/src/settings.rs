@@ -1,0 +1,124 @@
+//! Settings and state, with the "Address rule" and the timers.
+
+use crate::line::{is_group, BROADCAST};
+
+/// Flow mode.
+#[derive(Clone, Copy, Debug, PartialEq, Eq)]
+pub enum Flow {
+    /// Neither pause nor PFC.
+    None,
+    /// Pause frames, for all classes together.
+    Pause,
+    /// Priority pause frames, for each class.
+    Pfc,
+}
+
+/// What the caller sets. Any value can be written down; refusal 1 tells the
+/// wrong ones.
+#[derive(Clone, Copy, Debug, PartialEq, Eq)]
+pub struct Settings {
+    /// The own address.
+    pub own: [u8; 6],
+    /// Further addresses, of which the first `count` are listed.
+    pub listed: [[u8; 6]; 4],
+    /// How many addresses are listed; above 4 is refused.
+    pub count: u8,
+    /// Accept broadcast.
+    pub broadcast: bool,
+    /// Accept every destination.
+    pub promiscuous: bool,
+    /// Check lengths.
+    pub checking: bool,
+    /// The limit M.
+    pub limit: u16,
+    /// Flow mode.
+    pub flow: Flow,
+    /// Hand out control frames that aren't taken.
+    pub pass_control: bool,
+}
+
+impl Settings {
+    /// The opposite of refusal 1.
+    pub(crate) fn are_valid(&self) -> bool {
+        !is_group(&self.own)
+            && usize::from(self.count) <= self.listed.len()
+            && (1518..=9618).contains(&self.limit)
+    }
+
+    /// "Address rule".
+    pub(crate) fn accept(&self, destination: &[u8; 6]) -> bool {
+        if self.promiscuous {
+            return true;
+        }
+        if *destination == BROADCAST {
+            return self.broadcast;
+        }
+        let mut listed = self.listed.iter().take(usize::from(self.count));
+        *destination == self.own || listed.any(|address| address == destination)
+    }
+}
+
+/// "Reading one Start": the outcomes by their numbers.
+#[derive(Clone, Copy, Debug, PartialEq, Eq)]
+pub(crate) enum Outcome {
+    Cut = 1,
+    BadPreamble = 2,
+    Undersized = 3,
+    Oversized = 4,
+    WrongFcs = 5,
+    WrongLength = 6,
+    Filtered = 7,
+    PauseTaken = 8,
+    PfcTaken = 9,
+    ControlDropped = 10,
+    HandedOut = 11,
+}
+
+/// What lasts from call to call; a fresh state is all zeros.
+#[derive(Clone, Copy, Debug, Default, PartialEq, Eq)]
+pub struct State {
+    /// One counter for each outcome; outcome 1 is at index 0.
+    pub counters: [u32; 11],
+    /// One timer for each class, in slots.
+    pub timers: [u32; 8],
+}
+
+/// Slots in a count of quanta: a quantum is 512 bit times, which is 64 slots.
+fn slots(quanta: u16) -> u32 {
+    u32::from(quanta) * 64
+}
+
+impl State {
+    /// Counts one Start with this outcome, modulo 2^32.
+    pub(crate) fn count(&mut self, outcome: Outcome) {
+        let counter = &mut self.counters[outcome as usize - 1];
+        *counter = counter.wrapping_add(1);
+    }
+
+    /// Sets every timer from one count of quanta.
+    pub(crate) fn pause(&mut self, quanta: u16) {
+        self.timers = [slots(quanta); 8];
+    }
+
+    /// Sets the timers of the classes whose bit in `named` is set.
+    pub(crate) fn pause_classes(&mut self, named: u8, quanta: &[u16; 8]) {
+        for (class, (timer, &quanta)) in self.timers.iter_mut().zip(quanta).enumerate() {
+            if is_named(named, class) {
+                *timer = slots(quanta);
+            }
+        }
+    }
+
+    /// Lowers every timer by the number of symbols written, not below zero.
+    pub(crate) fn pass(&mut self, symbols: usize) {
+        let passed = u32::try_from(symbols).unwrap_or(u32::MAX);
+        for timer in &mut self.timers {
+            *timer = timer.saturating_sub(passed);
+        }
+    }
+}
+
+/// Does bit n of a class octet name class n?
+pub(crate) fn is_named(named: u8, class: usize) -> bool {
+    (usize::from(named) >> class) & 1 == 1
+}

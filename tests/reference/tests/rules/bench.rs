@@ -1,0 +1,106 @@
+//! Calls whose general promises are checked each time: a refusal changes
+//! nothing, sending changes only what it wrote and lowers every timer.
+
+use reference::{fill_idle, read, send_client, send_pause, send_pfc, walk};
+use reference::{Answer, Check, Client, Reading, Sent, Settings, State, Walked};
+
+use crate::hand::{KINDS, PLAIN};
+
+#[derive(Clone, Debug, PartialEq)]
+pub struct Bench {
+    pub s: Settings,
+    pub state: State,
+    pub octets: Vec<u8>,
+    pub marks: Vec<u8>,
+    pub place: usize,
+}
+
+impl Bench {
+    /// Buffers of that length, filled with what no call writes.
+    pub fn new(len: usize) -> Self {
+        Bench {
+            s: PLAIN,
+            state: State::default(),
+            octets: vec![0xA7; len],
+            marks: vec![0xC9; len],
+            place: 0,
+        }
+    }
+
+    /// Makes a sending call in all three ways, checks what holds for every
+    /// one and goes on to the place after it.
+    fn send(&mut self, call: impl Fn(Check, &mut Bench) -> Sent) -> Sent {
+        let before = self.clone();
+        let sent = call(KINDS[0], self);
+        for &kind in &KINDS[1..] {
+            let mut other = before.clone();
+            assert_eq!(call(kind, &mut other), sent);
+            assert_eq!(&other, self);
+        }
+        match sent {
+            Sent::Refused(_) => assert_eq!(*self, before),
+            Sent::Wrote(after) => {
+                let place = before.place;
+                assert!(place <= after && after <= before.octets.len());
+                assert_eq!(self.octets[..place], before.octets[..place]);
+                assert_eq!(self.octets[after..], before.octets[after..]);
+                assert_eq!(self.marks[..place], before.marks[..place]);
+                assert_eq!(self.marks[after..], before.marks[after..]);
+                assert!(self.marks[place..after].iter().all(|&mark| mark < 2));
+                assert_eq!(self.state.counters, before.state.counters);
+                let passed = (after - place) as u32;
+                let lowered = before.state.timers.map(|t| t.saturating_sub(passed));
+                assert_eq!(self.state.timers, lowered);
+                self.place = after;
+            }
+        }
+        sent
+    }
+
+    pub fn client(&mut self, client: &Client, data: &[u8]) -> Sent {
+        self.send(|kind, b| {
+            let (state, octets, marks) = (&mut b.state, &mut b.octets, &mut b.marks);
+            send_client(kind, &b.s, state, octets, marks, b.place, client, data)
+        })
+    }
+
+    pub fn pause(&mut self, quanta: u16) -> Sent {
+        self.send(|kind, b| {
+            let (state, octets, marks) = (&mut b.state, &mut b.octets, &mut b.marks);
+            send_pause(kind, &b.s, state, octets, marks, b.place, quanta)
+        })
+    }
+
+    pub fn pfc(&mut self, named: u8, quanta: &[u16; 8]) -> Sent {
+        self.send(|kind, b| {
+            let (state, octets, marks) = (&mut b.state, &mut b.octets, &mut b.marks);
+            send_pfc(kind, &b.s, state, octets, marks, b.place, named, quanta)
+        })
+    }
+
+    pub fn idle(&mut self, n: usize) -> Sent {
+        self.send(|_, b| fill_idle(&mut b.state, &mut b.octets, &mut b.marks, b.place, n))
+    }
+
+    pub fn read(&mut self) -> Reading {
+        let before = self.state;
+        let kind = Check::ByteTable;
+        let (octets, marks) = (&self.octets, &self.marks);
+        let reading = read(kind, &self.s, &mut self.state, octets, marks, self.place);
+        if let Answer::Refused(_) = reading.answer {
+            assert_eq!((reading.start, reading.next), (self.place, self.place));
+            assert_eq!(self.state, before);
+        }
+        reading
+    }
+
+    pub fn walk(&mut self) -> Walked {
+        let before = self.state;
+        let kind = Check::ByteTable;
+        let walked = walk(kind, &self.s, &mut self.state, &self.octets, &self.marks);
+        if let Walked::Refused(_) = walked {
+            assert_eq!(self.state, before);
+        }
+        walked
+    }
+}

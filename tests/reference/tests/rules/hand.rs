@@ -1,0 +1,188 @@
+//! Captures put together by hand, without the sender under test.
+
+use reference::{read, walk, Answer, Check, Flow, Reading, Settings, State, Walked};
+
+pub const KINDS: [Check; 3] = [Check::Bitwise, Check::ByteTable, Check::Slicing16];
+
+pub const IDLE: u8 = 0x07;
+pub const START: u8 = 0xFB;
+pub const TERMINATE: u8 = 0xFD;
+pub const ERROR: u8 = 0xFE;
+
+pub const OWN: [u8; 6] = [0x02, 0, 0, 0, 0, 1];
+pub const OTHER: [u8; 6] = [0x02, 0, 0, 0, 0, 2];
+pub const MULTICAST: [u8; 6] = [0x01, 0, 0x5E, 0, 0, 7];
+pub const RESERVED: [u8; 6] = [0x01, 0x80, 0xC2, 0, 0, 1];
+pub const BROADCAST: [u8; 6] = [0xFF; 6];
+
+/// The settings of the printing program.
+pub const PLAIN: Settings = Settings {
+    own: OWN,
+    listed: [[0; 6]; 4],
+    count: 0,
+    broadcast: true,
+    promiscuous: false,
+    checking: true,
+    limit: 1518,
+    flow: Flow::None,
+    pass_control: false,
+};
+
+pub const PAUSE: Settings = Settings {
+    flow: Flow::Pause,
+    ..PLAIN
+};
+
+pub const PFC: Settings = Settings {
+    flow: Flow::Pfc,
+    ..PLAIN
+};
+
+/// The FCS as clause 3 defines it: the register isn't bit-reversed, octets go
+/// in low bit first, the result is complemented and sent from its top bit on,
+/// low bit of each octet first.
+pub fn clause_3(octets: &[u8]) -> [u8; 4] {
+    let mut register = u32::MAX;
+    for octet in octets {
+        for bit in 0..8 {
+            let feedback = (register >> 31) ^ u32::from(octet >> bit & 1);
+            register = (register << 1) ^ (feedback * 0x04C1_1DB7);
+        }
+    }
+    (!register).to_be_bytes().map(u8::reverse_bits)
+}
+
+/// A frame from destination to FCS.
+pub fn frame(dest: [u8; 6], header: &[u16], data: &[u8]) -> Vec<u8> {
+    let mut octets = dest.to_vec();
+    octets.extend(OTHER);
+    octets.extend(header.iter().flat_map(|number| number.to_be_bytes()));
+    octets.extend(data);
+    octets.extend(clause_3(&octets));
+    octets
+}
+
+/// Data in which neighbouring octets differ.
+pub fn ramp(len: usize) -> Vec<u8> {
+    (1..=251).cycle().take(len).collect()
+}
+
+#[derive(Clone, Default)]
+pub struct Capture {
+    pub octets: Vec<u8>,
+    pub marks: Vec<u8>,
+}
+
+impl Capture {
+    pub fn new() -> Self {
+        Self::default()
+    }
+
+    pub fn control(mut self, octet: u8) -> Self {
+        self.octets.push(octet);
+        self.marks.push(1);
+        self
+    }
+
+    pub fn data(mut self, octets: &[u8]) -> Self {
+        self.octets.extend(octets);
+        self.marks.resize(self.octets.len(), 0);
+        self
+    }
+
+    pub fn open_frame(self, frame: &[u8]) -> Self {
+        self.control(START)
+            .data(&[0x55; 6])
+            .data(&[0xD5])
+            .data(frame)
+    }
+
+    pub fn frame(self, frame: &[u8]) -> Self {
+        self.open_frame(frame).control(TERMINATE)
+    }
+
+    pub fn read(&self, s: &Settings, state: &mut State, place: usize) -> Reading {
+        let mut readings = KINDS.iter().map(|&kind| {
+            let mut own = *state;
+            let reading = read(kind, s, &mut own, &self.octets, &self.marks, place);
+            (reading, own)
+        });
+        let (reading, after) = readings.next().unwrap();
+        assert!(readings.all(|other| other == (reading, after)));
+        *state = after;
+        reading
+    }
+
+    pub fn walk(&self, s: &Settings, state: &mut State) -> Walked {
+        walk(Check::ByteTable, s, state, &self.octets, &self.marks)
+    }
+
+    /// Outcomes of all counted Starts, and whether the walk ended open.
+    pub fn outcomes(&self, s: &Settings) -> (Vec<u8>, bool) {
+        let mut state = State::default();
+        let mut outcomes = Vec::new();
+        let mut place = 0;
+        loop {
+            let reading = self.read(s, &mut state, place);
+            match reading.answer {
+                Answer::Counted { outcome, .. } => outcomes.push(outcome),
+                Answer::None => return (outcomes, false),
+                Answer::Open => return (outcomes, true),
+                Answer::Refused(number) => panic!("refused {number}"),
+            }
+            place = reading.next;
+        }
+    }
+}
+
+/// What a single frame at place 0 gives.
+#[derive(Debug, PartialEq)]
+pub struct Seen {
+    pub outcome: u8,
+    pub status: u64,
+    pub data: Vec<u8>,
+}
+
+/// Reads a single frame and checks everything that doesn't depend on it: the
+/// places, the one counter that rises, the empty parts of outcomes 1 to 10.
+pub fn see_with(s: &Settings, state: &mut State, frame: &[u8]) -> Seen {
+    let capture = Capture::new().frame(frame).control(IDLE);
+    let mut expected = *state;
+    let reading = capture.read(s, state, 0);
+    assert_eq!(reading.start, 0);
+    assert_eq!(reading.next, 8 + frame.len());
+    let Answer::Counted {
+        outcome,
+        status,
+        at,
+        len,
+    } = reading.answer
+    else {
+        panic!("{reading:?}");
+    };
+    let counter = &mut expected.counters[usize::from(outcome) - 1];
+    *counter = counter.wrapping_add(1);
+    assert_eq!(state.counters, expected.counters);
+    if outcome != 8 && outcome != 9 {
+        assert_eq!(state.timers, expected.timers);
+    }
+    if outcome != 11 {
+        assert_eq!((at, len), (0, 0));
+    }
+    if outcome < 8 {
+        assert_eq!(status, 0);
+    }
+    Seen {
+        outcome,
+        status,
+        data: capture.octets[at..at + len].to_vec(),
+    }
+}
+
+pub fn see(s: &Settings, frame: &[u8]) -> Seen {
+    see_with(s, &mut State::default(), frame)
+}
+
+pub fn outcome(s: &Settings, frame: &[u8]) -> u8 {
+    see(s, frame).outcome
+}

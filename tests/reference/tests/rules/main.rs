@@ -1,0 +1,13 @@
+//! The rules of document 01, one module for each part.
+
+mod bench;
+mod fcs;
+mod hand;
+mod limits;
+mod printing;
+mod reading;
+mod refusals;
+mod robust;
+mod round_trip;
+mod sending;
+mod timers;

@@ -1,0 +1,174 @@
+//! What is sent is read again, also behind damage (demand 3).
+
+use reference::{read, Answer, Check, Client, Flow, Form, Sent, Settings, State, Walked};
+
+use crate::bench::Bench;
+use crate::hand::{frame, ramp, MULTICAST, OTHER, OWN, PAUSE, PFC, PLAIN};
+use crate::robust::Dice;
+
+/// The sender has another address than the receiver.
+fn sender(len: usize) -> Bench {
+    let mut bench = Bench::new(len);
+    bench.s.own = OTHER;
+    bench
+}
+
+fn clients() -> Vec<(Client, Vec<u8>)> {
+    let mut all = Vec::new();
+    for len in [0, 1, 45, 46, 47, 99, 1500] {
+        for tag in [None, Some(0xE123)] {
+            for form in [Form::Length, Form::Type(0x0800), Form::Type(0xFFFF)] {
+                for dest in [OWN, MULTICAST, [0xFF; 6]] {
+                    let client = Client {
+                        dest,
+                        tag,
+                        form,
+                        class: 0,
+                    };
+                    all.push((client, ramp(len)));
+                }
+            }
+        }
+    }
+    all
+}
+
+fn receiver() -> Settings {
+    Settings {
+        listed: [[0; 6], MULTICAST, [0; 6], [0; 6]],
+        count: 2,
+        ..PLAIN
+    }
+}
+
+/// What comes out: the data, followed by zeros to 46 in the type form.
+fn received(client: &Client, data: &[u8]) -> Vec<u8> {
+    let mut data = data.to_vec();
+    if client.form != Form::Length {
+        data.resize(data.len().max(46), 0);
+    }
+    data
+}
+
+/// Reads from a place on and gives the data handed out, in order.
+fn handed_out(bench: &Bench, s: &Settings, from: usize) -> Vec<Vec<u8>> {
+    let mut parts = Vec::new();
+    let mut state = State::default();
+    let mut place = 0;
+    loop {
+        let kind = Check::Slicing16;
+        let reading = read(kind, s, &mut state, &bench.octets, &bench.marks, place);
+        match reading.answer {
+            Answer::Counted {
+                outcome, at, len, ..
+            } => {
+                if reading.start >= from {
+                    assert_eq!(outcome, 11);
+                    parts.push(bench.octets[at..at + len].to_vec());
+                }
+            }
+            Answer::None => return parts,
+            Answer::Open | Answer::Refused(_) => panic!("{reading:?}"),
+        }
+        place = reading.next;
+    }
+}
+
+#[test]
+fn clients_back_to_back() {
+    let mut bench = sender(65_536);
+    let mut expected = Vec::new();
+    for (client, data) in clients() {
+        match bench.client(&client, &data) {
+            Sent::Wrote(_) => expected.push(received(&client, &data)),
+            refused => {
+                assert_eq!(refused, Sent::Refused(8));
+                break;
+            }
+        }
+    }
+    assert!(expected.len() > 100);
+    let last = bench.place;
+    bench.octets.truncate(last);
+    bench.marks.truncate(last);
+    assert_eq!(handed_out(&bench, &receiver(), 0), expected);
+
+    bench.s = receiver();
+    let walked = bench.walk();
+    let ended = Walked::Ended {
+        starts: expected.len(),
+        open: false,
+    };
+    assert_eq!(walked, ended);
+    let mut counters = [0; 11];
+    counters[10] = expected.len() as u32;
+    assert_eq!(bench.state.counters, counters);
+}
+
+#[test]
+fn frames_behind_damage() {
+    let whole = {
+        let mut line = vec![(1, 0xFB)];
+        line.extend([0x55, 0x55, 0x55, 0x55, 0x55, 0x55, 0xD5].map(|octet| (0, octet)));
+        line.extend(
+            frame(OWN, &[0x0800], &ramp(46))
+                .iter()
+                .map(|&octet| (0, octet)),
+        );
+        line.push((1, 0xFD));
+        line
+    };
+    let mut dice = Dice::new(3);
+    let mut damages: Vec<Vec<(u8, u8)>> =
+        (0..=whole.len()).map(|cut| whole[..cut].to_vec()).collect();
+    for len in 0..200 {
+        damages.push((0..len).map(|_| dice.symbol()).collect());
+    }
+    for damage in damages {
+        let mut bench = sender(damage.len() + 3 * 88);
+        for (at, &(mark, octet)) in damage.iter().enumerate() {
+            bench.marks[at] = mark;
+            bench.octets[at] = octet;
+        }
+        bench.place = damage.len();
+        let mut expected = Vec::new();
+        for (form, tag) in [
+            (Form::Length, Some(3)),
+            (Form::Type(0x0800), Some(0)),
+            (Form::Length, Some(0xFFFF)),
+        ] {
+            let client = Client {
+                dest: OWN,
+                tag,
+                form,
+                class: 1,
+            };
+            let data = ramp(30 + expected.len());
+            assert!(matches!(bench.client(&client, &data), Sent::Wrote(_)));
+            expected.push(received(&client, &data));
+        }
+        assert_eq!(bench.place, bench.octets.len());
+        assert_eq!(handed_out(&bench, &PLAIN, damage.len()), expected);
+    }
+}
+
+#[test]
+fn pause_and_pfc_are_taken() {
+    let mut bench = sender(168);
+    bench.s.flow = Flow::Pause;
+    bench.pause(0xABCD);
+    bench.s.flow = Flow::Pfc;
+    let quanta = [1, 2, 3, 4, 5, 6, 7, 0xFFFF];
+    bench.pfc(0xA6, &quanta);
+
+    let mut state = State::default();
+    let (octets, marks) = (&bench.octets, &bench.marks);
+    let kind = Check::Bitwise;
+    let reading = read(kind, &PAUSE, &mut state, octets, marks, 0);
+    assert!(matches!(reading.answer, Answer::Counted { outcome: 8, .. }));
+    assert_eq!(state.timers, [0xABCD * 64; 8]);
+    let mut state = State::default();
+    let reading = read(kind, &PFC, &mut state, octets, marks, reading.next);
+    assert!(matches!(reading.answer, Answer::Counted { outcome: 9, .. }));
+    assert_eq!(state.timers, [0, 128, 192, 0, 0, 384, 0, 4_194_240]);
+}
