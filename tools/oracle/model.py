@@ -398,3 +398,28 @@ def pfc_sending(s, state, octets, marks, place, named: int, quanta: List[int]) -
 
 def idle_sending(state, octets, marks, place, n: int) -> Sending:
     return sent(lowest(*idle_refusals(octets, marks, place, n)), state, octets, marks, place, idle_symbols(n))
+
+
+# ---- The printing program
+
+# "Settings: own 02-00-00-00-00-01, none listed, broadcast on, promiscuous off, checking on, M 1518, flow none, `pass control` off."
+PRINTING = Settings(own=[0x02, 0, 0, 0, 0, 0x01], listed=[], count=0, broadcast=True, promiscuous=False, checking=True, limit=1518, flow="none",
+                    pass_control=False)
+MOST_RECORDS = 32768
+
+
+def records(symbols: List[Tuple[int, int]]) -> bytes:
+    """"records of two octets, mark then octet, no header" """
+    return bytes(x for octet, mark in symbols for x in (mark, octet))
+
+
+def printed(data: bytes) -> bytes:
+    # "at most 32,768 records. An odd or longer input prints `bad input` alone."
+    if len(data) % 2 or len(data) > 2 * MOST_RECORDS:
+        return b"bad input\n"
+    readings = walk(PRINTING, State(), list(data[1::2]), list(data[0::2]))
+    # "One line per counted Start: its place, outcome, status word, octets handed out, all decimal."
+    lines = [f"{r.start} {r.outcome} {r.status} {len(r.data)}" for r in readings if r.kind == "counted"]
+    # "Last line: the word `starts`, the number of counted Starts, the word `open`, then 1 if the walk ended `open`, else 0."
+    lines.append(f"starts {len(lines)} open {int(readings[-1].kind == 'open')}")
+    return ("\n".join(lines) + "\n").encode()

@@ -1,0 +1,156 @@
+#!/usr/bin/env python3
+"""Makes the sample captures of this folder, NAME.capture, and beside each what the printing program prints of it, NAME.txt, by the independent
+model (tools/oracle/model.py). `samples/make.py` writes them; `samples/make.py --check` writes nothing and compares them with the files kept."""
+import random
+import sys
+from dataclasses import replace
+from pathlib import Path
+
+HERE = Path(__file__).resolve().parent
+sys.dont_write_bytecode = True  # nothing but the samples is written into the repository
+sys.path.insert(0, str(HERE.parent / "tools" / "oracle"))
+from model import (BROADCAST, ERROR, IDLE, PRINTING, START, TERMINATE, Client, client_symbols, high_first, idle_symbols, on_line,  # noqa: E402
+                   pause_symbols, pfc_symbols, printed, records)
+
+US = PRINTING.own
+PEER = replace(PRINTING, own=[0x02, 0, 0, 0, 0, 0x09])  # the station at the other end: the source of every frame here
+OTHER = [0x02, 0, 0, 0, 0, 0x02]
+IPV4, ARP = 0x0800, 0x0806
+TAG = 0x2005  # priority 1, VLAN 5
+PEER_IP, OUR_IP = bytes([192, 0, 2, 9]), bytes([192, 0, 2, 1])  # from the block for documentation
+
+
+# ---- Frames, each as the symbols from its Start to its eleventh Idle
+
+
+def client(data, to=US, tag=None, kind=None):
+    """In the length form unless `kind` is a type; the model pads it and adds the FCS."""
+    return client_symbols(PEER, Client(to, tag, kind, 0, list(data)))
+
+
+def raw(field, data):
+    """Any field over any data, with the right FCS: what no sender here would write."""
+    return on_line(US + PEER.own + high_first(field) + list(data))
+
+
+def internet_checksum(octets):
+    """RFC 1071, over an even number of octets."""
+    total = sum(int.from_bytes(octets[i:i + 2], "big") for i in range(0, len(octets), 2))
+    while total >> 16:
+        total = (total & 0xFFFF) + (total >> 16)
+    return (total ^ 0xFFFF).to_bytes(2, "big")
+
+
+def echo_request(n):
+    """An IPv4 packet of 84 octets: the nth echo request, with the usual 56 octets behind its header."""
+    icmp = [b"\x08\x00", bytes([0, 1, 0, n]) + bytes(range(8, 64))]
+    message = icmp[0] + internet_checksum(b"".join(icmp)) + icmp[1]
+    ip = [b"\x45\x00" + (20 + len(message)).to_bytes(2, "big") + bytes([0, n, 0x40, 0x00, 64, 1]), PEER_IP + OUR_IP]
+    return ip[0] + internet_checksum(b"".join(ip)) + ip[1] + message
+
+
+def who_has():
+    """An ARP request of 28 octets."""
+    return bytes.fromhex("0001080006040001") + bytes(PEER.own) + PEER_IP + bytes(6) + OUR_IP
+
+
+def damaged(symbols, at):
+    """One bit of one octet is turned."""
+    octet, mark = symbols[at]
+    return symbols[:at] + [(octet ^ 0x04, mark)] + symbols[at + 1:]
+
+
+# ---- The samples
+
+
+def first():
+    return (
+        idle_symbols(12)
+        + client(b"hello, fenhamper")  # length form: 16 octets, 30 of padding
+        + client(who_has(), to=BROADCAST, kind=ARP)
+        + client(echo_request(1), kind=IPV4)
+        + damaged(client(echo_request(2), kind=IPV4), 50)
+        + client(echo_request(3), kind=IPV4)[:60]  # its rest and its gap are lost: the next Start cuts it
+        + client(b"right behind the damage")
+        + client(b"not for us", to=OTHER)
+        + pause_symbols(PEER, 0xFFFF)
+        + client(echo_request(4), tag=TAG, kind=IPV4)
+    )
+
+
+def outcomes():
+    return (
+        client(b"cut")[:40] + [(ERROR, 1)] + idle_symbols(11)  # 1
+        + damaged(client(b"preamble"), 7)  # 2: the octet behind six of 0x55
+        + raw(IPV4, bytes(45))  # 3: 63 octets
+        + raw(IPV4, bytes(1501))  # 4: 1,519 octets
+        + damaged(client(b"check"), 30)  # 5
+        + raw(45, bytes(47))  # 6: under 46, and not padded to 46
+        + client(b"filter", to=OTHER)  # 7
+        + pfc_symbols(PEER, 0xFF, [1] * 8)  # 10: 8 and 9 need another flow mode than the program's, which is none
+        + client(b"client")  # 11
+    )
+
+
+def half_a_frame():
+    return client(echo_request(1), kind=IPV4) + client(echo_request(2), kind=IPV4)[:60]
+
+
+def noise():
+    # Only random() itself is promised to draw the same numbers in every version of Python.
+    rng = random.Random(1)
+
+    def pick(values):
+        return values[int(rng.random() * len(values))]
+
+    def stretch(n):
+        octets = [START, TERMINATE, IDLE, ERROR, 0x9C, 0x55, 0xD5]
+        return [(pick(octets + [int(rng.random() * 256)] * 3), pick([0, 0, 0, 0, 0, 1, 2, 128, 255])) for _ in range(n)]
+
+    # A good frame stands in it, its control marks odd ones.
+    good = [(octet, mark and 0x80) for octet, mark in client(b"in the noise")]
+    return stretch(150) + good + stretch(150)
+
+
+def samples():
+    """Each capture by its name."""
+    return {
+        "first": records(first()),
+        "example": bytes.fromhex("01 FB 01 07 01 FB 00 55 01 FD"),  # document 01, "The printing program"
+        "outcomes": records(outcomes()),
+        "open": records(half_a_frame()),
+        "empty": b"",
+        "odd": records(client(b"and a mark without its octet")) + b"\x01",
+        "noise": records(noise()),
+    }
+
+
+def files():
+    """Every file that is made, by its name: the captures, and what the model says is printed of them."""
+    made = {f"{name}.capture": data for name, data in samples().items()}
+    made.update({f"{name}.txt": printed(data) for name, data in samples().items()})
+    return made
+
+
+def differences():
+    """What is wrong with the files kept, a line each."""
+    made = files()
+    kept = {path.name: path.read_bytes() for pattern in ("*.capture", "*.txt") for path in HERE.glob(pattern)}
+    lines = [f"samples/{name} is missing" for name in made if name not in kept]
+    lines += [f"samples/{name} is not one that samples/make.py makes" for name in kept if name not in made]
+    return sorted(lines + [f"samples/{name} differs from what samples/make.py makes" for name in made if name in kept and kept[name] != made[name]])
+
+
+def main():
+    if sys.argv[1:] == ["--check"]:
+        found = differences()
+        print("\n".join(found) if found else f"samples: {len(files())} files are as made")
+        sys.exit(1 if found else 0)
+    if sys.argv[1:]:
+        sys.exit("usage: samples/make.py [--check]")
+    for name, data in files().items():
+        (HERE / name).write_bytes(data)
+
+
+if __name__ == "__main__":
+    main()
