@@ -1,5 +1,9 @@
 -- `fenhamper::fenhamper_fill_idle` meets its contract. Assumes nothing.
-use Rattle.fenhamper.specs.Face.{sendTold}
+use denote.Ref.{now}
+use Rattle.fenhamper.proofs.Crossing.{send-crosses}
+use Rattle.send.specs.Sending.{idleSending}
+use Rattle.station.specs.declared.State.{State}
+use mathlib.Core.Path.{ap, _∙_}
 use borrow.Author.Needs.{needs}
 use Rattle.fenhamper.proofs.fenhamper_fill_idle.Statement.{statement}
 use Rattle.fenhamper.proofs.fenhamper_fill_idle.Tie as tie
@@ -23,8 +27,10 @@ same-length-2 : tie.Need-same-length-2
 same-length-2 c = search needs
 
 returns : tie.Need-returns
-unfolding sendTold
-returns c = cc
+returns c =
+    let a = c .before .before .before .before .before .before .before .before .before .before .before .before .before .args in
+    send-crosses (c .before .sent-numbers .ensures) (c .state-numbers .ensures)
+    (c .before .before .before .before .before .before .fill-idle .ensures ∙ ap (λ (st : State). idleSending st (now (a .octets)) (now (a .marks)) (a .place) (a .idles)) (c .before .before .before .before .before .before .before .before .before .state-of .ensures))
 
 pub fenhamper-fill-idle-spec : {M : Type 1} → statement M
 fenhamper-fill-idle-spec =

@@ -1,5 +1,10 @@
 -- `fenhamper::fenhamper_read` meets its contract. Assumes nothing.
-use Rattle.fenhamper.specs.Face.{readTold}
+use denote.Ref.{now}
+use Rattle.fenhamper.proofs.Crossing.{read-crosses}
+use Rattle.receive.specs.Reading.{reading}
+use Rattle.station.specs.declared.State.{State}
+use Rattle.station.specs.declared.Settings.{Settings}
+use mathlib.Core.Path.{ap₂, _∙_}
 use borrow.Author.Needs.{needs}
 use Rattle.fenhamper.proofs.fenhamper_read.Statement.{statement}
 use Rattle.fenhamper.proofs.fenhamper_read.Tie as tie
@@ -20,8 +25,10 @@ state-numbers-requires : tie.Need-state-numbers-requires
 state-numbers-requires c κs = search needs
 
 returns : tie.Need-returns
-unfolding readTold
-returns c = cc
+returns c =
+    let a = c .before .before .before .before .before .before .before .before .args in
+    read-crosses (c .before .reading-numbers .ensures) (c .state-numbers .ensures)
+    (c .before .before .read .ensures ∙ ap₂ (λ (s : Settings) (st : State). reading s st (now (a .octets)) (now (a .marks)) (a .place)) (c .before .before .before .before .before .settings .ensures) (c .before .before .before .state-of .ensures))
 
 pub fenhamper-read-spec : {M : Type 1} → statement M
 fenhamper-read-spec =

@@ -1,5 +1,12 @@
 -- `fenhamper::fenhamper_send_pfc` meets its contract. Assumes nothing.
-use Rattle.fenhamper.specs.Face.{sendTold}
+use Rattle.fenhamper.specs.Face.{settingsOf, stateOf}
+use denote.Ref.{now}
+use Rattle.writing.specs.declared.Classes.{Classes}
+use Rattle.fenhamper.proofs.Crossing.{send-crosses}
+use Rattle.send.specs.Sending.{pfcSending}
+use Rattle.station.specs.declared.State.{State}
+use Rattle.station.specs.declared.Settings.{Settings}
+use mathlib.Core.Path.{ap, ap₂, _∙_}
 use borrow.Author.Needs.{needs}
 use Rattle.fenhamper.proofs.fenhamper_send_pfc.Statement.{statement}
 use Rattle.fenhamper.proofs.fenhamper_send_pfc.Tie as tie
@@ -29,8 +36,11 @@ same-length-2 : tie.Need-same-length-2
 same-length-2 c = search needs
 
 returns : tie.Need-returns
-unfolding sendTold
-returns c = cc
+returns c =
+    let a = c .before .before .before .before .before .before .before .before .before .before .before .before .before .before .before .args in
+    send-crosses (c .before .sent-numbers .ensures) (c .state-numbers .ensures)
+    (c .before .before .before .before .before .before .send-pfc .ensures ∙ ap₂ (λ (s : Settings) (st : State). pfcSending s st (now (a .octets)) (now (a .marks)) (a .place) (c .before .before .before .before .before .before .before .classes .result)) (c .before .before .before .before .before .before .before .before .before .before .before .before .settings .ensures) (c .before .before .before .before .before .before .before .before .before .before .state-of .ensures)
+    ∙ ap (λ (k : Classes). pfcSending (settingsOf (now (a .s))) (stateOf (now (a .state))) (now (a .octets)) (now (a .marks)) (a .place) k) (c .before .before .before .before .before .before .before .classes .ensures))
 
 pub fenhamper-send-pfc-spec : {M : Type 1} → statement M
 fenhamper-send-pfc-spec =

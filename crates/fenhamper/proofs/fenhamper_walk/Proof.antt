@@ -1,5 +1,10 @@
 -- `fenhamper::fenhamper_walk` meets its contract. Assumes nothing.
-use Rattle.fenhamper.specs.Face.{walkTold}
+use denote.Ref.{now}
+use Rattle.fenhamper.proofs.Crossing.{walk-crosses}
+use Rattle.receive.specs.Walk.{walked}
+use Rattle.station.specs.declared.State.{State}
+use Rattle.station.specs.declared.Settings.{Settings}
+use mathlib.Core.Path.{ap₂, _∙_}
 use borrow.Author.Needs.{needs}
 use Rattle.fenhamper.proofs.fenhamper_walk.Statement.{statement}
 use Rattle.fenhamper.proofs.fenhamper_walk.Tie as tie
@@ -20,8 +25,10 @@ state-numbers-requires : tie.Need-state-numbers-requires
 state-numbers-requires c κs = search needs
 
 returns : tie.Need-returns
-unfolding walkTold
-returns c = cc
+returns c =
+    let a = c .before .before .before .before .before .before .before .before .args in
+    walk-crosses (c .before .walk-numbers .ensures) (c .state-numbers .ensures)
+    (c .before .before .walk .ensures ∙ ap₂ (λ (s : Settings) (st : State). walked s st (now (a .octets)) (now (a .marks))) (c .before .before .before .before .before .settings .ensures) (c .before .before .before .state-of .ensures))
 
 pub fenhamper-walk-spec : {M : Type 1} → statement M
 fenhamper-walk-spec =

@@ -1,0 +1,130 @@
+//! Cases: a few calls on the same settings, state and symbols. Each is drawn by its own number
+//! alone.
+use crate::compare::{Bench, Difference, Lent};
+use crate::generate::{self, Sending, Symbols, IDLE, START, TERMINATE};
+use crate::prng::Prng;
+use reference::{Client, Flow, Form, Settings};
+
+/// Makes the calls of one case.
+pub fn run(bench: &mut Bench, case: u64) -> Result<(), Difference> {
+    let mut prng = bench.begin(case);
+    match prng.below(16) {
+        0..=7 => reading(bench, &mut prng),
+        8..=13 => sending(bench, &mut prng),
+        14 => holding(bench, &mut prng),
+        _ => checking(bench, &mut prng),
+    }
+}
+
+/// Lends symbols next to others that mean something.
+fn lend(prng: &mut Prng, symbols: &Symbols) -> Lent {
+    let (octet, mark) = prng.pick(&[(TERMINATE, 1), (START, 1), (IDLE, 1), (0x55, 0)]);
+    Lent::new(symbols, octet, mark)
+}
+
+/// A capture is walked, iterated over and read here and there.
+fn reading(bench: &mut Bench, prng: &mut Prng) -> Result<(), Difference> {
+    let s = generate::settings(prng);
+    let state = generate::state(prng);
+    let symbols = generate::capture(prng, &s);
+    let lent = lend(prng, &symbols);
+    bench.walk(&s, &mut state.clone(), &lent)?;
+    let place = if prng.coin() {
+        0
+    } else {
+        generate::place(prng, &symbols)
+    };
+    bench.readings(&s, &mut state.clone(), &lent, place)?;
+    let mut going_on = state;
+    for _ in 0..prng.between(1, 6) {
+        let place = generate::place(prng, &symbols);
+        bench.read(&s, &mut going_on, &lent, place)?;
+    }
+    Ok(())
+}
+
+/// Buffers are written into, one sending after the other, and read at the end.
+fn sending(bench: &mut Bench, prng: &mut Prng) -> Result<(), Difference> {
+    let s = generate::settings(prng);
+    let mut state = generate::state(prng);
+    let symbols = generate::blank_line(prng, &s);
+    let mut lent = lend(prng, &symbols);
+    let length = symbols.octets.len();
+    let mut last = 0;
+    for _ in 0..prng.between(2, 8) {
+        let call = generate::sending(prng, &s, length);
+        if prng.coin() {
+            state = generate::timed(prng, &call);
+        }
+        let place = generate::sending_place(prng, length, last, &call);
+        let after = bench.send(&s, &mut state, &mut lent, place, &call)?;
+        last = after.unwrap_or(last);
+    }
+    bench.walk(&s, &mut state, &lent)
+}
+
+/// A pause or PFC frame is sent and read, and holds a client frame until its slots are written, and
+/// no longer.
+fn holding(bench: &mut Bench, prng: &mut Prng) -> Result<(), Difference> {
+    let s = Settings {
+        flow: prng.pick(&[Flow::Pause, Flow::Pfc]),
+        ..generate::valid_settings(prng)
+    };
+    let quanta = prng.between(0, 6) as u16;
+    let class = prng.below(8) as u8;
+    let hold = match s.flow {
+        Flow::Pfc => Sending::Pfc(1 << class, [quanta; 8]),
+        _ => Sending::Pause(quanta),
+    };
+    let client = Client {
+        dest: s.own,
+        tag: None,
+        form: Form::Length,
+        class,
+    };
+    let client = Sending::Client(client, prng.octets(3));
+
+    let mut state = generate::state(prng);
+    let n = prng.between(600, 700);
+    let symbols = Symbols {
+        octets: prng.octets(n),
+        marks: prng.octets(n),
+    };
+    let mut lent = lend(prng, &symbols);
+    bench.send(&s, &mut state, &mut lent, 0, &hold)?;
+    bench.read(&s, &mut state, &lent, 0)?;
+    let mut place = 84;
+    // all slots but one, then that one
+    let slots = usize::from(quanta) * 64;
+    for idles in [0, slots.saturating_sub(1), slots.min(1)] {
+        bench.send(&s, &mut state, &mut lent, place, &Sending::Idle(idles))?;
+        place += idles;
+        bench.send(&s, &mut state, &mut lent, place, &client)?;
+    }
+    bench.walk(&s, &mut state, &lent)
+}
+
+/// The FCS of any octets, in one piece and in two.
+fn checking(bench: &mut Bench, prng: &mut Prng) -> Result<(), Difference> {
+    let n = match prng.below(64) {
+        0 => prng.pick(&[1514, 9614, 65_536, 70_000]),
+        1..=16 => prng.pick(&[0, 1, 15, 16, 17, 31, 32, 33, 60]),
+        _ => prng.below(200),
+    };
+    let mut octets = prng.octets(n);
+    if prng.one_in(8) {
+        octets.fill(prng.pick(&[0x00, 0xFF]));
+    }
+    for _ in 0..3 {
+        let part = &octets[prng.below(n + 1)..];
+        bench.fcs(part)?;
+    }
+    bench.fcs(&octets)?;
+    // four octets before lead to any register; four of 0xFF to zero
+    let first = prng.octets(4);
+    for first in [&first[..], &[], &[0xFF; 4]] {
+        bench.fcs_from(first, &octets)?;
+    }
+    let (first, second) = octets.split_at(prng.below(n + 1));
+    bench.fcs_from(first, second)
+}

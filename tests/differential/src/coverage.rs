@@ -1,0 +1,84 @@
+//! The coverage table: what has to be hit, and how often it was.
+use crate::seen::{FcsSeen, ReadingSeen, SendingSeen, WalkSeen};
+use crate::table;
+use std::fmt;
+
+/// When a row is hit.
+pub(crate) enum When {
+    /// By a reading.
+    Reading(Box<dyn Fn(&ReadingSeen) -> bool>),
+    /// By a walk.
+    Walk(Box<dyn Fn(&WalkSeen) -> bool>),
+    /// By a sending.
+    Sending(Box<dyn Fn(&SendingSeen) -> bool>),
+    /// By an FCS.
+    Fcs(Box<dyn Fn(&FcsSeen) -> bool>),
+}
+
+/// A row: what it stands for, and how often it was hit.
+pub(crate) struct Row {
+    pub(crate) name: String,
+    pub(crate) when: When,
+    pub(crate) count: u64,
+}
+
+/// The table.
+pub struct Coverage {
+    rows: Vec<Row>,
+}
+
+impl Coverage {
+    /// The table before any call.
+    pub(crate) fn new() -> Coverage {
+        Coverage {
+            rows: table::rows(),
+        }
+    }
+
+    pub(crate) fn reading(&mut self, seen: &ReadingSeen) {
+        for row in &mut self.rows {
+            if let When::Reading(test) = &row.when {
+                row.count += u64::from(test(seen));
+            }
+        }
+    }
+
+    pub(crate) fn walk(&mut self, seen: &WalkSeen) {
+        for row in &mut self.rows {
+            if let When::Walk(test) = &row.when {
+                row.count += u64::from(test(seen));
+            }
+        }
+    }
+
+    pub(crate) fn sending(&mut self, seen: &SendingSeen) {
+        for row in &mut self.rows {
+            if let When::Sending(test) = &row.when {
+                row.count += u64::from(test(seen));
+            }
+        }
+    }
+
+    pub(crate) fn fcs(&mut self, seen: &FcsSeen) {
+        for row in &mut self.rows {
+            if let When::Fcs(test) = &row.when {
+                row.count += u64::from(test(seen));
+            }
+        }
+    }
+
+    /// The rows that were never hit.
+    pub fn missing(&self) -> Vec<&str> {
+        let missing = self.rows.iter().filter(|row| row.count == 0);
+        missing.map(|row| row.name.as_str()).collect()
+    }
+}
+
+impl fmt::Display for Coverage {
+    fn fmt(&self, f: &mut fmt::Formatter<'_>) -> fmt::Result {
+        for row in &self.rows {
+            writeln!(f, "{:>9}  {}", row.count, row.name)?;
+        }
+        write!(f, "{} rows", self.rows.len())
+    }
+}

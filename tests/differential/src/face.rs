@@ -1,0 +1,86 @@
+//! The reference's values as those of the library's face, and back.
+use fenhamper::{Address, Counted, Refusal};
+use reference::{Answer, Client, Flow, Form, Reading, Sent, Settings, State, Walked};
+
+/// Settings for the library.
+pub fn settings(s: &Settings) -> fenhamper::Settings {
+    fenhamper::Settings::new(Address(s.own))
+        .listed(&s.listed.map(Address))
+        .listed_count(s.count)
+        .broadcast(s.broadcast)
+        .promiscuous(s.promiscuous)
+        .checking(s.checking)
+        .limit(s.limit)
+        .flow(match s.flow {
+            Flow::None => fenhamper::Flow::Off,
+            Flow::Pause => fenhamper::Flow::Pause,
+            Flow::Pfc => fenhamper::Flow::Pfc,
+        })
+        .pass_control(s.pass_control)
+}
+
+/// A state for the library. Two of them are equal only if all that the library keeps is.
+pub fn state(state: &State) -> fenhamper::State {
+    fenhamper::State::with(state.counters, state.timers)
+}
+
+/// A client frame for the library.
+pub fn frame(client: &Client) -> fenhamper::Frame {
+    let frame = fenhamper::Frame::to(Address(client.dest)).class(client.class);
+    let frame = match client.form {
+        Form::Length => frame.by_length(),
+        Form::Type(field) => frame.by_type(field),
+    };
+    match client.tag {
+        Some(control) => frame.tag(control),
+        None => frame,
+    }
+}
+
+/// A counted reading of the library.
+pub fn counted(counted: &Counted) -> Reading {
+    Reading {
+        answer: Answer::Counted {
+            outcome: counted.outcome.number(),
+            status: counted.status.word(),
+            at: counted.at,
+            len: counted.data.len(),
+        },
+        start: counted.start,
+        next: counted.next,
+    }
+}
+
+/// A reading of the library at a place, which a refusal gives back.
+pub fn reading(place: usize, answer: &Result<fenhamper::Reading, Refusal>) -> Reading {
+    let uncounted = |answer, start, next| Reading {
+        answer,
+        start,
+        next,
+    };
+    match answer {
+        Err(refusal) => uncounted(Answer::Refused(refusal.number()), place, place),
+        Ok(fenhamper::Reading::Counted(c)) => counted(c),
+        Ok(r @ fenhamper::Reading::Nothing { .. }) => uncounted(Answer::None, r.start(), r.next()),
+        Ok(r @ fenhamper::Reading::Open { .. }) => uncounted(Answer::Open, r.start(), r.next()),
+    }
+}
+
+/// A walk of the library.
+pub fn walked(answer: Result<fenhamper::Walk, Refusal>) -> Walked {
+    match answer {
+        Err(refusal) => Walked::Refused(refusal.number()),
+        Ok(walk) => Walked::Ended {
+            starts: walk.starts,
+            open: walk.open,
+        },
+    }
+}
+
+/// A sending of the library.
+pub fn sent(answer: Result<usize, Refusal>) -> Sent {
+    match answer {
+        Err(refusal) => Sent::Refused(refusal.number()),
+        Ok(place) => Sent::Wrote(place),
+    }
+}

@@ -1,0 +1,148 @@
+//! Frames from destination to FCS, at the limits of document 01 more often than not.
+use super::settings::{control_destination, destination, station};
+use super::{IDLE, START, TERMINATE};
+use crate::prng::Prng;
+use reference::{fcs, Check, Settings};
+
+/// Fields that are types, next to those that mean something else.
+const TYPES: [u16; 11] = [
+    1536, 1537, 0x0800, 0x80FF, 0x8100, 0x8101, 0x8807, 0x8808, 0x8809, 0x88A8, 0xFFFF,
+];
+
+/// A frame with the right FCS.
+pub fn frame(prng: &mut Prng, s: &Settings) -> Vec<u8> {
+    match prng.below(24) {
+        0..=8 => by_length(prng, s),
+        9..=12 => by_type(prng, s),
+        13..=20 => control(prng, s),
+        _ => sized(prng, s),
+    }
+}
+
+/// Closes a frame: the FCS goes behind what it covers.
+fn checked(mut covered: Vec<u8>) -> Vec<u8> {
+    let check = fcs(Check::Slicing16, &covered);
+    covered.extend(check.to_le_bytes());
+    covered
+}
+
+/// Any data; one in three has octets that would be control symbols by another mark.
+fn data(prng: &mut Prng, length: usize) -> Vec<u8> {
+    let mut data = prng.octets(length);
+    if length > 0 && prng.one_in(3) {
+        for _ in 0..4 {
+            let at = prng.below(length);
+            data[at] = prng.pick(&[START, TERMINATE, IDLE, 0x55, 0xD5]);
+        }
+    }
+    data
+}
+
+/// A frame of these parts; a third has a tag.
+fn build(prng: &mut Prng, to: [u8; 6], field: u16, data: &[u8]) -> Vec<u8> {
+    let tag = prng.one_in(3);
+    let mut octets = Vec::with_capacity(data.len() + 22);
+    octets.extend(to);
+    octets.extend(station(prng));
+    if tag {
+        octets.extend([0x81, 0x00, prng.octet(), prng.octet()]);
+    }
+    octets.extend(field.to_be_bytes());
+    octets.extend(data);
+    checked(octets)
+}
+
+/// The field is a length, or would be one; the data is as long, or off by one.
+fn by_length(prng: &mut Prng, s: &Settings) -> Vec<u8> {
+    let field = match prng.below(16) {
+        0..=7 => prng.pick(&[0, 1, 44, 45, 46, 47]),
+        8..=12 => prng.between(0, 160),
+        13 => prng.pick(&[1501, 1535]),
+        _ => prng.pick(&[1499, 1500, 1501, 1535]),
+    };
+    let right = field.max(46);
+    let length = match prng.below(12) {
+        0 | 1 => right + 1,
+        2 | 3 => right - 1,
+        4 => field,
+        5..=8 if field > 1500 => 46,
+        _ => right,
+    };
+    let to = destination(prng, s);
+    let data = data(prng, length);
+    build(prng, to, field as u16, &data)
+}
+
+/// The field is a type, a tag's or a control frame's.
+fn by_type(prng: &mut Prng, s: &Settings) -> Vec<u8> {
+    let field = prng.pick(&TYPES);
+    let length = match prng.below(4) {
+        0 => 46,
+        1 => prng.between(42, 50),
+        _ => prng.between(46, 160),
+    };
+    let to = destination(prng, s);
+    let data = data(prng, length);
+    build(prng, to, field, &data)
+}
+
+/// Quanta at their limits.
+pub fn quanta(prng: &mut Prng) -> u16 {
+    let any = prng.number() as u16;
+    prng.pick(&[0, 1, 2, u16::MAX, any])
+}
+
+/// A control frame: pause, PFC or another, seldom longer than it need be.
+fn control(prng: &mut Prng, s: &Settings) -> Vec<u8> {
+    let opcode: u16 = match prng.below(8) {
+        0..=2 => 0x0001,
+        3..=5 => 0x0101,
+        6 => prng.pick(&[0x0000, 0x0002, 0x0100, 0x0102]),
+        _ => prng.number() as u16,
+    };
+    let mut data = opcode.to_be_bytes().to_vec();
+    if opcode == 0x0101 {
+        let any = prng.octet();
+        data.extend([
+            prng.pick(&[0, any]),
+            prng.pick(&[0x00, 0x01, 0x80, 0xFF, any]),
+        ]);
+        for _ in 0..8 {
+            data.extend(quanta(prng).to_be_bytes());
+        }
+    } else {
+        data.extend(quanta(prng).to_be_bytes());
+    }
+    let length = match prng.below(8) {
+        0 => prng.between(46, 120),
+        1 => 47,
+        _ => 46,
+    };
+    let rest = length - data.len();
+    if prng.coin() {
+        data.extend(prng.octets(rest));
+    } else {
+        data.resize(length, 0);
+    }
+    let to = control_destination(prng, s);
+    build(prng, to, 0x8808, &data)
+}
+
+/// A frame of a size at the limits, down to nothing.
+fn sized(prng: &mut Prng, s: &Settings) -> Vec<u8> {
+    let limit = usize::from(s.limit).clamp(1518, 9618);
+    let size = match prng.below(8) {
+        0..=3 => prng.pick(&[62, 63, 63, 64, 64, 65]),
+        4 => prng.below(64),
+        _ => prng.pick(&[limit - 1, limit, limit + 1, limit + 3, limit + 4, limit + 5]),
+    };
+    if size < 4 {
+        return prng.octets(size);
+    }
+    let to = destination(prng, s);
+    let field = prng.pick(&[0, 46, 0x0800, 0x0800, 0x0800, 0x8808]);
+    let data = data(prng, size);
+    let mut octets = build(prng, to, field, &data);
+    octets.truncate(size - 4);
+    checked(octets)
+}

@@ -1,0 +1,32 @@
+//! What the calls are given: settings, states, frames, captures, buffers and things to send.
+
+mod captures;
+mod frames;
+mod sendings;
+mod settings;
+
+pub use captures::{capture, place, Symbols};
+pub use sendings::{blank_line, sending, sending_place, timed, Sending};
+pub use settings::{settings, state, valid_settings, BROADCAST, PRINTED, RESERVED_GROUP};
+
+/// The most symbols that a call takes.
+pub const SYMBOLS: usize = 65_536;
+
+/// A number of octets that is 46 if its high bits are lost.
+pub const BEYOND_16_BITS: usize = (1 << 16) + 46;
+/// A place or a number that is 0 if its high bits are lost.
+pub const BEYOND_32_BITS: usize = 1 << 32;
+
+/// Stands between frames.
+pub const IDLE: u8 = 0x07;
+/// Begins a frame.
+pub const START: u8 = 0xFB;
+/// Ends a frame.
+pub const TERMINATE: u8 = 0xFD;
+/// Ends a run, never a frame.
+pub const ERROR: u8 = 0xFE;
+/// Treated like Error.
+pub const SEQUENCE: u8 = 0x9C;
+
+/// Between Start and frame.
+pub const PREAMBLE: [u8; 7] = [0x55, 0x55, 0x55, 0x55, 0x55, 0x55, 0xD5];

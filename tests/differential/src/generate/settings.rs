@@ -1,0 +1,133 @@
+//! Settings, states and addresses.
+use crate::prng::Prng;
+use reference::{Flow, Settings, State};
+
+/// All ones.
+pub const BROADCAST: [u8; 6] = [0xFF; 6];
+/// The destination of pause and PFC frames.
+pub const RESERVED_GROUP: [u8; 6] = [0x01, 0x80, 0xC2, 0x00, 0x00, 0x01];
+/// The printing program's own address.
+const OWN: [u8; 6] = [0x02, 0x00, 0x00, 0x00, 0x00, 0x01];
+
+/// The printing program's settings.
+pub const PRINTED: Settings = Settings {
+    own: OWN,
+    listed: [[0; 6]; 4],
+    count: 0,
+    broadcast: true,
+    promiscuous: false,
+    checking: true,
+    limit: 1518,
+    flow: Flow::None,
+    pass_control: false,
+};
+
+/// Any settings; one in fifteen is refused.
+pub fn settings(prng: &mut Prng) -> Settings {
+    let mut s = valid_settings(prng);
+    while prng.one_in(16) {
+        match prng.below(3) {
+            0 => s.own = prng.pick(&[BROADCAST, RESERVED_GROUP, [1, 0, 0, 0, 0, 0], group(s.own)]),
+            1 => s.count = prng.pick(&[5, 6, 128, 255]),
+            _ => s.limit = prng.pick(&[0, 1500, 1517, 9619, 9622, 65_535]),
+        }
+    }
+    s
+}
+
+/// Settings that no call refuses.
+pub fn valid_settings(prng: &mut Prng) -> Settings {
+    let own = if prng.coin() { OWN } else { station(prng) };
+    Settings {
+        own,
+        listed: [(); 4].map(|()| match prng.below(8) {
+            0 => own,
+            1 => BROADCAST,
+            2 => RESERVED_GROUP,
+            3 => near(prng, own),
+            4 => group(station(prng)),
+            _ => station(prng),
+        }),
+        count: prng.below(5) as u8,
+        broadcast: prng.coin(),
+        promiscuous: prng.one_in(5),
+        checking: !prng.one_in(4),
+        limit: match prng.below(16) {
+            0..=6 => 1518,
+            7..=9 => 1519,
+            10..=11 => 9618,
+            12 => prng.between(1518, 9618) as u16,
+            _ => prng.pick(&[1522, 1523, 1536, 1600, 9617]),
+        },
+        flow: prng.pick(&[Flow::None, Flow::Pause, Flow::Pfc]),
+        pass_control: prng.coin(),
+    }
+}
+
+/// Any state: counters about to roll over, timers of all sorts.
+pub fn state(prng: &mut Prng) -> State {
+    let counters = match prng.below(4) {
+        0 => [0; 11],
+        1 => [u32::MAX; 11],
+        _ => [(); 11].map(|()| {
+            let any = prng.number() as u32;
+            prng.pick(&[0, 1, u32::MAX - 1, u32::MAX, any])
+        }),
+    };
+    let timers = match prng.below(3) {
+        0 => [0; 8],
+        _ => [(); 8].map(|()| {
+            let any = prng.number() as u32;
+            prng.pick(&[0, 0, 1, 64, 65_535 * 64, u32::MAX, any])
+        }),
+    };
+    State { counters, timers }
+}
+
+/// Any address without the group bit.
+pub fn station(prng: &mut Prng) -> [u8; 6] {
+    let mut address = [(); 6].map(|()| prng.octet());
+    address[0] &= !1;
+    address
+}
+
+fn group(mut address: [u8; 6]) -> [u8; 6] {
+    address[0] |= 1;
+    address
+}
+
+/// The same address but for one bit.
+fn near(prng: &mut Prng, mut address: [u8; 6]) -> [u8; 6] {
+    address[prng.below(6)] ^= prng.bit();
+    address
+}
+
+/// A destination that these settings have an opinion on.
+pub fn destination(prng: &mut Prng, s: &Settings) -> [u8; 6] {
+    match prng.below(16) {
+        0..=4 => s.own,
+        5..=7 => prng.pick(&s.listed),
+        8..=9 => BROADCAST,
+        10 => RESERVED_GROUP,
+        11 => near(prng, s.own),
+        12 => {
+            let listed = prng.pick(&s.listed);
+            near(prng, listed)
+        }
+        13 => near(prng, BROADCAST),
+        14 => group(station(prng)),
+        _ => station(prng),
+    }
+}
+
+/// A destination of control frames.
+pub fn control_destination(prng: &mut Prng, s: &Settings) -> [u8; 6] {
+    match prng.below(16) {
+        0..=7 => RESERVED_GROUP,
+        8..=11 => s.own,
+        12 => near(prng, RESERVED_GROUP),
+        13 => BROADCAST,
+        14 => prng.pick(&s.listed),
+        _ => destination(prng, s),
+    }
+}

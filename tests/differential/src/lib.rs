@@ -1,0 +1,15 @@
+//! The proved library, through its Rust face, against the reference implementation of document 01,
+//! on drawn inputs.
+#![forbid(unsafe_code)]
+#![warn(missing_docs)]
+
+pub mod cases;
+pub mod compare;
+pub mod coverage;
+pub mod generate;
+pub mod prng;
+pub mod show;
+
+mod face;
+mod seen;
+mod table;

@@ -1,0 +1,430 @@
+//! What a call was given and answered, taken apart for the coverage table. Everything here comes
+//! from the inputs themselves, not from what the generator meant to draw.
+use crate::generate::{Sending, PREAMBLE, RESERVED_GROUP, SYMBOLS};
+use reference::{fcs, Answer, Check, Client, Flow, Form, Reading, Sent, Settings, State, Walked};
+
+/// The call that made a reading.
+#[derive(Clone, Copy, Debug, PartialEq, Eq)]
+pub enum By {
+    /// A single reading.
+    Read,
+    /// The iterator over readings.
+    Readings,
+}
+
+/// How a frame's last four octets stand to the check of those before.
+#[derive(Clone, Copy, Debug, PartialEq, Eq)]
+pub enum Fcs {
+    /// Not looked at here.
+    Unknown,
+    /// Equal.
+    Right,
+    /// Equal in the other order of octets.
+    HighFirst,
+    /// The register itself, not its complement.
+    Plain,
+    /// All but one bit equal.
+    OneBit,
+    /// Anything else.
+    Wrong,
+}
+
+/// The frame of a counted Start, behind a right preamble. Its parts are empty where it is too short.
+#[derive(Clone, Copy, Debug)]
+pub struct FrameSeen<'a> {
+    /// From destination to FCS.
+    pub size: usize,
+    /// The destination.
+    pub to: [u8; 6],
+    /// The first field is 0x8100.
+    pub tagged: bool,
+    /// The field behind the tag, if there is one.
+    pub field: u16,
+    /// From after the field to before the FCS.
+    pub data: &'a [u8],
+    /// Looked at for the outcomes 1 and 3 to 5.
+    pub fcs: Fcs,
+}
+
+impl<'a> FrameSeen<'a> {
+    fn new(octets: &'a [u8], outcome: u8) -> FrameSeen<'a> {
+        let tagged = number_at(octets, 12) == 0x8100;
+        let field_at = if tagged { 16 } else { 12 };
+        FrameSeen {
+            size: octets.len(),
+            to: octets.first_chunk().copied().unwrap_or_default(),
+            tagged,
+            field: number_at(octets, field_at),
+            data: octets
+                .get(field_at + 2..octets.len().saturating_sub(4))
+                .unwrap_or_default(),
+            fcs: match outcome {
+                1 | 3..=5 => judge_fcs(octets),
+                _ => Fcs::Unknown,
+            },
+        }
+    }
+
+    /// A control frame, if it is long enough for one.
+    pub fn control(&self) -> bool {
+        !self.tagged && self.field == 0x8808
+    }
+
+    /// A control frame's opcode.
+    pub fn opcode(&self) -> u16 {
+        number_at(self.data, 0)
+    }
+
+    /// A pause frame's quanta.
+    pub fn quanta(&self) -> u16 {
+        number_at(self.data, 2)
+    }
+
+    /// A PFC frame's quanta for a class.
+    pub fn class_quanta(&self, class: usize) -> u16 {
+        number_at(self.data, 4 + 2 * class)
+    }
+
+    /// A PFC frame's class octet.
+    pub fn named(&self) -> u8 {
+        self.data.get(3).copied().unwrap_or(0)
+    }
+
+    /// Whether the length rule is broken, if it is asked.
+    pub fn length_broken(&self) -> bool {
+        match self.field {
+            0..=1500 => self.data.len() != usize::from(self.field).max(46),
+            1501..=1535 => true,
+            _ => false,
+        }
+    }
+}
+
+fn number_at(octets: &[u8], at: usize) -> u16 {
+    match octets.get(at..) {
+        Some([high, low, ..]) => u16::from_be_bytes([*high, *low]),
+        _ => 0,
+    }
+}
+
+fn judge_fcs(frame: &[u8]) -> Fcs {
+    let Some((covered, last)) = frame.split_last_chunk::<4>() else {
+        return Fcs::Wrong;
+    };
+    let (right, last) = (fcs(Check::Slicing16, covered), u32::from_le_bytes(*last));
+    match right ^ last {
+        0 => Fcs::Right,
+        u32::MAX => Fcs::Plain,
+        other if other.count_ones() == 1 => Fcs::OneBit,
+        _ if last.swap_bytes() == right => Fcs::HighFirst,
+        _ => Fcs::Wrong,
+    }
+}
+
+/// A reading.
+pub struct ReadingSeen<'a> {
+    /// By which call.
+    pub by: By,
+    /// The settings.
+    pub s: &'a Settings,
+    /// The octets given.
+    pub octets: &'a [u8],
+    /// The marks given.
+    pub marks: &'a [u8],
+    /// The place given.
+    pub place: usize,
+    /// The state given.
+    pub before: &'a State,
+    /// The state after.
+    pub after: &'a State,
+    /// The answer.
+    pub reading: Reading,
+    /// The answer's refusal, or 0.
+    pub refusal: u8,
+    /// The answer's outcome, or 0.
+    pub outcome: u8,
+    /// The answer's status word, or 0.
+    pub status: u64,
+    /// How many octets were handed out.
+    pub handed: usize,
+    /// The data symbols behind a counted Start.
+    pub run: &'a [u8],
+    /// The frame of a counted Start.
+    pub frame: Option<FrameSeen<'a>>,
+}
+
+impl<'a> ReadingSeen<'a> {
+    /// Takes a reading apart.
+    pub fn new(
+        by: By,
+        s: &'a Settings,
+        (octets, marks, place): (&'a [u8], &'a [u8], usize),
+        (before, after): (&'a State, &'a State),
+        reading: Reading,
+    ) -> ReadingSeen<'a> {
+        let mut seen = ReadingSeen {
+            by,
+            s,
+            octets,
+            marks,
+            place,
+            before,
+            after,
+            reading,
+            refusal: 0,
+            outcome: 0,
+            status: 0,
+            handed: 0,
+            run: &[],
+            frame: None,
+        };
+        match reading.answer {
+            Answer::Refused(number) => seen.refusal = number,
+            Answer::None | Answer::Open => {}
+            Answer::Counted {
+                outcome,
+                status,
+                len,
+                ..
+            } => {
+                (seen.outcome, seen.status, seen.handed) = (outcome, status, len);
+                seen.run = &octets[reading.start + 1..reading.next];
+                let frame = seen.run.strip_prefix(&PREAMBLE);
+                seen.frame = frame.map(|octets| FrameSeen::new(octets, outcome));
+            }
+        }
+        seen
+    }
+
+    /// No further Start.
+    pub fn none(&self) -> bool {
+        self.reading.answer == Answer::None
+    }
+
+    /// A Start whose run has not ended.
+    pub fn open(&self) -> bool {
+        self.reading.answer == Answer::Open
+    }
+
+    /// Whether a row of the table of refusals holds, by itself.
+    pub fn holds(&self, refusal: u8) -> bool {
+        match refusal {
+            1 => bad_settings(self.s),
+            2 => bad_buffers(self.octets.len(), self.marks.len()),
+            3 => self.place > self.octets.len(),
+            _ => false,
+        }
+    }
+
+    /// A frame of which this is true got this far or further.
+    pub fn framed(&self, outcome: u8, test: impl FnOnce(&FrameSeen) -> bool) -> bool {
+        self.outcome >= outcome && self.frame.as_ref().is_some_and(test)
+    }
+
+    /// A frame of which this is true got exactly this outcome.
+    pub fn is(&self, outcome: u8, test: impl FnOnce(&FrameSeen) -> bool) -> bool {
+        self.outcome == outcome && self.framed(outcome, test)
+    }
+
+    /// A frame that is no control frame and of which this is true came to the address rule and got
+    /// exactly this outcome.
+    pub fn addressed(&self, outcome: u8, test: impl FnOnce(&[u8; 6]) -> bool) -> bool {
+        self.is(outcome, |f| !f.control() && test(&f.to))
+    }
+
+    /// A control frame of which this is true got one of these outcomes.
+    pub fn controlled(&self, outcomes: &[u8], test: impl FnOnce(&FrameSeen) -> bool) -> bool {
+        outcomes.contains(&self.outcome) && self.framed(7, |f| f.control() && test(f))
+    }
+
+    /// The places of an address among those listed.
+    pub fn listed_at(&self, address: &[u8; 6]) -> impl Iterator<Item = usize> + use<'a> {
+        let address = *address;
+        let entries = self.s.listed.iter().enumerate();
+        entries.filter_map(move |(i, entry)| (*entry == address).then_some(i))
+    }
+
+    /// Whether an address is listed.
+    pub fn listed(&self, address: &[u8; 6]) -> bool {
+        let count = usize::from(self.s.count);
+        self.listed_at(address).any(|i| i < count)
+    }
+
+    /// The address rule.
+    pub fn accepts(&self, address: &[u8; 6]) -> bool {
+        let by_list = *address == self.s.own || self.listed(address);
+        self.s.promiscuous
+            || if *address == [0xFF; 6] {
+                self.s.broadcast
+            } else {
+                by_list
+            }
+    }
+
+    /// Neither reserved group nor own address.
+    pub fn to_others(&self, address: &[u8; 6]) -> bool {
+        *address != RESERVED_GROUP && *address != self.s.own
+    }
+}
+
+/// The only octet in which two addresses differ.
+pub fn only_octet(a: &[u8; 6], b: &[u8; 6]) -> Option<usize> {
+    let mut differing = (0..6).filter(|&i| a[i] != b[i]);
+    let first = differing.next();
+    first.filter(|_| differing.next().is_none())
+}
+
+/// A walk.
+pub struct WalkSeen<'a> {
+    /// The settings.
+    pub s: &'a Settings,
+    /// The numbers of octets and marks given.
+    pub lengths: (usize, usize),
+    /// The state given.
+    pub before: &'a State,
+    /// The state after.
+    pub after: &'a State,
+    /// The answer.
+    pub walked: Walked,
+}
+
+impl WalkSeen<'_> {
+    /// Whether a row of the table of refusals holds, by itself.
+    pub fn holds(&self, refusal: u8) -> bool {
+        match refusal {
+            1 => bad_settings(self.s),
+            2 => bad_buffers(self.lengths.0, self.lengths.1),
+            _ => false,
+        }
+    }
+
+    /// The answer's refusal, or 0.
+    pub fn refusal(&self) -> u8 {
+        match self.walked {
+            Walked::Refused(number) => number,
+            Walked::Ended { .. } => 0,
+        }
+    }
+
+    /// How many Starts had this outcome.
+    pub fn risen(&self, outcome: u8) -> u32 {
+        let i = usize::from(outcome - 1);
+        self.after.counters[i].wrapping_sub(self.before.counters[i])
+    }
+}
+
+/// A sending call.
+#[derive(Clone, Copy, Debug, PartialEq, Eq)]
+pub enum Kind {
+    /// A client frame.
+    Client,
+    /// A pause frame.
+    Pause,
+    /// A PFC frame.
+    Pfc,
+    /// An Idle fill.
+    Idle,
+}
+
+/// A sending.
+pub struct SendingSeen<'a> {
+    /// What was to be sent.
+    pub call: &'a Sending,
+    /// The settings.
+    pub s: &'a Settings,
+    /// The numbers of octets and marks given.
+    pub lengths: (usize, usize),
+    /// The place given.
+    pub place: usize,
+    /// The state given.
+    pub before: &'a State,
+    /// The answer.
+    pub sent: Sent,
+}
+
+impl SendingSeen<'_> {
+    /// Which call it was.
+    pub fn kind(&self) -> Kind {
+        match self.call {
+            Sending::Client(..) => Kind::Client,
+            Sending::Pause(_) => Kind::Pause,
+            Sending::Pfc(..) => Kind::Pfc,
+            Sending::Idle(_) => Kind::Idle,
+        }
+    }
+
+    /// The answer's refusal, or 0.
+    pub fn refusal(&self) -> u8 {
+        match self.sent {
+            Sent::Refused(number) => number,
+            Sent::Wrote(_) => 0,
+        }
+    }
+
+    /// The number of symbols written, if it was not refused.
+    pub fn wrote(&self) -> Option<usize> {
+        match self.sent {
+            Sent::Wrote(after) => Some(after - self.place),
+            Sent::Refused(_) => None,
+        }
+    }
+
+    /// The symbols from the place to the end.
+    pub fn room(&self) -> usize {
+        self.lengths.0.saturating_sub(self.place)
+    }
+
+    /// Whether a row of the table of refusals holds, by itself.
+    pub fn holds(&self, refusal: u8) -> bool {
+        match (refusal, self.call) {
+            (1, _) => bad_settings(self.s),
+            (2, _) => bad_buffers(self.lengths.0, self.lengths.1),
+            (3, _) => self.place > self.lengths.0,
+            (4, Sending::Pause(_)) => self.s.flow != Flow::Pause,
+            (4, Sending::Pfc(..)) => self.s.flow != Flow::Pfc,
+            (5, Sending::Client(client, _)) => client.class > 7,
+            (6, Sending::Client(client, _)) => matches!(
+                client.form,
+                Form::Type(0..=1535) | Form::Type(0x8100) | Form::Type(0x8808)
+            ),
+            (7, Sending::Client(client, data)) => match client.form {
+                Form::Length => data.len() > 1500,
+                Form::Type(_) => data.len() + 18 > usize::from(self.s.limit),
+            },
+            (8, _) => self.room() < self.call.symbols(),
+            (9, Sending::Client(client, _)) => {
+                let timer = self.before.timers.get(usize::from(client.class));
+                timer.is_some_and(|&slots| slots > 0)
+            }
+            _ => false,
+        }
+    }
+
+    /// A client frame, tagged or not if that is asked, of which this is true.
+    pub fn client(&self, tagged: Option<bool>, test: impl FnOnce(&Client, &[u8]) -> bool) -> bool {
+        match self.call {
+            Sending::Client(client, data) => {
+                tagged.is_none_or(|tagged| client.tag.is_some() == tagged) && test(client, data)
+            }
+            _ => false,
+        }
+    }
+}
+
+/// An FCS.
+pub struct FcsSeen<'a> {
+    /// The register before.
+    pub register: u32,
+    /// The octets given.
+    pub octets: &'a [u8],
+}
+
+/// Refusal 1.
+fn bad_settings(s: &Settings) -> bool {
+    s.own[0] & 1 == 1 || s.count > 4 || s.limit < 1518 || s.limit > 9618
+}
+
+/// Refusal 2.
+fn bad_buffers(octets: usize, marks: usize) -> bool {
+    octets != marks || octets > SYMBOLS
+}

@@ -1,0 +1,52 @@
+//! Symbols as a short text.
+use crate::generate::Sending;
+use std::fmt::Write;
+
+/// Most pieces that are shown from either end of a shortened text.
+const PIECES: usize = 40;
+
+/// Octets in hexadecimal, a control symbol in brackets with its mark unless that is 1, and `x n`
+/// for the same symbol n times. Only both ends of a long text are shown, unless it is to be whole.
+pub fn symbols(octets: &[u8], marks: &[u8], whole: bool) -> String {
+    let pieces = pieces(octets.iter().copied().zip(marks.iter().copied()), whole);
+    format!("{} octets, {} marks: {pieces}", octets.len(), marks.len())
+}
+
+/// Octets alone.
+pub fn octets(octets: &[u8], whole: bool) -> String {
+    let pieces = pieces(octets.iter().map(|&octet| (octet, 0)), whole);
+    format!("{} octets: {pieces}", octets.len())
+}
+
+fn pieces(symbols: impl Iterator<Item = (u8, u8)>, whole: bool) -> String {
+    let mut pieces = Vec::new();
+    let mut symbols = symbols.peekable();
+    while let Some((octet, mark)) = symbols.next() {
+        let mut times = 1;
+        while symbols.next_if_eq(&(octet, mark)).is_some() {
+            times += 1;
+        }
+        let mut piece = match mark {
+            0 => format!("{octet:02X}"),
+            1 => format!("[{octet:02X}]"),
+            _ => format!("[{octet:02X} mark {mark}]"),
+        };
+        if times > 1 {
+            let _ = write!(piece, " x {times}");
+        }
+        pieces.push(piece);
+    }
+    let left_out = pieces.len().saturating_sub(2 * PIECES);
+    if left_out > 0 && !whole {
+        pieces.splice(PIECES..PIECES + left_out, ["...".to_string()]);
+    }
+    pieces.join(", ")
+}
+
+/// A sending call but for settings, state, buffers and place.
+pub fn sending(call: &Sending, whole: bool) -> String {
+    match call {
+        Sending::Client(client, data) => format!("{client:?}, data: {}", octets(data, whole)),
+        other => format!("{other:?}"),
+    }
+}

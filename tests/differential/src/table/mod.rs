@@ -1,0 +1,64 @@
+//! The rows of the coverage table. A row that names an answer is hit only if the reference, and so
+//! the library too, gives that answer.
+mod control;
+mod frames;
+mod reading;
+mod sending;
+
+use crate::coverage::{Row, When};
+use crate::seen::{FcsSeen, ReadingSeen, SendingSeen, WalkSeen};
+use std::collections::BTreeSet;
+
+/// All rows, none hit yet.
+pub(crate) fn rows() -> Vec<Row> {
+    let mut table = Table(Vec::new());
+    reading::rows(&mut table);
+    frames::rows(&mut table);
+    control::rows(&mut table);
+    sending::rows(&mut table);
+    fcs_rows(&mut table);
+    let names: BTreeSet<_> = table.0.iter().map(|row| &row.name).collect();
+    assert_eq!(names.len(), table.0.len(), "two rows have one name");
+    table.0
+}
+
+/// The table while it is made.
+struct Table(Vec<Row>);
+
+impl Table {
+    fn row(&mut self, name: impl Into<String>, when: When) {
+        self.0.push(Row {
+            name: name.into(),
+            when,
+            count: 0,
+        });
+    }
+
+    fn reading(&mut self, name: impl Into<String>, test: impl Fn(&ReadingSeen) -> bool + 'static) {
+        self.row(name, When::Reading(Box::new(test)));
+    }
+
+    fn walk(&mut self, name: impl Into<String>, test: impl Fn(&WalkSeen) -> bool + 'static) {
+        self.row(name, When::Walk(Box::new(test)));
+    }
+
+    fn sending(&mut self, name: impl Into<String>, test: impl Fn(&SendingSeen) -> bool + 'static) {
+        self.row(name, When::Sending(Box::new(test)));
+    }
+
+    fn fcs(&mut self, name: impl Into<String>, test: impl Fn(&FcsSeen) -> bool + 'static) {
+        self.row(name, When::Fcs(Box::new(test)));
+    }
+}
+
+/// The FCS by length and register.
+fn fcs_rows(t: &mut Table) {
+    for n in [0, 1, 15, 16, 17, 32, 60, 1514, 9614, 65_536, 70_000] {
+        t.fcs(format!("fcs: {n} octets"), move |f| f.octets.len() == n);
+    }
+    t.fcs("fcs: from register 0", |f| f.register == 0);
+    t.fcs("fcs: from all ones", |f| f.register == u32::MAX);
+    t.fcs("fcs: from another register", |f| {
+        f.register != 0 && f.register != u32::MAX
+    });
+}
