@@ -2,7 +2,7 @@
 """Holds docs/DEFINITIONS.md and docs/PROMISES.md to the sources: every definition and record of crates/*/specs is named there, and every
 name and theorem there exists.
 
-Every public function and no other is in docs/PROMISES.md, and every must-fail edit named there exists. Internal files (those whose first line
+Every public function and no other is in docs/PROMISES.md, each with two must-fail edits or more, and every edit named there exists. Internal files (those whose first line
 says `Internal`) need not be named. Prints what is missing and exits 1, or says nothing.
 """
 import pathlib
@@ -53,10 +53,13 @@ for path in root.glob("crates/*/src/lib.rt"):
         public.add(f"{path.parent.parent.name}::{name}")
 missing += [f"docs/PROMISES.md: `{name}` is not there" for name in sorted(public - promised)]
 missing += [f"docs/PROMISES.md: there is no public `{name}`" for name in sorted(promised - public)]
-for crate, edit in re.findall(r"\b(\w+)/`(\w+)`", promises):
-    waits = root / "wip" / "must-fail" / crate / f"{edit}.edit.txt"
-    if not (root / "crates" / crate / "must-fail" / f"{edit}.edit").exists() and not waits.exists():
+EDIT = re.compile(r"\b(\w+)/`(\w+)`")
+for crate, edit in EDIT.findall(promises):
+    if not (root / "crates" / crate / "must-fail" / f"{edit}.edit").exists():
         missing.append(f"docs/PROMISES.md: no edit {crate}/{edit}")
+for row in re.findall(r"^\| `\w+::\w+`.*$", promises, re.M):
+    if len(set(EDIT.findall(row))) < 2:
+        missing.append(f"docs/PROMISES.md: fewer than two edits: {row.split('|')[1].strip()}")
 for line in missing:
     print(line)
 sys.exit(1 if missing else 0)

@@ -1,6 +1,8 @@
 -- `send::state_sent` meets its contract. Assumes nothing.
 use borrow.Author.Needs.{needs}
-use mathlib.Core.Path.{_≡_}
+use mathlib.Core.Path.{ap}
+use mathlib.Core.List.{List}
+use Rattle.station.specs.declared.Slots.{Slots}
 use Rattle.send.specs.Sending.{stateSent}
 use Rattle.send.proofs.state_sent.Statement.{statement}
 use Rattle.send.proofs.state_sent.Tie as tie
@@ -10,7 +12,7 @@ lower-requires c κs = search needs
 
 returns : tie.Need-returns
 unfolding stateSent
-returns c = cc
+returns c = ap (λ (ts : List Slots). record { counters = c .before .before .before .args .state .counters; timers = ts }) (c .lower .ensures)
 
 pub state-sent-spec : {M : Type 1} → statement M
 state-sent-spec = tie.close (tie.spec lower-requires returns)
