@@ -1,0 +1,80 @@
+//! The C baseline: the only unsafe code here.
+#![allow(unsafe_code)]
+use std::ffi::{c_char, CStr};
+
+use crate::captures::Line;
+
+/// What a walk gives beside the counters.
+#[repr(C)]
+pub struct Walked {
+    pub starts: usize,
+    pub open: usize,
+}
+
+type Setup = unsafe extern "C" fn() -> *const c_char;
+type Walk = unsafe extern "C" fn(u16, &mut [u32; 11], *const u8, *const u8, usize) -> Walked;
+
+extern "C" {
+    fn baseline_slicing_setup() -> *const c_char;
+    fn baseline_slicing_walk(
+        limit: u16,
+        counters: &mut [u32; 11],
+        octets: *const u8,
+        marks: *const u8,
+        length: usize,
+    ) -> Walked;
+}
+
+#[cfg(zlib)]
+extern "C" {
+    fn baseline_zlib_setup() -> *const c_char;
+    fn baseline_zlib_walk(
+        limit: u16,
+        counters: &mut [u32; 11],
+        octets: *const u8,
+        marks: *const u8,
+        length: usize,
+    ) -> Walked;
+}
+
+/// One of the two builds of the C reader, made ready.
+#[derive(Clone, Copy)]
+pub struct Reader {
+    walk: Walk,
+}
+
+impl Reader {
+    // The reader, and the version of what computes its check.
+    fn ready(setup: Setup, walk: Walk) -> (Reader, String) {
+        // SAFETY: it is called from one thread, before any walk, and gives a string that stays.
+        let version = unsafe { CStr::from_ptr(setup()) };
+        (Reader { walk }, version.to_string_lossy().into_owned())
+    }
+
+    /// With a check of its own by slicing by 16.
+    pub fn slicing() -> Reader {
+        Reader::ready(baseline_slicing_setup, baseline_slicing_walk).0
+    }
+
+    /// With zlib's check, and zlib's version; nothing where zlib is not installed.
+    pub fn zlib() -> Option<(Reader, String)> {
+        #[cfg(zlib)]
+        return Some(Reader::ready(baseline_zlib_setup, baseline_zlib_walk));
+        #[cfg(not(zlib))]
+        return None;
+    }
+
+    pub fn walk(&self, limit: u16, counters: &mut [u32; 11], line: &Line) -> Walked {
+        let length = line.octets.len().min(line.marks.len());
+        // SAFETY: both pointers are to `length` octets, and the tables were made by `ready`.
+        unsafe {
+            (self.walk)(
+                limit,
+                counters,
+                line.octets.as_ptr(),
+                line.marks.as_ptr(),
+                length,
+            )
+        }
+    }
+}

@@ -1,0 +1,244 @@
+//! Fenhamper's speed beside an independent Rust program and C: symbols per second of `walk`, of
+//! `read` Start by Start and of sending.
+#![deny(unsafe_code)]
+mod baseline;
+mod captures;
+mod measure;
+mod report;
+mod rivals;
+#[cfg(test)]
+mod tests;
+
+use std::env;
+use std::fs;
+use std::process::ExitCode;
+use std::time::Duration;
+
+use baseline::Reader;
+use captures::{Kind, Line, FRAMES, HOSTILE, SYMBOLS};
+use measure::{agree, Effort, Rivals};
+use reference::Check;
+use report::{placed, Growth, Report, Row};
+use rivals::{By, InC, Independent, IndependentSender, Job, Proved, ProvedSender};
+
+const USAGE: &str = "\
+bench/run [--markdown FILE] [--rounds N] [--turn MILLISECONDS]
+  --markdown FILE  also write the tables to FILE; if it has the two marks of docs/SPEED.md, between them
+  --rounds N       how often all rivals take their turn (7)
+  --turn N         how many milliseconds a turn lasts at least (50)";
+
+/// 128 shows what a call costs by itself.
+const SIZES: [usize; 8] = [128, 1024, 2048, 4096, 8192, 16_384, 32_768, 65_536];
+
+struct Bench {
+    effort: Effort,
+    slicing: Reader,
+    zlib: Option<Reader>,
+}
+
+impl Bench {
+    // 10^9 symbols per second, of rivals that do the same.
+    fn rates(&self, symbols: usize, rivals: &mut Rivals) -> Vec<f64> {
+        let seconds = self.effort.seconds(rivals);
+        let rates = seconds.iter().map(|s| symbols as f64 / s / 1e9);
+        rates.collect()
+    }
+
+    // `walk` and `read` on one capture.
+    fn reading(&self, kind: &Kind, line: &Line) -> Vec<Row> {
+        let (name, limit, symbols) = (kind.name, kind.limit, line.octets.len());
+        let proved = |by| Box::new(Proved::new(by, line, limit));
+        let independent = |check, by| Box::new(Independent::new(check, by, line, limit));
+        let in_c = |reader| Box::new(InC::new(reader, line, limit));
+        let row = |call, ours, others: [Option<f64>; 4]| {
+            let [byte, by_16, slicing, zlib] = others;
+            Row {
+                call,
+                capture: name,
+                hostile: !kind.has_frames(),
+                rates: [Some(ours), byte, by_16, slicing, zlib],
+            }
+        };
+
+        let mut walks: Rivals = vec![
+            proved(By::Walk),
+            independent(Check::ByteTable, By::Walk),
+            independent(Check::Slicing16, By::Walk),
+            in_c(self.slicing),
+        ];
+        if let Some(zlib) = self.zlib {
+            walks.push(in_c(zlib));
+        }
+        let mut reads: Rivals = vec![
+            proved(By::Read),
+            proved(By::Readings),
+            independent(Check::ByteTable, By::Read),
+            independent(Check::Slicing16, By::Read),
+        ];
+        let counted = agree(name, &mut walks);
+        let read = agree(name, &mut reads);
+        assert!(counted == read, "{name}: walk and read count otherwise");
+
+        let walk = self.rates(symbols, &mut walks);
+        let read = self.rates(symbols, &mut reads);
+        let zlib = walk.get(4).copied();
+        let byte_and_16 = [Some(read[2]), Some(read[3]), None, None];
+        let mut rows = vec![
+            row(
+                "walk",
+                walk[0],
+                [Some(walk[1]), Some(walk[2]), Some(walk[3]), zlib],
+            ),
+            row("read", read[0], byte_and_16),
+        ];
+        // the iterator is the same call for each Start: good traffic shows what it adds or saves
+        if kind.has_frames() {
+            rows.push(row("readings", read[1], byte_and_16));
+        }
+        rows
+    }
+
+    // Sending frames of one kind.
+    fn sending(&self, kind: &Kind) -> Row {
+        let (sizes, data) = (kind.sizes(SYMBOLS), captures::data());
+        let job = Job {
+            limit: kind.limit,
+            sizes: &sizes,
+            data: &data,
+        };
+        let mut rivals: Rivals = vec![
+            Box::new(ProvedSender::new(job)),
+            Box::new(IndependentSender::new(Check::ByteTable, job)),
+            Box::new(IndependentSender::new(Check::Slicing16, job)),
+        ];
+        agree(kind.name, &mut rivals);
+        let rates = self.rates(captures::symbols(&sizes), &mut rivals);
+        Row {
+            call: "send",
+            capture: kind.name,
+            hostile: false,
+            rates: [Some(rates[0]), Some(rates[1]), Some(rates[2]), None, None],
+        }
+    }
+
+    // `walk` on captures of one kind and growing size, in fewer rounds, since there are many.
+    fn growth(&self, kind: &Kind) -> Growth {
+        let bench = Bench {
+            effort: Effort {
+                rounds: self.effort.rounds.div_ceil(2),
+                ..self.effort
+            },
+            ..*self
+        };
+        let cells = SIZES.map(|size| {
+            let line = kind.capture(size)?;
+            let mut rivals: Rivals = vec![
+                Box::new(Proved::new(By::Walk, &line, kind.limit)),
+                Box::new(Independent::new(
+                    Check::Slicing16,
+                    By::Walk,
+                    &line,
+                    kind.limit,
+                )),
+            ];
+            agree(kind.name, &mut rivals);
+            let rates = bench.rates(line.octets.len(), &mut rivals);
+            Some((1.0 / rates[0], rates[0] / rates[1]))
+        });
+        Growth {
+            capture: kind.name,
+            hostile: !kind.has_frames(),
+            cells: cells.to_vec(),
+        }
+    }
+
+    fn report(&self, machine: Vec<String>) -> Report {
+        let kinds: Vec<Kind> = FRAMES.into_iter().chain(HOSTILE).collect();
+        let (mut rows, mut growth) = (Vec::new(), Vec::new());
+        for kind in &kinds {
+            eprintln!("reading: {}", kind.name);
+            if let Some(line) = kind.capture(SYMBOLS) {
+                rows.extend(self.reading(kind, &line));
+            }
+        }
+        for kind in &FRAMES {
+            eprintln!("sending: {}", kind.name);
+            rows.push(self.sending(kind));
+        }
+        for kind in &kinds {
+            eprintln!("by size: {}", kind.name);
+            growth.push(self.growth(kind));
+        }
+        let order = ["walk", "read", "readings", "send"];
+        rows.sort_by_key(|row| order.iter().position(|call| *call == row.call));
+        Report {
+            machine,
+            zlib: self.zlib.is_some(),
+            rows,
+            sizes: SIZES.to_vec(),
+            growth,
+        }
+    }
+}
+
+// The processor's model, and what compiled the rivals.
+fn machine(zlib: Option<&str>) -> Vec<String> {
+    let info = fs::read_to_string("/proc/cpuinfo").unwrap_or_default();
+    let mut models = info.lines().filter(|line| line.starts_with("model name"));
+    let model = models.next().and_then(|line| line.split_once(": "));
+    let zlib = zlib.map_or("not installed", |version| version);
+    vec![
+        format!("processor: {}", model.map_or("unknown", |(_, name)| name)),
+        format!("Rust, for release: {}", env!("BENCH_RUSTC")),
+        format!("C, -O3: {}", env!("BENCH_GCC")),
+        format!("zlib: {zlib}"),
+    ]
+}
+
+// The value behind an option, as a number.
+fn number(value: Option<String>) -> Result<u64, String> {
+    let value = value.ok_or(USAGE)?;
+    let number = value.parse().ok().filter(|&n| n > 0);
+    number.ok_or(format!("{value} is no number above 0\n{USAGE}"))
+}
+
+fn run() -> Result<(), String> {
+    let (mut markdown, mut rounds, mut turn) = (None, 7, 50);
+    let mut words = env::args().skip(1);
+    while let Some(word) = words.next() {
+        match word.as_str() {
+            "--markdown" => markdown = Some(words.next().ok_or(USAGE)?),
+            "--rounds" => rounds = number(words.next())?,
+            "--turn" => turn = number(words.next())?,
+            _ => return Err(USAGE.to_owned()),
+        }
+    }
+    let zlib = Reader::zlib();
+    let bench = Bench {
+        effort: Effort {
+            rounds: rounds as usize,
+            turn: Duration::from_millis(turn),
+        },
+        slicing: Reader::slicing(),
+        zlib: zlib.as_ref().map(|(reader, _)| *reader),
+    };
+    let version = zlib.as_ref().map(|(_, version)| version.as_str());
+    let figures = bench.report(machine(version)).markdown();
+    println!("{figures}");
+    if let Some(file) = markdown {
+        let document = fs::read_to_string(&file).unwrap_or_default();
+        let written = fs::write(&file, placed(&document, &figures));
+        written.map_err(|error| format!("{file}: {error}"))?;
+    }
+    Ok(())
+}
+
+fn main() -> ExitCode {
+    match run() {
+        Ok(()) => ExitCode::SUCCESS,
+        Err(message) => {
+            eprintln!("{message}");
+            ExitCode::FAILURE
+        }
+    }
+}

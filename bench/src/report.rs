@@ -1,0 +1,242 @@
+//! The tables, in markdown.
+use std::fmt::Write;
+
+/// The columns of figures: ours, and those that it is compared with.
+pub const COLUMNS: [&str; 5] = [
+    "Fenhamper",
+    "reference, byte table",
+    "reference, by 16",
+    "C, by 16",
+    "C, zlib",
+];
+const BY_16: usize = 2;
+const ZLIB: usize = 4;
+
+/// A call on one capture, or one sending: 10^9 symbols per second by column.
+pub struct Row {
+    pub call: &'static str,
+    pub capture: &'static str,
+    pub hostile: bool,
+    pub rates: [Option<f64>; 5],
+}
+
+impl Row {
+    // How many times as fast as a column Fenhamper is.
+    fn ratio(&self, column: usize) -> Option<f64> {
+        Some(self.rates[0]? / self.rates[column]?)
+    }
+}
+
+/// `walk` on one kind of capture by size: nanoseconds per symbol, and how many times as fast as the
+/// reference by 16 it is; nothing where no frame fits.
+pub struct Growth {
+    pub capture: &'static str,
+    pub hostile: bool,
+    pub cells: Vec<Option<(f64, f64)>>,
+}
+
+// What was asked for, and what was measured.
+struct Target {
+    text: String,
+    asked: f64,
+    measured: Option<f64>,
+}
+
+/// All that was measured.
+pub struct Report {
+    pub machine: Vec<String>,
+    pub zlib: bool,
+    pub rows: Vec<Row>,
+    pub sizes: Vec<usize>,
+    pub growth: Vec<Growth>,
+}
+
+fn cell(number: Option<f64>, digits: usize) -> String {
+    number.map_or("-".to_owned(), |n| format!("{n:.digits$}"))
+}
+
+// A size in symbols, with K for 1,024.
+fn size_name(size: usize) -> String {
+    if size.is_multiple_of(1024) {
+        format!("{}K", size / 1024)
+    } else {
+        size.to_string()
+    }
+}
+
+// The least ratio, with what it was measured on.
+fn least(ratios: impl Iterator<Item = (f64, String)>) -> Option<(f64, String)> {
+    ratios.min_by(|a, b| a.0.total_cmp(&b.0))
+}
+
+// A line of a table.
+fn line(out: &mut String, cells: impl IntoIterator<Item = String>) {
+    let cells: Vec<String> = cells.into_iter().collect();
+    let _ = writeln!(out, "| {} |", cells.join(" | "));
+}
+
+// The first two lines of a table: `left` columns of words, the rest numbers.
+fn head(out: &mut String, names: Vec<String>, left: usize) {
+    let rules: Vec<String> = (0..names.len())
+        .map(|i| if i < left { "---" } else { "---:" }.to_owned())
+        .collect();
+    line(out, names);
+    line(out, rules);
+}
+
+impl Report {
+    fn row(&self, call: &str, capture: &str) -> Option<&Row> {
+        let mut rows = self.rows.iter();
+        rows.find(|row| row.call == call && row.capture == capture)
+    }
+
+    fn rates(&self, out: &mut String) {
+        out.push_str("### Symbols per second\n\n");
+        out.push_str("In 10^9 symbols per second; the last four columns say how many times as fast as each of the others Fenhamper is.\n");
+        if !self.zlib {
+            out.push_str("zlib not installed.\n");
+        }
+        out.push('\n');
+        let mut names = vec!["Call".to_owned(), "Capture".to_owned()];
+        names.extend(COLUMNS.map(str::to_owned));
+        names.extend(COLUMNS[1..].iter().map(|name| format!("to {name}")));
+        head(out, names, 2);
+        for row in &self.rows {
+            let mut cells = vec![format!("`{}`", row.call), row.capture.to_owned()];
+            cells.extend(row.rates.map(|rate| cell(rate, 3)));
+            cells.extend((1..COLUMNS.len()).map(|column| cell(row.ratio(column), 2)));
+            line(out, cells);
+        }
+    }
+
+    // One table by size, of the figures that `of` picks.
+    fn by_size(&self, out: &mut String, digits: usize, of: fn((f64, f64)) -> f64) {
+        let mut names = vec!["Capture".to_owned()];
+        names.extend(self.sizes.iter().map(|&size| size_name(size)));
+        head(out, names, 1);
+        for growth in &self.growth {
+            let mut cells = vec![growth.capture.to_owned()];
+            cells.extend(growth.cells.iter().map(|&c| cell(c.map(of), digits)));
+            line(out, cells);
+        }
+    }
+
+    // The hostile capture on which a call does worst.
+    fn worst(&self, call: &str) -> Option<(f64, String)> {
+        let rows = self.rows.iter().filter(|r| r.hostile && r.call == call);
+        least(rows.filter_map(|r| Some((r.ratio(BY_16)?, r.capture.to_owned()))))
+    }
+
+    // The same for `walk` by size, of the sizes that `of` picks.
+    fn worst_by_size(&self, of: fn(usize) -> bool) -> Option<(f64, String)> {
+        let cells = self.growth.iter().filter(|g| g.hostile).flat_map(|growth| {
+            let sizes = self.sizes.iter().zip(&growth.cells);
+            sizes.filter_map(move |(&size, cell)| Some((growth.capture, size, (*cell)?.1)))
+        });
+        let cells = cells.filter(|&(_, size, _)| of(size));
+        least(
+            cells
+                .map(|(capture, size, ratio)| (ratio, format!("{capture} at {}", size_name(size)))),
+        )
+    }
+
+    fn targets(&self) -> Vec<Target> {
+        let mut targets = Vec::new();
+        let mut ask = |text: String, asked: f64, measured: Option<f64>| {
+            targets.push(Target {
+                text,
+                asked,
+                measured,
+            })
+        };
+        let ratio = |call, capture, column| self.row(call, capture)?.ratio(column);
+        for (capture, asked) in [("64", 2.0), ("mix", 2.0), ("1518", 1.5), ("9018", 1.5)] {
+            ask(
+                format!("`walk` to reference, by 16: {capture}"),
+                asked,
+                ratio("walk", capture, BY_16),
+            );
+        }
+        for capture in ["64", "mix", "1518", "9018"] {
+            ask(
+                format!("`read` to reference, by 16: {capture}"),
+                1.5,
+                ratio("read", capture, BY_16),
+            );
+        }
+        for capture in ["64", "mix", "1518"] {
+            ask(
+                format!("`walk` to C, zlib: {capture}"),
+                1.0,
+                ratio("walk", capture, ZLIB),
+            );
+        }
+        for capture in ["64", "mix", "1518", "9018"] {
+            ask(
+                format!("sending to reference, by 16: {capture}"),
+                1.2,
+                ratio("send", capture, BY_16),
+            );
+        }
+        let worst = [
+            ("`walk` on hostile captures", self.worst("walk")),
+            ("`read` on hostile captures", self.worst("read")),
+            (
+                "`walk` on those of 1K to 64K symbols",
+                self.worst_by_size(|size| size >= 1024),
+            ),
+            (
+                "`walk` on those under 1K symbols",
+                self.worst_by_size(|size| size < 1024),
+            ),
+        ];
+        for (call, (ratio, capture)) in worst.into_iter().filter_map(|(c, w)| Some((c, w?))) {
+            let text = format!("{call} to reference, by 16: the worst, {capture}");
+            ask(text, 0.5, Some(ratio));
+        }
+        targets
+    }
+
+    /// The whole report.
+    pub fn markdown(&self) -> String {
+        let mut out = String::from("### Machine\n\n");
+        for line in &self.machine {
+            let _ = writeln!(out, "- {line}");
+        }
+        out.push('\n');
+        self.rates(&mut out);
+        out.push_str("\n### `walk`: nanoseconds per symbol by the capture's size in symbols\n\n");
+        self.by_size(&mut out, 3, |(cost, _)| cost);
+        out.push_str("\n### `walk`: how many times as fast as reference, by 16, by the capture's size in symbols\n\n");
+        self.by_size(&mut out, 2, |(_, ratio)| ratio);
+        out.push_str("\n### Targets\n\n");
+        let names = ["Target", "asked", "measured", ""].map(str::to_owned);
+        head(&mut out, names.to_vec(), 1);
+        for target in self.targets() {
+            let verdict = match target.measured {
+                None => "not measured",
+                Some(measured) if measured >= target.asked => "met",
+                Some(_) => "**missed**",
+            };
+            let asked = cell(Some(target.asked), 1);
+            let cells = [target.text, asked, cell(target.measured, 2)];
+            line(&mut out, cells.into_iter().chain([verdict.to_owned()]));
+        }
+        out
+    }
+}
+
+const BEGIN: &str = "<!-- figures: bench/run --markdown writes from here -->\n";
+const END: &str = "<!-- figures: to here -->\n";
+
+/// The document with these figures in place of those between its two marks; without marks, the
+/// figures alone.
+pub fn placed(document: &str, figures: &str) -> String {
+    let parts = document
+        .split_once(BEGIN)
+        .and_then(|(before, rest)| Some((before, rest.split_once(END)?.1)));
+    match parts {
+        Some((before, after)) => format!("{before}{BEGIN}\n{figures}\n{END}{after}"),
+        None => figures.to_owned(),
+    }
+}

@@ -1,0 +1,351 @@
+//! The ways to do one job, each with the state that it keeps, so that what they did can be compared.
+use std::hint::black_box;
+
+use fenhamper::{Address, Capture, Frame, Reading, Sender, Settings, State};
+use reference::{Answer, Check, Client, Flow, Form, Sent, Walked};
+
+use crate::baseline::Reader;
+use crate::captures::{data_length, Line, TYPE};
+
+/// The own address of the printing program.
+pub const OWN: [u8; 6] = [0x02, 0, 0, 0, 0, 1];
+
+/// One way to do a job.
+pub trait Rival {
+    /// Does the job once, and sums up what it gave.
+    fn run(&mut self) -> Tally;
+    /// What it left behind in all runs so far: counters, or symbols.
+    fn kept(&self) -> Vec<u32>;
+}
+
+/// What one run gave: Starts counted, whether the last is open, octets handed out, status words
+/// added up; of a sending the place after it.
+#[derive(Clone, Copy, Debug, Default, PartialEq, Eq)]
+pub struct Tally {
+    count: usize,
+    open: bool,
+    octets: usize,
+    status: u64,
+}
+
+/// The printing program's settings but for the limit M, for the reference.
+pub fn reference_settings(limit: u16) -> reference::Settings {
+    reference::Settings {
+        own: OWN,
+        listed: [[0; 6]; 4],
+        count: 0,
+        broadcast: true,
+        promiscuous: false,
+        checking: true,
+        limit,
+        flow: Flow::None,
+        pass_control: false,
+    }
+}
+
+// The same for Fenhamper.
+fn settings(limit: u16) -> Settings {
+    Settings::new(Address(OWN)).limit(limit)
+}
+
+/// How Fenhamper reads a capture.
+#[derive(Clone, Copy)]
+pub enum By {
+    /// All in one call.
+    Walk,
+    /// A call for each Start.
+    Read,
+    /// The iterator over readings, which is a call for each Start too.
+    Readings,
+}
+
+/// Fenhamper, reading.
+pub struct Proved<'a> {
+    by: By,
+    line: &'a Line,
+    settings: Settings,
+    state: State,
+}
+
+impl<'a> Proved<'a> {
+    pub fn new(by: By, line: &'a Line, limit: u16) -> Self {
+        Proved {
+            by,
+            line,
+            settings: settings(limit),
+            state: State::default(),
+        }
+    }
+
+    fn read(&mut self, capture: Capture) -> Tally {
+        let (mut tally, mut place) = (Tally::default(), 0);
+        while let Ok(reading) = capture.read(&self.settings, &mut self.state, place) {
+            match reading {
+                Reading::Counted(r) => {
+                    tally.count += 1;
+                    tally.octets += r.data.len();
+                    tally.status = tally.status.wrapping_add(r.status.word());
+                    place = r.next;
+                }
+                Reading::Open { .. } => {
+                    tally.open = true;
+                    break;
+                }
+                Reading::Nothing { .. } => break,
+            }
+        }
+        tally
+    }
+
+    fn readings(&mut self, capture: Capture) -> Tally {
+        let mut tally = Tally::default();
+        let mut readings = capture.readings(&self.settings, &mut self.state);
+        for r in readings.by_ref().flatten() {
+            tally.count += 1;
+            tally.octets += r.data.len();
+            tally.status = tally.status.wrapping_add(r.status.word());
+        }
+        tally.open = readings.ended_open();
+        tally
+    }
+}
+
+impl Rival for Proved<'_> {
+    fn run(&mut self) -> Tally {
+        let capture = Capture::new(black_box(&self.line.octets), black_box(&self.line.marks));
+        match self.by {
+            By::Walk => {
+                let walk = capture.walk(&self.settings, &mut self.state);
+                walk.map_or_else(
+                    |_| Tally::default(),
+                    |walk| Tally {
+                        count: walk.starts,
+                        open: walk.open,
+                        ..Tally::default()
+                    },
+                )
+            }
+            By::Read => self.read(capture),
+            By::Readings => self.readings(capture),
+        }
+    }
+
+    fn kept(&self) -> Vec<u32> {
+        self.state.counters().to_vec()
+    }
+}
+
+/// The reference, reading by its walk or Start by Start.
+pub struct Independent<'a> {
+    check: Check,
+    walk: bool,
+    line: &'a Line,
+    settings: reference::Settings,
+    state: reference::State,
+}
+
+impl<'a> Independent<'a> {
+    pub fn new(check: Check, by: By, line: &'a Line, limit: u16) -> Self {
+        Independent {
+            check,
+            walk: matches!(by, By::Walk),
+            line,
+            settings: reference_settings(limit),
+            state: reference::State::default(),
+        }
+    }
+}
+
+impl Rival for Independent<'_> {
+    fn run(&mut self) -> Tally {
+        let (check, s, state) = (self.check, &self.settings, &mut self.state);
+        let (octets, marks) = (black_box(&self.line.octets), black_box(&self.line.marks));
+        let mut tally = Tally::default();
+        if self.walk {
+            if let Walked::Ended { starts, open } = reference::walk(check, s, state, octets, marks)
+            {
+                (tally.count, tally.open) = (starts, open);
+            }
+            return tally;
+        }
+        let mut place = 0;
+        loop {
+            let reading = reference::read(check, s, state, octets, marks, place);
+            match reading.answer {
+                Answer::Counted { status, len, .. } => {
+                    tally.count += 1;
+                    tally.octets += len;
+                    tally.status = tally.status.wrapping_add(status);
+                    place = reading.next;
+                }
+                Answer::Open => {
+                    tally.open = true;
+                    return tally;
+                }
+                Answer::None | Answer::Refused(_) => return tally,
+            }
+        }
+    }
+
+    fn kept(&self) -> Vec<u32> {
+        self.state.counters.to_vec()
+    }
+}
+
+/// The C reader.
+pub struct InC<'a> {
+    reader: Reader,
+    line: &'a Line,
+    limit: u16,
+    counters: [u32; 11],
+}
+
+impl<'a> InC<'a> {
+    pub fn new(reader: Reader, line: &'a Line, limit: u16) -> Self {
+        InC {
+            reader,
+            line,
+            limit,
+            counters: [0; 11],
+        }
+    }
+}
+
+impl Rival for InC<'_> {
+    fn run(&mut self) -> Tally {
+        let walked = self
+            .reader
+            .walk(self.limit, &mut self.counters, black_box(self.line));
+        Tally {
+            count: walked.starts,
+            open: walked.open != 0,
+            ..Tally::default()
+        }
+    }
+
+    fn kept(&self) -> Vec<u32> {
+        self.counters.to_vec()
+    }
+}
+
+// Symbols as numbers, to be compared.
+fn symbols(line: &Line) -> Vec<u32> {
+    let pairs = line.octets.iter().zip(&line.marks);
+    pairs
+        .map(|(&octet, &mark)| u32::from(octet) << 8 | u32::from(mark))
+        .collect()
+}
+
+/// What is sent: frames of these sizes, each with the first octets of `data`.
+#[derive(Clone, Copy)]
+pub struct Job<'a> {
+    pub limit: u16,
+    pub sizes: &'a [usize],
+    pub data: &'a [u8],
+}
+
+// Buffers that hold what no sender writes.
+fn blank(job: Job) -> Line {
+    let size = crate::captures::symbols(job.sizes);
+    Line {
+        octets: vec![0xA7; size],
+        marks: vec![0xC9; size],
+    }
+}
+
+/// Fenhamper, sending.
+pub struct ProvedSender<'a> {
+    job: Job<'a>,
+    line: Line,
+    settings: Settings,
+    state: State,
+}
+
+impl<'a> ProvedSender<'a> {
+    pub fn new(job: Job<'a>) -> Self {
+        ProvedSender {
+            job,
+            line: blank(job),
+            settings: settings(job.limit),
+            state: State::default(),
+        }
+    }
+}
+
+impl Rival for ProvedSender<'_> {
+    fn run(&mut self) -> Tally {
+        let frame = Frame::to(Address(OWN)).by_type(TYPE);
+        let line = black_box(&mut self.line);
+        let mut sender = Sender::new(&mut line.octets, &mut line.marks);
+        for &size in self.job.sizes {
+            let data = &self.job.data[..data_length(size)];
+            // a refused one leaves the place, and the comparison shows it
+            let _ = sender.client(&self.settings, &mut self.state, &frame, data);
+        }
+        Tally {
+            count: sender.place(),
+            ..Tally::default()
+        }
+    }
+
+    fn kept(&self) -> Vec<u32> {
+        symbols(&self.line)
+    }
+}
+
+/// The reference, sending.
+pub struct IndependentSender<'a> {
+    check: Check,
+    job: Job<'a>,
+    line: Line,
+    settings: reference::Settings,
+    state: reference::State,
+}
+
+impl<'a> IndependentSender<'a> {
+    pub fn new(check: Check, job: Job<'a>) -> Self {
+        IndependentSender {
+            check,
+            job,
+            line: blank(job),
+            settings: reference_settings(job.limit),
+            state: reference::State::default(),
+        }
+    }
+}
+
+impl Rival for IndependentSender<'_> {
+    fn run(&mut self) -> Tally {
+        let client = Client {
+            dest: OWN,
+            tag: None,
+            form: Form::Type(TYPE),
+            class: 0,
+        };
+        let line = black_box(&mut self.line);
+        let mut place = 0;
+        for &size in self.job.sizes {
+            let sent = reference::send_client(
+                self.check,
+                &self.settings,
+                &mut self.state,
+                &mut line.octets,
+                &mut line.marks,
+                place,
+                &client,
+                &self.job.data[..data_length(size)],
+            );
+            if let Sent::Wrote(next) = sent {
+                place = next;
+            }
+        }
+        Tally {
+            count: place,
+            ..Tally::default()
+        }
+    }
+
+    fn kept(&self) -> Vec<u32> {
+        symbols(&self.line)
+    }
+}

@@ -1,0 +1,157 @@
+//! That the rivals do the same job: frames of every kind, good and damaged, with the same counters.
+use reference::Check;
+
+use crate::baseline::Reader;
+use crate::captures::{Kind, Line, Random, FRAMES, HOSTILE};
+use crate::measure::{agree, Rivals};
+use crate::report::placed;
+use crate::rivals::{By, InC, Independent, Proved, OWN};
+
+const LIMIT: u16 = 1518;
+
+// All readers of one capture give the same; what they counted.
+fn same(name: &str, line: &Line, limit: u16) -> Vec<u32> {
+    let mut walks: Rivals = vec![
+        Box::new(Proved::new(By::Walk, line, limit)),
+        Box::new(Independent::new(Check::ByteTable, By::Walk, line, limit)),
+        Box::new(Independent::new(Check::Slicing16, By::Walk, line, limit)),
+        Box::new(InC::new(Reader::slicing(), line, limit)),
+    ];
+    if let Some((zlib, _)) = Reader::zlib() {
+        walks.push(Box::new(InC::new(zlib, line, limit)));
+    }
+    let mut reads: Rivals = vec![
+        Box::new(Proved::new(By::Read, line, limit)),
+        Box::new(Proved::new(By::Readings, line, limit)),
+        Box::new(Independent::new(Check::Slicing16, By::Read, line, limit)),
+    ];
+    let counted = agree(name, &mut walks);
+    assert_eq!(counted, agree(name, &mut reads));
+    counted
+}
+
+// One of these.
+fn one<T: Copy>(random: &mut Random, of: &[T]) -> T {
+    of[random.below(of.len())]
+}
+
+// A frame from destination to FCS, of a size, destination and field near some rule's edge.
+fn frame(random: &mut Random) -> Vec<u8> {
+    let group = [0x01, 0x80, 0xC2, 0, 0, 1];
+    let other = [0x02, 0, 0, 0, 0, 2];
+    let mut frame = one(random, &[OWN, OWN, OWN, [0xFF; 6], group, other]).to_vec();
+    frame.extend(other);
+    if random.below(3) == 0 {
+        frame.extend([0x81, 0x00, 0x20, 0x05]);
+    }
+    let field: u16 = one(
+        random,
+        &[
+            0, 10, 45, 46, 47, 100, 1500, 1501, 1535, 1536, 0x0800, 0x8100, 0x8808, 0x8808,
+        ],
+    );
+    frame.extend(field.to_be_bytes());
+    frame.extend(one(random, &[[0x00, 0x01], [0x01, 0x01], [0x12, 0x34]]));
+    let data = one(
+        random,
+        &[38, 41, 42, 43, 44, 45, 98, 558, 1494, 1498, 1499, 1502],
+    );
+    frame.extend((0..data).map(|_| random.octet()));
+    let check = reference::fcs(Check::Bitwise, &frame);
+    frame.extend(check.to_le_bytes());
+    if random.below(8) == 0 {
+        let at = random.below(frame.len());
+        frame[at] ^= 0x10;
+    }
+    frame
+}
+
+// Frames with damage between them and in their preambles, marks of every value.
+fn traffic(random: &mut Random, size: usize) -> Line {
+    let mut line = Line {
+        octets: Vec::new(),
+        marks: Vec::new(),
+    };
+    while line.octets.len() < size {
+        let mark = one(random, &[1, 1, 2, 0x80, 0xFF]);
+        let mut run = vec![0x55, 0x55, 0x55, 0x55, 0x55, 0x55, 0xD5];
+        run.extend(frame(random));
+        if random.below(10) == 0 {
+            let at = random.below(7);
+            run[at] ^= 1;
+        }
+        if random.below(10) == 0 {
+            run.truncate(random.below(72));
+        }
+        let end = one(random, &[0xFD, 0xFD, 0xFD, 0xFD, 0xFD, 0xFD, 0xFE, 0xFB]);
+        line.octets.push(0xFB);
+        line.octets.extend(&run);
+        line.octets.push(end);
+        line.marks.push(mark);
+        line.marks.resize(line.marks.len() + run.len(), 0);
+        line.marks.push(mark);
+        for _ in 0..random.below(14) {
+            line.octets.push(one(random, &[0x07, 0x07, 0x07, 0xFB]));
+            line.marks.push(u8::from(random.below(9) > 0));
+        }
+    }
+    line.octets.truncate(size);
+    line.marks.truncate(size);
+    line
+}
+
+#[test]
+fn all_readers_count_the_same() {
+    let mut random = Random::new(7);
+    let mut counted = vec![0; 11];
+    for n in 0..200 {
+        let line = traffic(&mut random, 40 + 300 * n);
+        for (sum, more) in counted.iter_mut().zip(same("traffic", &line, LIMIT)) {
+            *sum += more;
+        }
+    }
+    // flow mode none: 8 and 9 do not come up, and each other outcome does
+    for (index, count) in counted.into_iter().enumerate() {
+        assert_eq!(
+            count == 0,
+            index == 7 || index == 8,
+            "outcome {}",
+            index + 1
+        );
+    }
+}
+
+#[test]
+fn captures_are_what_they_are_called() {
+    let count = |kind: &Kind, size| {
+        let line = kind.capture(size)?;
+        assert!(line.octets.len() == line.marks.len() && line.octets.len() <= size);
+        Some(same(kind.name, &line, kind.limit))
+    };
+    for kind in &FRAMES {
+        let sizes = kind.sizes(65_536);
+        let handed = count(kind, 65_536).map(|counters| counters[10] as usize);
+        assert_eq!(handed, Some(sizes.len()), "{}", kind.name);
+    }
+    for kind in &HOSTILE {
+        for size in [1, 128, 1000, 65_536] {
+            let counters = count(kind, size).unwrap_or_default();
+            assert_eq!(counters.last(), Some(&0), "{}", kind.name);
+        }
+    }
+    // the mix is dealt as 7:4:1
+    let deck = &FRAMES[1].sizes(65_536)[..12];
+    let of = |size| deck.iter().filter(|&&s| s == size).count();
+    assert_eq!([of(64), of(576), of(1518)], [7, 4, 1]);
+}
+
+#[test]
+fn figures_go_between_the_marks() {
+    let begin = "<!-- figures: bench/run --markdown writes from here -->\n";
+    let end = "<!-- figures: to here -->\n";
+    let document = format!("before\n{begin}old\n{end}after\n");
+    let placed_once = placed(&document, "new\n");
+    assert_eq!(placed_once, format!("before\n{begin}\nnew\n\n{end}after\n"));
+    assert_eq!(placed(&placed_once, "new\n"), placed_once);
+    assert_eq!(placed("no marks", "new\n"), "new\n");
+}
