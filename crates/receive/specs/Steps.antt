@@ -3,6 +3,8 @@ use Prim.Native.Nat.{ℕ}
 use mathlib.Core.List.{List}
 use Rattle.line.specs.Table.{Table, _⇒_, _∣_, otherwise}
 use Rattle.station.specs.declared.Settings.{Settings}
+use Rattle.station.specs.declared.State.{State}
+use Rattle.station.specs.Station.{counted}
 use Rattle.station.specs.declared.Outcome.{Outcome}
 use Rattle.station.specs.declared.Outcome.the-variants.{Cut, BadPreamble, Undersized, Oversized, WrongLength, Filtered, PauseTaken, PfcTaken, ControlDropped, HandedOut}
 use Rattle.frame.specs.Frame.{undersized, oversized}
@@ -30,3 +32,7 @@ lateOutcomes s f =
     ∣ takesPfc s f ⇒ PfcTaken
     ∣ dropsControl s f ⇒ ControlDropped
     ∣ otherwise HandedOut
+
+-- the state after an outcome that sets no timer
+unfoldable pub stateCounted : Outcome → State → State
+stateCounted o st = record { counters = counted o (st .counters); timers = st .timers }

@@ -14,13 +14,13 @@ ghost use lib.Dec.{eqb};
 ghost use Rattle.line.specs.Table.{first};
 ghost use Rattle.fcs.specs.Lent.{Tables};
 ghost use Rattle.station.specs.Station.{isGroup};
-ghost use Rattle.frame.specs.Frame.{destination, frameData};
+ghost use Rattle.frame.specs.Frame.{destination, frameData, wrongFcs};
 ghost use Rattle.receive.specs.Outcomes.{cut, badPreamble, frameOf, outcome};
 ghost use Rattle.receive.specs.Status.{bit, frameBits, status};
 ghost use Rattle.receive.specs.Reading.{readRefusals, stateAfter, handedPart, readRun, reading, partOf};
 ghost use Rattle.station.specs.declared.Checked.the-variants.{Fine};
 ghost use Rattle.receive.specs.Walk.{walked};
-ghost use Rattle.receive.specs.Steps.{earlyOutcomes, lateOutcomes};
+ghost use Rattle.receive.specs.Steps.{earlyOutcomes, lateOutcomes, stateCounted};
 
 // What a reading answers. The state holds arrays, which an enum may not: it stands beside the answer.
 pub enum Answer {
@@ -142,22 +142,6 @@ fn outcome(s: Settings, run: &[u8], by: u8) -> Outcome
     }
     let f = frame_of(run);
     if frame::wrong_fcs(f) {
-        return Outcome::WrongFcs;
-    }
-    after_fcs(s, f)
-}
-
-// The same by tables that are lent, for a walk.
-fn outcome_by(t: &[u32; 4096], s: Settings, run: &[u8], by: u8) -> Outcome
-    requires { ⌜ Tables (now t) ⌝ }
-    ensures { λ r. ⌜ r ≡ outcome s (now (run .entry)) by ⌝ }
-{
-    let e = before_fcs(s.limit, run, by);
-    if let Early::Decided(o) = e {
-        return o;
-    }
-    let f = frame_of(run);
-    if frame::wrong_fcs_by(t, f) {
         return Outcome::WrongFcs;
     }
     after_fcs(s, f)
@@ -341,17 +325,41 @@ pub fn client_data(octets: &[u8], part: Part) -> &[u8]
 
 // ---- the walk
 
-// The state after a run ended by the control octet `by`, with tables that are lent or without.
+// Rule 5, by tables that are lent or without.
+fn fcs_fails(t: &[u32; 4096], lent: bool, f: &[u8]) -> bool
+    requires { ⌜ (lent ≡ true → Tables (now t)) ⌝ }
+    ensures { λ r. ⌜ r ≡ wrongFcs (now (f .entry)) ⌝ }
+{
+    if lent {
+        return frame::wrong_fcs_by(t, f);
+    }
+    frame::wrong_fcs(f)
+}
+
+// The state after an outcome that sets no timer: a walk over nothing but Starts takes this way alone.
+fn state_counted(o: Outcome, state: State) -> State
+    ensures { λ r. ⌜ r ≡ stateCounted o state ⌝ }
+{
+    let counts = state.counters;
+    let counters = station::counted(o, counts);
+    let timers = state.timers;
+    State { counters, timers }
+}
+
+// The state after a run ended by the control octet `by`.
 fn count_run(t: &[u32; 4096], lent: bool, s: Settings, state: State, run: &[u8], by: u8) -> State
     requires { ⌜ (lent ≡ true → Tables (now t)) ⌝ }
     ensures { λ r. ⌜ r ≡ stateAfter (outcome s (now (run .entry)) by) (frameOf (now (run .entry))) state ⌝ }
 {
-    let f = frame_of(run);
-    if lent {
-        let o = outcome_by(t, s, run, by);
-        return state_after(o, f, state);
+    let e = before_fcs(s.limit, run, by);
+    if let Early::Decided(o) = e {
+        return state_counted(o, state);
     }
-    let o = outcome(s, run, by);
+    let f = frame_of(run);
+    if fcs_fails(t, lent, f) {
+        return state_counted(Outcome::WrongFcs, state);
+    }
+    let o = after_fcs(s, f);
     state_after(o, f, state)
 }
 
