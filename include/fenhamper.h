@@ -2,8 +2,9 @@
  * Fenhamper: the software Ethernet MAC of a link tester. Read line symbols, send line symbols.
  *
  * Link with libfenhamper.a (rt staticlib fenhamper). Every function here is proved to be the module's
- * own function of that name on the values that its arguments stand for; it takes any values, never fails
- * but by a refusal's number, keeps nothing between calls and allocates nothing.
+ * own function of that name on the values that its arguments stand for (of fenhamper_client_data, that
+ * the octets it names are those the module's function hands out); it takes any values, never fails but by
+ * a refusal's number, keeps nothing between calls and allocates nothing.
  *
  * What is asked of the caller is what C cannot say: a pointer to n elements points at n elements and is
  * never null (where n = 0 any other pointer will do), and no array that a call writes overlaps another of

@@ -59,6 +59,8 @@ for crate, edit in EDIT.findall(promises):
     if not (root / "crates" / crate / "must-fail" / f"{edit}.edit").exists() and not waits.exists():
         missing.append(f"docs/PROMISES.md: no edit {crate}/{edit}")
 for row in re.findall(r"^\| `\w+::\w+`.*$", promises, re.M):
+    if len(re.findall(r"`\w+::\w+`", row.split("|")[1])) > 1:
+        missing.append(f"docs/PROMISES.md: a row for each function: {row.split('|')[1].strip()}")
     if len(set(EDIT.findall(row))) < 2:
         missing.append(f"docs/PROMISES.md: fewer than two edits: {row.split('|')[1].strip()}")
 for line in missing:

@@ -18,7 +18,7 @@ use writing::Form;
 use writing::Tag;
 ghost use mathlib.Core.Path.{_≡_};
 ghost use mathlib.Core.Bool.{cond, not};
-ghost use Prim.Native.Nat.{_+_, _*_, _%_, _<_, _≤_};
+ghost use Prim.Native.Nat.{_+_, _<_, _≤_};
 ghost use lib.ListN.{length};
 ghost use lib.Dec.{eqb};
 ghost use Rattle.fcs.specs.Fcs.{fcsOf};
@@ -37,13 +37,6 @@ fn is_on(x: u8) -> bool
     ensures { λ r. ⌜ r ≡ not (eqb x 0) ⌝ }
 {
     x != 0
-}
-
-// Two octets, high octet first.
-fn high_first(high: u8, low: u8) -> u16
-    ensures { λ r. ⌜ r ≡ high * 256 + low ⌝ }
-{
-    (high as u16) * 256 + (low as u16)
 }
 
 fn flow_mode(n: u8) -> Flow
@@ -77,7 +70,7 @@ fn settings(o: &[u8; 40]) -> Settings
         address(o, 24),
     ];
     let flow = flow_mode(o[35]);
-    let limit = high_first(o[36], o[37]);
+    let limit = frame::high_first(o, 36);
     Settings {
         own,
         listed,
@@ -139,7 +132,7 @@ fn tag(o: &[u8; 44]) -> Tag
     if o[10] == 0 {
         return Tag::Untagged;
     }
-    Tag::Tagged(high_first(o[14], o[15]))
+    Tag::Tagged(frame::high_first(o, 14))
 }
 
 fn form(o: &[u8; 44]) -> Form
@@ -148,7 +141,7 @@ fn form(o: &[u8; 44]) -> Form
     if o[7] == 0 {
         return Form::ByLength;
     }
-    Form::ByType(high_first(o[8], o[9]))
+    Form::ByType(frame::high_first(o, 8))
 }
 
 fn client(o: &[u8; 44]) -> Client

@@ -259,7 +259,8 @@ fn write_idle(octets: &mut [u8], marks: &mut [u8], n: usize) -> usize
     fill(marks, 0, n, 1)
 }
 
-// ---- the same from a place on: the part of each buffer from there is lent on
+// ---- the same from a place on: the part of each buffer from there is lent on. Public for this repository's crates only, since each asks for
+// the room that it writes to
 
 pub fn client_at(
     octets: &mut [u8],

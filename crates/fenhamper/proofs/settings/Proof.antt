@@ -1,6 +1,5 @@
 -- `fenhamper::settings` meets its contract. Assumes nothing.
 use Rattle.fenhamper.specs.Face.{settingsOf, isOn}
-use Rattle.line.specs.Octets.{highFirstAt}
 use borrow.Author.Needs.{needs}
 use Rattle.fenhamper.proofs.settings.Statement.{statement}
 use Rattle.fenhamper.proofs.settings.Tie as tie
@@ -25,12 +24,6 @@ element-copy-out-flow-mode c = search needs
 
 flow-mode-requires : tie.Need-flow-mode-requires
 flow-mode-requires c κs = search needs
-
-element-copy-out-high-first : tie.Need-element-copy-out-high-first
-element-copy-out-high-first c = search needs
-
-element-copy-out-high-first-2 : tie.Need-element-copy-out-high-first-2
-element-copy-out-high-first-2 c = search needs
 
 high-first-requires : tie.Need-high-first-requires
 high-first-requires c κs = search needs
@@ -63,8 +56,8 @@ is-on-requires-4 : tie.Need-is-on-requires-4
 is-on-requires-4 c κs = search needs
 
 returns : tie.Need-returns
-unfolding settingsOf isOn highFirstAt
-returns c = simp (c .is-on4 .ensures, c .before .before .is-on3 .ensures, c .before .before .before .before .is-on2 .ensures, c .before .before .before .before .before .before .is-on .ensures, c .before .before .before .before .before .before .before .before .before .high-first .ensures, c .before .before .before .before .before .before .before .before .before .before .before .before .flow-mode .ensures, c .before .before .before .before .before .before .before .before .before .before .before .before .before .before .address5 .ensures, c .before .before .before .before .before .before .before .before .before .before .before .before .before .before .before .before .address4 .ensures, c .before .before .before .before .before .before .before .before .before .before .before .before .before .before .before .before .before .before .address3 .ensures, c .before .before .before .before .before .before .before .before .before .before .before .before .before .before .before .before .before .before .before .before .address2 .ensures, c .before .before .before .before .before .before .before .before .before .before .before .before .before .before .before .before .before .before .before .before .before .before .address .ensures)
+unfolding settingsOf isOn
+returns c = simp (c .is-on4 .ensures, c .before .before .is-on3 .ensures, c .before .before .before .before .is-on2 .ensures, c .before .before .before .before .before .before .is-on .ensures, c .before .before .before .before .before .before .before .before .before .high-first .ensures, c .before .before .before .before .before .before .before .before .before .before .before .flow-mode .ensures, c .before .before .before .before .before .before .before .before .before .before .before .before .before .address5 .ensures, c .before .before .before .before .before .before .before .before .before .before .before .before .before .before .before .address4 .ensures, c .before .before .before .before .before .before .before .before .before .before .before .before .before .before .before .before .before .address3 .ensures, c .before .before .before .before .before .before .before .before .before .before .before .before .before .before .before .before .before .before .before .address2 .ensures, c .before .before .before .before .before .before .before .before .before .before .before .before .before .before .before .before .before .before .before .before .before .address .ensures)
 
 pub settings-spec : {M : Type 1} → statement M
 settings-spec =
@@ -77,8 +70,6 @@ settings-spec =
     address-requires-5
     element-copy-out-flow-mode
     flow-mode-requires
-    element-copy-out-high-first
-    element-copy-out-high-first-2
     high-first-requires
     element-copy-out-t22
     element-copy-out-is-on

@@ -1,8 +1,9 @@
 -- `fenhamper::tag` meets its contract. Assumes nothing.
 use borrow.Author.Tests.{eq-eqb, ne-eqb}
-use Rattle.fenhamper.specs.Face.{tagOf}
-use Rattle.line.specs.Octets.{highFirstAt}
 use borrow.Author.Needs.{needs}
+use mathlib.Core.Path.{ap}
+use Rattle.writing.specs.declared.Tag.the-variants.{Tagged}
+use Rattle.fenhamper.specs.Face.{tagOf}
 use Rattle.fenhamper.proofs.tag.Statement.{statement}
 use Rattle.fenhamper.proofs.tag.Tie as tie
 
@@ -13,26 +14,12 @@ returns : tie.Need-returns
 unfolding tagOf
 returns c = rw (eq-eqb _ _ (c .if1 .taken))
 
-element-copy-out-high-first : tie.Need-element-copy-out-high-first
-element-copy-out-high-first c = search needs
-
-element-copy-out-high-first-2 : tie.Need-element-copy-out-high-first-2
-element-copy-out-high-first-2 c = search needs
-
 high-first-requires : tie.Need-high-first-requires
 high-first-requires c κs = search needs
 
 returns-2 : tie.Need-returns-2
-unfolding tagOf highFirstAt
-returns-2 c = rw (ne-eqb _ _ (c .before .before .before .if1 .left)) cc
+unfolding tagOf
+returns-2 c = rw (ne-eqb _ _ (c .before .before .if1 .left)) (ap Tagged (c .high-first .ensures))
 
 pub tag-spec : {M : Type 1} → statement M
-tag-spec =
-    tie.close
-    (tie.spec
-    element-copy-out-if1
-    returns
-    element-copy-out-high-first
-    element-copy-out-high-first-2
-    high-first-requires
-    returns-2)
+tag-spec = tie.close (tie.spec element-copy-out-if1 returns high-first-requires returns-2)
