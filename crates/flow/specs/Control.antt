@@ -6,8 +6,8 @@ use lib.Dec.{eqb}
 use Rattle.line.specs.Octets.{sameOctets, highFirstAt}
 use Rattle.station.specs.declared.Settings.{Settings}
 use Rattle.station.specs.Station.{isPauseMode, isPfcMode}
-use Rattle.frame.specs.Frame.{destination, firstField}
-use Rattle.frame.specs.Address.{accepts}
+use Rattle.fields.specs.Fields.{destination, firstField}
+use Rattle.address.specs.Address.{accepts}
 
 -- "First field 0x8808"; "A tagged 0x8808 is an ordinary type."
 unfoldable pub isControlFrame : List ℕ → Bool

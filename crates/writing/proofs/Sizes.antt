@@ -6,7 +6,7 @@ use mathlib.Core.List.{List, [], _∷_, map}
 use lib.ListN.{length, length-append, length-replicate, length-map}
 use Rattle.line.specs.Line.{asControl, idle, preamble}
 use Rattle.line.specs.Octets.{highFirst}
-use Rattle.frame.proofs.FrameLaws.{fcs-four}
+use Rattle.fcs.proofs.Laws.{fcs-four}
 use Rattle.station.specs.declared.Settings.{Settings}
 use Rattle.station.specs.declared.Quanta.{Quanta}
 use Rattle.flow.specs.Control.{reservedGroup}
