@@ -14,7 +14,7 @@ use Rattle.frame.specs.Frame.{frameData}
 use Rattle.fields.specs.Tags.{tagCount}
 use Rattle.frame.specs.Length.{handedLength}
 use Rattle.address.specs.Address.{broadcastAddress}
-use Rattle.flow.specs.Control.{isControlFrame}
+use Rattle.control.specs.Control.{isControlFrame}
 
 -- bit n, where `b`
 unfoldable pub bit : ℕ → Bool → ℕ

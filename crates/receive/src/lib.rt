@@ -118,16 +118,16 @@ fn after_fcs(s: Settings, f: &[u8]) -> Outcome
     if frame::wrong_length(s.checking, f) {
         return Outcome::WrongLength;
     }
-    if flow::filtered(s, f) {
+    if control::filtered(s, f) {
         return Outcome::Filtered;
     }
-    if flow::takes_pause(s, f) {
+    if control::takes_pause(s, f) {
         return Outcome::PauseTaken;
     }
-    if flow::takes_pfc(s, f) {
+    if control::takes_pfc(s, f) {
         return Outcome::PfcTaken;
     }
-    if flow::drops_control(s, f) {
+    if control::drops_control(s, f) {
         return Outcome::ControlDropped;
     }
     Outcome::HandedOut
@@ -185,7 +185,7 @@ fn frame_bits(f: &[u8]) -> u64
     let b38 = flag(!group, 0x40_0000_0000);
     let b37 = flag(is_multicast(group, broadcast), 0x20_0000_0000);
     let b36 = flag(broadcast, 0x10_0000_0000);
-    let b34 = flag(flow::is_control_frame(f), 0x4_0000_0000);
+    let b34 = flag(control::is_control_frame(f), 0x4_0000_0000);
     let b33 = flag(tags == 1, 0x2_0000_0000);
     let b32 = flag(2 <= tags, 0x1_0000_0000);
     b38 + b37 + b36 + b34 + b33 + b32 + (f.len() as u64) * 0x1_0000

@@ -11,7 +11,7 @@ use Rattle.line.proofs.Octets.{highFirst-read}
 use Rattle.fields.specs.Tags.{isTagKind, tagCount}
 use Rattle.fields.specs.Fields.{firstField}
 use Rattle.fields.proofs.Tags.{tags-none, tags-one}
-use Rattle.flow.specs.Control.{isControlFrame}
+use Rattle.control.specs.Control.{isControlFrame}
 use Rattle.writing.specs.declared.Tag.{Tag}
 use Rattle.writing.specs.declared.Tag.the-variants.{Untagged, Tagged}
 use Rattle.writing.specs.Frames.{tagOctets, tagsSent}

@@ -1,10 +1,10 @@
--- `flow::controls_station` meets its contract: each way out rewrites with the tests that led there. Assumes nothing.
+-- `control::controls_station` meets its contract: each way out rewrites with the tests that led there. Assumes nothing.
 use mathlib.Core.Path.{_≡_, sym, _∙_}
 use borrow.Author.Tests.{not-true, not-false, eq-eqb, ne-eqb}
-use Rattle.flow.specs.Control.{toOwn}
+use Rattle.control.specs.Control.{toOwn}
 use borrow.Author.Needs.{needs}
-use Rattle.flow.proofs.controls_station.Statement.{statement}
-use Rattle.flow.proofs.controls_station.Tie as tie
+use Rattle.control.proofs.controls_station.Statement.{statement}
+use Rattle.control.proofs.controls_station.Tie as tie
 
 is-control-frame-requires : tie.Need-is-control-frame-requires
 is-control-frame-requires c κs = search needs

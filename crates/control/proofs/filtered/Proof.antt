@@ -1,9 +1,9 @@
--- `flow::filtered` meets its contract: each way out rewrites with the test that led there. Assumes nothing.
+-- `control::filtered` meets its contract: each way out rewrites with the test that led there. Assumes nothing.
 use mathlib.Core.Path.{_≡_, sym, _∙_}
-use Rattle.flow.specs.Control.{filtered}
+use Rattle.control.specs.Control.{filtered}
 use borrow.Author.Needs.{needs}
-use Rattle.flow.proofs.filtered.Statement.{statement}
-use Rattle.flow.proofs.filtered.Tie as tie
+use Rattle.control.proofs.filtered.Statement.{statement}
+use Rattle.control.proofs.filtered.Tie as tie
 
 controls-station-requires : tie.Need-controls-station-requires
 controls-station-requires c κs = search needs

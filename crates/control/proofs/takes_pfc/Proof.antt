@@ -1,10 +1,10 @@
--- `flow::takes_pfc` meets its contract: each way out rewrites with the tests that led there. Assumes nothing.
+-- `control::takes_pfc` meets its contract: each way out rewrites with the tests that led there. Assumes nothing.
 use mathlib.Core.Path.{_≡_, sym, _∙_}
 use borrow.Author.Tests.{not-true, not-false, eq-eqb, ne-eqb}
-use Rattle.flow.specs.Control.{takesPfc}
+use Rattle.control.specs.Control.{takesPfc}
 use borrow.Author.Needs.{needs}
-use Rattle.flow.proofs.takes_pfc.Statement.{statement}
-use Rattle.flow.proofs.takes_pfc.Tie as tie
+use Rattle.control.proofs.takes_pfc.Statement.{statement}
+use Rattle.control.proofs.takes_pfc.Tie as tie
 
 is-control-frame-requires : tie.Need-is-control-frame-requires
 is-control-frame-requires c κs = search needs

@@ -1,10 +1,10 @@
--- `flow::takes_pause` meets its contract: each way out rewrites with the tests that led there. Assumes nothing.
+-- `control::takes_pause` meets its contract: each way out rewrites with the tests that led there. Assumes nothing.
 use mathlib.Core.Path.{_≡_, sym, _∙_}
 use borrow.Author.Tests.{not-true, not-false, eq-eqb, ne-eqb}
-use Rattle.flow.specs.Control.{takesPause}
+use Rattle.control.specs.Control.{takesPause}
 use borrow.Author.Needs.{needs}
-use Rattle.flow.proofs.takes_pause.Statement.{statement}
-use Rattle.flow.proofs.takes_pause.Tie as tie
+use Rattle.control.proofs.takes_pause.Statement.{statement}
+use Rattle.control.proofs.takes_pause.Tie as tie
 
 controls-station-requires : tie.Need-controls-station-requires
 controls-station-requires c κs = search needs

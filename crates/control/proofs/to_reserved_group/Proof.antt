@@ -1,8 +1,8 @@
--- `flow::to_reserved_group` meets its contract: by the definition. Assumes nothing.
-use Rattle.flow.specs.Control.{reservedGroup, toReservedGroup}
+-- `control::to_reserved_group` meets its contract: by the definition. Assumes nothing.
+use Rattle.control.specs.Control.{reservedGroup, toReservedGroup}
 use borrow.Author.Needs.{needs}
-use Rattle.flow.proofs.to_reserved_group.Statement.{statement}
-use Rattle.flow.proofs.to_reserved_group.Tie as tie
+use Rattle.control.proofs.to_reserved_group.Statement.{statement}
+use Rattle.control.proofs.to_reserved_group.Tie as tie
 
 to-requires : tie.Need-to-requires
 to-requires c κs = search needs

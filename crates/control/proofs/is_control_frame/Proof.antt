@@ -1,8 +1,8 @@
--- `flow::is_control_frame` meets its contract: the field that `first_field` gives, put into the definition. Assumes nothing.
-use Rattle.flow.specs.Control.{isControlFrame}
+-- `control::is_control_frame` meets its contract: the field that `first_field` gives, put into the definition. Assumes nothing.
+use Rattle.control.specs.Control.{isControlFrame}
 use borrow.Author.Needs.{needs}
-use Rattle.flow.proofs.is_control_frame.Statement.{statement}
-use Rattle.flow.proofs.is_control_frame.Tie as tie
+use Rattle.control.proofs.is_control_frame.Statement.{statement}
+use Rattle.control.proofs.is_control_frame.Tie as tie
 
 first-field-requires : tie.Need-first-field-requires
 first-field-requires c κs = search needs

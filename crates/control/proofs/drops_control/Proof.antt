@@ -1,10 +1,10 @@
--- `flow::drops_control` meets its contract: each way out rewrites with the test that led there. Assumes nothing.
+-- `control::drops_control` meets its contract: each way out rewrites with the test that led there. Assumes nothing.
 use mathlib.Core.Path.{_≡_, sym, _∙_}
 use borrow.Author.Tests.{not-true, not-false, eq-eqb, ne-eqb}
-use Rattle.flow.specs.Control.{dropsControl}
+use Rattle.control.specs.Control.{dropsControl}
 use borrow.Author.Needs.{needs}
-use Rattle.flow.proofs.drops_control.Statement.{statement}
-use Rattle.flow.proofs.drops_control.Tie as tie
+use Rattle.control.proofs.drops_control.Statement.{statement}
+use Rattle.control.proofs.drops_control.Tie as tie
 
 is-control-frame-requires : tie.Need-is-control-frame-requires
 is-control-frame-requires c κs = search needs

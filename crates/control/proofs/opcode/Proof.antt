@@ -1,8 +1,8 @@
--- `flow::opcode` meets its contract: by the definition. Assumes nothing.
-use Rattle.flow.specs.Control.{opcode}
+-- `control::opcode` meets its contract: by the definition. Assumes nothing.
+use Rattle.control.specs.Control.{opcode}
 use borrow.Author.Needs.{needs}
-use Rattle.flow.proofs.opcode.Statement.{statement}
-use Rattle.flow.proofs.opcode.Tie as tie
+use Rattle.control.proofs.opcode.Statement.{statement}
+use Rattle.control.proofs.opcode.Tie as tie
 
 high-first-requires : tie.Need-high-first-requires
 high-first-requires c κs = search needs
