@@ -13,5 +13,9 @@ pub fcs-is : (s : List ℕ) → fcsOctets (fcsOf s) ≡ fcs s
 unfolding fcs
 fcs-is s = refl
 
+pub fcs-four : (b : List ℕ) → length (fcs b) ≡ 4
+unfolding fcs
+fcs-four b = refl
+
 pub last-part : (n : ℕ) (s : List ℕ) → take (length s - n) (drop n s) ≡ drop n s
 last-part n s = take-all (length s - n) (drop n s) (simp length-drop (omega arith))

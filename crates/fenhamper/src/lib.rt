@@ -70,7 +70,7 @@ fn settings(o: &[u8; 40]) -> Settings
         address(o, 24),
     ];
     let flow = flow_mode(o[35]);
-    let limit = frame::high_first(o, 36);
+    let limit = fields::high_first(o, 36);
     Settings {
         own,
         listed,
@@ -132,7 +132,7 @@ fn tag(o: &[u8; 44]) -> Tag
     if o[10] == 0 {
         return Tag::Untagged;
     }
-    Tag::Tagged(frame::high_first(o, 14))
+    Tag::Tagged(fields::high_first(o, 14))
 }
 
 fn form(o: &[u8; 44]) -> Form
@@ -141,7 +141,7 @@ fn form(o: &[u8; 44]) -> Form
     if o[7] == 0 {
         return Form::ByLength;
     }
-    Form::ByType(frame::high_first(o, 8))
+    Form::ByType(fields::high_first(o, 8))
 }
 
 fn client(o: &[u8; 44]) -> Client

@@ -10,11 +10,10 @@ use lib.Seq.{getD-drop}
 use lib.Dec.{eqb}
 use borrow.Author.Tests.{eq-eqb, eqb-true}
 use Rattle.line.specs.Octets.{sameOctets}
-use Rattle.line.proofs.Octets.{sameOctets-refl}
+use Rattle.line.proofs.Octets.{sameOctets-refl, same-test, sameOctets-eq, sameOctets-not}
 use Rattle.fcs.specs.Fcs.{fcsOf, fcsOctets}
 use Rattle.fcs.proofs.Laws.{fcs-is}
 use Rattle.frame.specs.Frame.{covered, lastFour, wrongFcs}
-use Rattle.line.proofs.Octets.{same-test, sameOctets-eq, sameOctets-not}
 
 -- four octets as one number, the first lowest
 abbrev lowFirst : ℕ → ℕ → ℕ → ℕ → ℕ

@@ -3,24 +3,22 @@ use Prim.Native.Nat.{ℕ, _+_, _-_, _*_, _≤_, _<_}
 use native.Mathlib.Omega.{arith}
 use mathlib.Core.Path.{_≡_, refl, sym, ap, ap₂, _∙_}
 use mathlib.Core.Bool.{true, false, not}
-use mathlib.Core.List.{List, [], _++_, append-assoc}
+use mathlib.Core.List.{List, _++_, append-assoc}
 use lib.ListN.{length, length-append}
 use lib.Seq.{drop-at, take-at}
 use lib.Dec.{eqb}
 use borrow.Author.Tests.{eq-eqb, le-leb, lt-leb}
-use Rattle.line.specs.Octets.{sameOctets, highFirstAt, highFirst, between}
+use Rattle.line.specs.Octets.{sameOctets, highFirst, between}
 use Rattle.line.proofs.Octets.{sameOctets-refl, highFirst-read, between-middle}
 use Rattle.line.proofs.Tables.{first-here, first-next, first-other}
 use Rattle.fcs.specs.Fcs.{fcs}
-use Rattle.frame.specs.Tags.{isTagKind, mostTags, tagRun, tagCount}
-use Rattle.frame.specs.Frame.{fieldPlace, field, dataPlace, frameData, covered, lastFour, wrongFcs}
+use Rattle.fcs.proofs.Laws.{fcs-four}
+use Rattle.fields.specs.Tags.{tagCount}
+use Rattle.fields.specs.Fields.{fieldPlace, field, dataPlace}
+use Rattle.frame.specs.Frame.{frameData, covered, lastFour, wrongFcs}
 use Rattle.frame.specs.Length.{kept}
 
 -- ---- the FCS
-
-pub fcs-four : (b : List ℕ) → length (fcs b) ≡ 4
-unfolding fcs
-fcs-four b = refl
 
 -- a frame that ends in the check of what stands before it is not wrong: no property of the division is used
 pub fcs-right : (b : List ℕ) → wrongFcs (b ++ fcs b) ≡ false
@@ -29,17 +27,6 @@ fcs-right b =
     let n : length b ≡ length (b ++ fcs b) - 4 = omega (arith, length-append b (fcs b), fcs-four b) in
     ap₂ (λ (x y : List ℕ). not (sameOctets x (fcs y))) (drop-at b (fcs b) (length (b ++ fcs b) - 4) n) (take-at b (fcs b) (length (b ++ fcs b) - 4) n)
     ∙ ap not (sameOctets-refl (fcs b))
-
--- ---- tags: `a` is the two addresses
-
-pub tags-none : (a : List ℕ) (n : ℕ) (r : List ℕ) → length a ≡ 12 → n < 65536 → isTagKind n ≡ false → tagCount (a ++ (highFirst n ++ r)) ≡ 0
-unfolding tagCount mostTags tagRun
-tags-none a n r e lt h =
-    ap (tagRun 1) (drop-at a (highFirst n ++ r) 12 e) ∙ rw (highFirst-read [] n r 0 refl lt, h, tagRun)
-
-pub tags-one : (a : List ℕ) (r : List ℕ) → length a ≡ 12 → tagCount (a ++ (highFirst 0x8100 ++ r)) ≡ 1
-unfolding tagCount mostTags tagRun isTagKind highFirstAt highFirst
-tags-one a r e = ap (tagRun 1) (drop-at a (highFirst 0x8100 ++ r) 12 e)
 
 -- ---- field, data, length: `h` is what stands before the field
 module _ (h : List ℕ) (n : ℕ) (p q : List ℕ) (t : ℕ) (ht : tagCount (h ++ (highFirst n ++ (p ++ q))) ≡ t) (hl : length h ≡ 12 + 4 * t) (lt : n < 65536) (ql : length q ≡ 4) where

@@ -1,15 +1,28 @@
--- Laws of specs/Length.antt: the length rule by the tests that lead to a row, and how much is handed out. Assumes nothing.
-use Prim.Native.Nat.{ℕ, _≤_, _<_, min}
+-- Laws of specs/Length.antt: how much data there is, the length rule by the tests that lead to a row, and how much is handed out. Assumes nothing.
+use Prim.Native.Nat.{ℕ, _-_, _≤_, _<_, min}
 use native.Mathlib.Omega.{arith}
 use mathlib.Core.Path.{_≡_, refl, _∙_}
 use mathlib.Core.Bool.{Bool, true, false, not, _&&_, cond}
-use mathlib.Core.List.{List}
-use lib.ListN.{length, take, length-take}
+use mathlib.Core.List.{List, []}
+use lib.ListN.{length, take, length-take, length-drop}
 use lib.Dec.{eqb, ltb}
 use borrow.Author.Tests.{lt-ltb, le-ltb, le-leb, lt-leb}
+use Rattle.line.specs.Octets.{between}
 use Rattle.line.proofs.Tables.{first-here, first-next, first-other}
-use Rattle.frame.specs.Frame.{field, frameData}
+use Rattle.fields.specs.Fields.{field, dataPlace}
+use Rattle.frame.specs.Frame.{frameData}
 use Rattle.frame.specs.Length.{kept, wrongLength, clientData, handedLength}
+
+-- ---- how much data there is
+
+pub frameData-length : (f : List ℕ) → length (frameData f) ≡ length f - 4 - dataPlace f
+unfolding frameData between
+frameData-length f = simp (length-take, length-drop) (omega arith)
+
+-- no data where the FCS would begin before the data's place
+pub frameData-none : (f : List ℕ) → length f - 4 < dataPlace f → frameData f ≡ []
+unfolding frameData between
+frameData-none f h = let z : length f - 4 - dataPlace f ≡ 0 = omega arith in rw z
 
 -- ---- the rule, row by row; its first row is `kept-type` of FrameLaws
 module _ (field octets : ℕ) where

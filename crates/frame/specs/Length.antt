@@ -5,7 +5,8 @@ use mathlib.Core.List.{List}
 use lib.ListN.{length, take}
 use lib.Dec.{eqb, ltb, leb}
 use Rattle.line.specs.Table.{_⇒_, _∣_, otherwise, first}
-use Rattle.frame.specs.Frame.{field, frameData}
+use Rattle.fields.specs.Fields.{field}
+use Rattle.frame.specs.Frame.{frameData}
 
 -- the rule, of a field and the number of data octets
 unfoldable pub kept : ℕ → ℕ → Bool

@@ -17,12 +17,14 @@ use Rattle.fcs.specs.Fcs.{fcs}
 use Rattle.station.specs.declared.Settings.{Settings}
 use Rattle.station.specs.declared.Outcome.{Outcome}
 use Rattle.station.specs.declared.Outcome.the-variants.{Cut, BadPreamble, Undersized, Oversized, WrongFcs, WrongLength, Filtered, PauseTaken, PfcTaken, ControlDropped, HandedOut}
-use Rattle.frame.specs.Tags.{isTagKind, tagCount}
-use Rattle.frame.specs.Frame.{destination, firstField, field, frameData, wrongFcs, undersized, oversized}
+use Rattle.fields.specs.Tags.{isTagKind, tagCount}
+use Rattle.fields.specs.Fields.{destination, firstField, field}
+use Rattle.frame.specs.Frame.{frameData, wrongFcs, undersized, oversized}
 use Rattle.frame.specs.Length.{kept, wrongLength, clientData}
-use Rattle.frame.specs.Address.{accepts}
-use Rattle.frame.proofs.FrameLaws.{fcs-four, fcs-right, frame-length, frame-field, frame-payload, kept-type, kept-long, kept-short}
-use Rattle.flow.specs.Control.{isControlFrame, filtered, takesPause, takesPfc, dropsControl}
+use Rattle.address.specs.Address.{accepts}
+use Rattle.fcs.proofs.Laws.{fcs-four}
+use Rattle.frame.proofs.FrameLaws.{fcs-right, frame-length, frame-field, frame-payload, kept-type, kept-long, kept-short}
+use Rattle.control.specs.Control.{isControlFrame, filtered, takesPause, takesPfc, dropsControl}
 use Rattle.receive.specs.Outcomes.{cut, badPreamble, frameOf, outcomes, outcome}
 use Rattle.writing.specs.declared.Client.{Client}
 use Rattle.writing.specs.declared.Tag.{Tag}

@@ -10,7 +10,7 @@ use Rattle.station.specs.declared.Settings.{Settings}
 use Rattle.station.specs.declared.State.{State}
 use Rattle.station.specs.declared.Checked.the-variants.{Fine}
 use Rattle.frame.specs.Frame.{oversized}
-use Rattle.frame.specs.Address.{accepts}
+use Rattle.address.specs.Address.{accepts}
 use Rattle.writing.specs.declared.Client.{Client}
 use Rattle.writing.specs.declared.Form.{Form}
 use Rattle.writing.specs.declared.Form.the-variants.{ByLength, ByType}

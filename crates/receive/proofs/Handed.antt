@@ -13,7 +13,8 @@ use Rattle.line.specs.Line.{Symbol, capture, isData, run}
 use Rattle.line.specs.Octets.{between}
 use Rattle.line.proofs.Symbols.{by-test, run-data, run-control}
 use Rattle.line.proofs.Buffers.{drop-capture}
-use Rattle.frame.specs.Frame.{field, dataPlace, frameData}
+use Rattle.fields.specs.Fields.{field, dataPlace}
+use Rattle.frame.specs.Frame.{frameData}
 use Rattle.frame.specs.Length.{clientData, handedLength}
 use Rattle.station.specs.declared.Part.{Part}
 use Rattle.receive.specs.Outcomes.{frameOf}

@@ -14,7 +14,7 @@ use Rattle.station.specs.declared.Outcome.the-variants.{Cut, BadPreamble, Under
 use Rattle.station.proofs.Outcome.{the-type}
 use Rattle.station.specs.Numbers.{byOutcome}
 use Rattle.station.specs.Station.{isGroup}
-use Rattle.frame.specs.Frame.{destination}
+use Rattle.fields.specs.Fields.{destination}
 use Rattle.receive.specs.Status.{status}
 use Rattle.receive.specs.Reading.{emptyPart, handedPart}
 

@@ -12,7 +12,7 @@ use Rattle.station.specs.declared.Outcome.{Outcome}
 use Rattle.station.specs.declared.Outcome.the-variants.{Cut, BadPreamble, Undersized, Oversized, WrongFcs, WrongLength, Filtered, PauseTaken, PfcTaken, ControlDropped, HandedOut}
 use Rattle.frame.specs.Frame.{undersized, oversized, wrongFcs}
 use Rattle.frame.specs.Length.{wrongLength}
-use Rattle.flow.specs.Control.{filtered, takesPause, takesPfc, dropsControl}
+use Rattle.control.specs.Control.{filtered, takesPause, takesPfc, dropsControl}
 
 -- rule 1: "ended by anything but Terminate"
 unfoldable pub cut : ℕ → Bool

@@ -17,7 +17,7 @@ use Rattle.station.specs.declared.Checked.{Checked}
 use Rattle.station.specs.declared.Checked.the-variants.{Fine, Refused}
 use Rattle.station.specs.Numbers.{byOutcome}
 use Rattle.station.specs.Station.{badSettings, badBuffers, badPlace, counted}
-use Rattle.frame.specs.Frame.{dataPlace}
+use Rattle.fields.specs.Fields.{dataPlace}
 use Rattle.frame.specs.Length.{handedLength}
 use Rattle.flow.specs.Timers.{timersAfter}
 use Rattle.receive.specs.declared.Answer.{Answer}

@@ -9,11 +9,12 @@ use Rattle.station.specs.declared.Settings.{Settings}
 use Rattle.station.specs.declared.Outcome.{Outcome}
 use Rattle.station.specs.Numbers.{byOutcome}
 use Rattle.station.specs.Station.{isGroup}
-use Rattle.frame.specs.Frame.{destination, frameData}
-use Rattle.frame.specs.Tags.{tagCount}
+use Rattle.fields.specs.Fields.{destination}
+use Rattle.frame.specs.Frame.{frameData}
+use Rattle.fields.specs.Tags.{tagCount}
 use Rattle.frame.specs.Length.{handedLength}
-use Rattle.frame.specs.Address.{broadcastAddress}
-use Rattle.flow.specs.Control.{isControlFrame}
+use Rattle.address.specs.Address.{broadcastAddress}
+use Rattle.control.specs.Control.{isControlFrame}
 
 -- bit n, where `b`
 unfoldable pub bit : ℕ → Bool → ℕ

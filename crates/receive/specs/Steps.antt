@@ -9,7 +9,7 @@ use Rattle.station.specs.declared.Outcome.{Outcome}
 use Rattle.station.specs.declared.Outcome.the-variants.{Cut, BadPreamble, Undersized, Oversized, WrongLength, Filtered, PauseTaken, PfcTaken, ControlDropped, HandedOut}
 use Rattle.frame.specs.Frame.{undersized, oversized}
 use Rattle.frame.specs.Length.{wrongLength}
-use Rattle.flow.specs.Control.{filtered, takesPause, takesPfc, dropsControl}
+use Rattle.control.specs.Control.{filtered, takesPause, takesPfc, dropsControl}
 use Rattle.receive.specs.declared.Early.{Early}
 use Rattle.receive.specs.declared.Early.the-variants.{Decided, Framed}
 use Rattle.receive.specs.Outcomes.{cut, badPreamble, frameOf}

@@ -14,7 +14,8 @@ ghost use lib.Dec.{eqb};
 ghost use Rattle.line.specs.Table.{first};
 ghost use Rattle.fcs.specs.Lent.{Tables};
 ghost use Rattle.station.specs.Station.{isGroup};
-ghost use Rattle.frame.specs.Frame.{destination, frameData, wrongFcs};
+ghost use Rattle.fields.specs.Fields.{destination};
+ghost use Rattle.frame.specs.Frame.{frameData, wrongFcs};
 ghost use Rattle.receive.specs.Outcomes.{cut, badPreamble, frameOf, outcome};
 ghost use Rattle.receive.specs.Status.{bit, frameBits, status};
 ghost use Rattle.receive.specs.Reading.{readRefusals, stateAfter, handedPart, readRun, reading, partOf};
@@ -117,16 +118,16 @@ fn after_fcs(s: Settings, f: &[u8]) -> Outcome
     if frame::wrong_length(s.checking, f) {
         return Outcome::WrongLength;
     }
-    if flow::filtered(s, f) {
+    if control::filtered(s, f) {
         return Outcome::Filtered;
     }
-    if flow::takes_pause(s, f) {
+    if control::takes_pause(s, f) {
         return Outcome::PauseTaken;
     }
-    if flow::takes_pfc(s, f) {
+    if control::takes_pfc(s, f) {
         return Outcome::PfcTaken;
     }
-    if flow::drops_control(s, f) {
+    if control::drops_control(s, f) {
         return Outcome::ControlDropped;
     }
     Outcome::HandedOut
@@ -179,12 +180,12 @@ fn frame_bits(f: &[u8]) -> u64
     ensures { λ r. ⌜ (r ≡ frameBits (now (f .entry))) × (r ≤ 0x80_0000_0000) ⌝ }
 {
     let group = to_group(f);
-    let broadcast = frame::is_broadcast(f);
-    let tags = frame::tag_count(f);
+    let broadcast = address::is_broadcast(f);
+    let tags = fields::tag_count(f);
     let b38 = flag(!group, 0x40_0000_0000);
     let b37 = flag(is_multicast(group, broadcast), 0x20_0000_0000);
     let b36 = flag(broadcast, 0x10_0000_0000);
-    let b34 = flag(flow::is_control_frame(f), 0x4_0000_0000);
+    let b34 = flag(control::is_control_frame(f), 0x4_0000_0000);
     let b33 = flag(tags == 1, 0x2_0000_0000);
     let b32 = flag(2 <= tags, 0x1_0000_0000);
     b38 + b37 + b36 + b34 + b33 + b32 + (f.len() as u64) * 0x1_0000
@@ -222,7 +223,7 @@ fn handed_part(s: Settings, o: Outcome, at: usize, f: &[u8]) -> Part
 {
     match o {
         Outcome::HandedOut => Part {
-            at: at + frame::data_place(f),
+            at: at + fields::data_place(f),
             len: frame::handed_length(s.checking, f),
         },
         _ => Part { at: 0, len: 0 },

@@ -22,8 +22,8 @@ use Rattle.station.specs.declared.Address.{Address}
 use Rattle.station.specs.declared.Settings.{Settings}
 use Rattle.station.specs.declared.Quanta.{Quanta}
 use Rattle.fcs.specs.Fcs.{fcs}
-use Rattle.frame.proofs.FrameLaws.{fcs-four}
-use Rattle.flow.specs.Control.{reservedGroup}
+use Rattle.fcs.proofs.Laws.{fcs-four}
+use Rattle.control.specs.Control.{reservedGroup}
 use Rattle.writing.specs.declared.Client.{Client}
 use Rattle.writing.specs.declared.Classes.{Classes}
 use Rattle.writing.specs.Frames.{tagOctets, fieldSent, padded, clientBody, gap, onLine, pauseBody, classQuanta, pfcBody, idleSymbols}

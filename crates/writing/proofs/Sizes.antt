@@ -6,10 +6,10 @@ use mathlib.Core.List.{List, [], _∷_, map}
 use lib.ListN.{length, length-append, length-replicate, length-map}
 use Rattle.line.specs.Line.{asControl, idle, preamble}
 use Rattle.line.specs.Octets.{highFirst}
-use Rattle.frame.proofs.FrameLaws.{fcs-four}
+use Rattle.fcs.proofs.Laws.{fcs-four}
 use Rattle.station.specs.declared.Settings.{Settings}
 use Rattle.station.specs.declared.Quanta.{Quanta}
-use Rattle.flow.specs.Control.{reservedGroup}
+use Rattle.control.specs.Control.{reservedGroup}
 use Rattle.writing.specs.declared.Client.{Client}
 use Rattle.writing.specs.declared.Classes.{Classes}
 use Rattle.writing.specs.Frames.{tagOctets, tagsSent, padded, clientBody, gap, onLine, clientSymbols, pauseBody, classQuanta, pfcBody, pauseSymbols, pfcSymbols, idleSymbols}

@@ -8,10 +8,10 @@ use lib.ListN.{length}
 use lib.Dec.{eqb, lit<}
 use Rattle.line.specs.Octets.{highFirstAt, highFirst}
 use Rattle.line.proofs.Octets.{highFirst-read}
-use Rattle.frame.specs.Tags.{isTagKind, tagCount}
-use Rattle.frame.specs.Frame.{firstField}
-use Rattle.frame.proofs.FrameLaws.{tags-none, tags-one}
-use Rattle.flow.specs.Control.{isControlFrame}
+use Rattle.fields.specs.Tags.{isTagKind, tagCount}
+use Rattle.fields.specs.Fields.{firstField}
+use Rattle.fields.proofs.Tags.{tags-none, tags-one}
+use Rattle.control.specs.Control.{isControlFrame}
 use Rattle.writing.specs.declared.Tag.{Tag}
 use Rattle.writing.specs.declared.Tag.the-variants.{Untagged, Tagged}
 use Rattle.writing.specs.Frames.{tagOctets, tagsSent}

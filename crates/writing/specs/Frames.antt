@@ -9,7 +9,7 @@ use Rattle.line.specs.Octets.{highFirst}
 use Rattle.fcs.specs.Fcs.{fcs}
 use Rattle.station.specs.declared.Settings.{Settings}
 use Rattle.station.specs.declared.Quanta.{Quanta}
-use Rattle.flow.specs.Control.{reservedGroup}
+use Rattle.control.specs.Control.{reservedGroup}
 use Rattle.writing.specs.declared.Client.{Client}
 use Rattle.writing.specs.declared.Classes.{Classes}
 use Rattle.writing.specs.declared.Tag.{Tag}

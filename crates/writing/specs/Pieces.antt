@@ -7,7 +7,7 @@ use Rattle.line.specs.Line.{Symbol, octetsOf, marksOf, overwrite, start, termin
 use Rattle.line.specs.Octets.{highFirst, between}
 use Rattle.station.specs.declared.Address.{Address}
 use Rattle.fcs.specs.Fcs.{fcs}
-use Rattle.flow.specs.Control.{reservedGroup}
+use Rattle.control.specs.Control.{reservedGroup}
 
 -- Start and the preamble
 unfoldable pub lead : List ℕ

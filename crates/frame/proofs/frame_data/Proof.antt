@@ -1,6 +1,6 @@
 -- `frame::frame_data` meets its contract: the part between the two places, or nothing. Assumes nothing.
 use borrow.Author.Needs.{needs}
-use Rattle.frame.proofs.Tags.{frameData-none}
+use Rattle.frame.proofs.Length.{frameData-none}
 use Rattle.frame.specs.Frame.{frameData}
 use Rattle.line.specs.Octets.{between}
 use denote.Ref.{now}

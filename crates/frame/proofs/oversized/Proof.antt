@@ -1,6 +1,6 @@
 -- `frame::oversized` meets its contract. Assumes nothing.
 use borrow.Author.Needs.{needs}
-use Rattle.frame.proofs.Tags.{tagCount-small}
+use Rattle.fields.proofs.Tags.{tagCount-small}
 use Rattle.frame.specs.Frame.{oversized}
 use denote.Ref.{now}
 use native.Mathlib.Omega.{arith}

@@ -4,7 +4,7 @@ use borrow.Author.Needs.{needs}
 use mathlib.Core.Path.{ap}
 use native.Mathlib.Omega.{arith}
 use denote.Ref.{now}
-use Rattle.frame.proofs.Tags.{frameData-length}
+use Rattle.frame.proofs.Length.{frameData-length}
 use Rattle.receive.proofs.data_length.Statement.{statement}
 use Rattle.receive.proofs.data_length.Tie as tie
 

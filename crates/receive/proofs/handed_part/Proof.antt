@@ -4,7 +4,7 @@ use borrow.Author.Needs.{needs}
 use Prim.Native.Nat.{ℕ, _+_}
 use mathlib.Core.Path.{_≡_, ap₂}
 use denote.Ref.{now}
-use Rattle.frame.proofs.Tags.{dataPlace-small}
+use Rattle.fields.proofs.Tags.{dataPlace-small}
 use Rattle.station.specs.declared.Part.{Part}
 use Rattle.receive.proofs.Words.{no-part}
 use Rattle.receive.specs.Reading.{handedPart}

@@ -5,9 +5,8 @@ use mathlib.Core.Path.{_≡_, ap₂}
 use native.Mathlib.Omega.{arith}
 use borrow.Author.Needs.{needs}
 use Rattle.receive.proofs.Words.{no-status}
-use Rattle.frame.proofs.Length.{handed-le}
+use Rattle.frame.proofs.Length.{handed-le, frameData-length}
 use Rattle.receive.specs.Status.{status}
-use Rattle.frame.proofs.Tags.{frameData-length}
 use Rattle.receive.proofs.status.Statement.{statement}
 use Rattle.receive.proofs.status.Tie as tie
 

@@ -3,7 +3,7 @@ use native.Mathlib.Omega.{arith}
 use mathlib.Core.Path.{_≡_}
 use lib.ListN.{length}
 use Rattle.splice.proofs.Laws.{_⨾_}
-use Rattle.flow.specs.Control.{reservedGroup}
+use Rattle.control.specs.Control.{reservedGroup}
 use Rattle.writing.specs.Pieces.{controlOf}
 use Rattle.writing.proofs.Pieces.{head-size}
 use Rattle.writing.proofs.Sizes.{two, group-six}

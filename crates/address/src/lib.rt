@@ -1,0 +1,76 @@
+// Whom a frame is for: its destination compared with addresses, and the address rule (document 01, "Address rule"). Meaning: specs/.
+// `f` is always a whole frame. One too short to have a destination is for nobody.
+ghost use mathlib.Core.Path.{_≡_};
+ghost use Prim.Native.Nat.{min};
+ghost use lib.ListN.{take};
+ghost use Rattle.line.specs.Octets.{sameOctets};
+ghost use Rattle.fields.specs.Fields.{destination};
+ghost use Rattle.address.specs.Address.{broadcastAddress, among, accepts};
+use station::Address;
+use station::Settings;
+
+// Whether the frame's destination is `a`, all six octets.
+pub fn to(f: &[u8], a: Address) -> bool
+    ensures { λ r. ⌜ r ≡ sameOctets (destination (now (f .entry))) (a .0) ⌝ }
+{
+    if f.len() < 6 {
+        return false;
+    }
+    let octets = a.0;
+    let mut k: usize = 0;
+    while k < 6 {
+        if f[k] != octets[k] {
+            return false;
+        }
+        k += 1;
+    }
+    true
+}
+
+// Broadcast is all ones.
+pub fn is_broadcast(f: &[u8]) -> bool
+    ensures { λ r. ⌜ r ≡ sameOctets (destination (now (f .entry))) broadcastAddress ⌝ }
+{
+    to(f, Address([0xFFu8; 6]))
+}
+
+// The smaller of two numbers.
+fn smaller(a: usize, b: usize) -> usize
+    ensures { λ r. ⌜ r ≡ min a b ⌝ }
+{
+    if a < b { a } else { b }
+}
+
+// Whether the destination is one of the first `count` listed addresses.
+fn to_listed(f: &[u8], listed: [Address; 4], count: u8) -> bool
+    ensures { λ r. ⌜ r ≡ among (destination (now (f .entry))) (take count listed) ⌝ }
+{
+    let n = smaller(count as usize, 4);
+    let mut k: usize = 0;
+    while k < n {
+        let a = listed[k];
+        if to(f, a) {
+            return true;
+        }
+        k += 1;
+    }
+    false
+}
+
+// The address rule.
+pub fn accepts(s: Settings, f: &[u8]) -> bool
+    ensures { λ r. ⌜ r ≡ accepts s (destination (now (f .entry))) ⌝ }
+{
+    if s.promiscuous {
+        return true;
+    }
+    if is_broadcast(f) {
+        return s.broadcast;
+    }
+    let own = s.own;
+    if to(f, own) {
+        return true;
+    }
+    let listed = s.listed;
+    to_listed(f, listed, s.count)
+}

@@ -1,0 +1,45 @@
+-- Document 01, "Control frames": rules 7 to 10. `f` is a whole frame, from destination to FCS.
+use Prim.Native.Nat.{ℕ}
+use mathlib.Core.Bool.{Bool, not, _&&_, _||_}
+use mathlib.Core.List.{List, [], _∷_}
+use lib.Dec.{eqb}
+use Rattle.line.specs.Octets.{sameOctets, highFirstAt}
+use Rattle.station.specs.declared.Settings.{Settings}
+use Rattle.station.specs.Station.{isPauseMode, isPfcMode}
+use Rattle.fields.specs.Fields.{destination, firstField}
+use Rattle.address.specs.Address.{accepts}
+
+-- "First field 0x8808"; "A tagged 0x8808 is an ordinary type."
+unfoldable pub isControlFrame : List ℕ → Bool
+isControlFrame f = eqb (firstField f) 0x8808
+
+-- "the next two octets are the opcode, high octet first"
+unfoldable pub opcode : List ℕ → ℕ
+opcode f = highFirstAt f 14
+
+-- "The reserved group is 01-80-C2-00-00-01."
+unfoldable pub reservedGroup : List ℕ
+reservedGroup = 0x01 ∷ 0x80 ∷ 0xC2 ∷ 0x00 ∷ 0x00 ∷ 0x01 ∷ []
+
+unfoldable pub toReservedGroup : List ℕ → Bool
+toReservedGroup f = sameOctets (destination f) reservedGroup
+
+unfoldable pub toOwn : Settings → List ℕ → Bool
+toOwn s f = sameOctets (destination f) (s .own .0)
+
+-- rule 7, "address rule refuses"; of a control frame "to the reserved group or the own address … Its address isn't tested further"; "A
+-- control frame to any other destination: address rule first"
+unfoldable pub filtered : Settings → List ℕ → Bool
+filtered s f = not (isControlFrame f && (toReservedGroup f || toOwn s f)) && not (accepts s (destination f))
+
+-- rule 8: "Destination is the reserved group or the own address, opcode 0x0001, flow mode `pause`"
+unfoldable pub takesPause : Settings → List ℕ → Bool
+takesPause s f = isControlFrame f && (toReservedGroup f || toOwn s f) && eqb (opcode f) 0x0001 && isPauseMode (s .flow)
+
+-- rule 9: "Destination is the reserved group, opcode 0x0101, flow mode `PFC`"
+unfoldable pub takesPfc : Settings → List ℕ → Bool
+takesPfc s f = isControlFrame f && toReservedGroup f && eqb (opcode f) 0x0101 && isPfcMode (s .flow)
+
+-- rule 10: "Any other control frame …: 11 with `pass control` on, else 10"
+unfoldable pub dropsControl : Settings → List ℕ → Bool
+dropsControl s f = isControlFrame f && not (s .passing)

@@ -1,0 +1,3 @@
+pub mod Computed
+pub mod Fields
+pub mod Tags

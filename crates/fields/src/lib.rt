@@ -1,0 +1,78 @@
+// The parts of a frame: octets and numbers in it, tags, the real field, and where data begins (document 01, "Frame"). Meaning: specs/.
+// `f` is always a whole frame. An octet beyond its end counts as 0, so that every function has an answer for a frame of any size.
+ghost use mathlib.Core.Path.{_≡_};
+ghost use Prim.Native.Nat.{_<_};
+ghost use lib.ListN.{getD};
+ghost use Rattle.line.specs.Octets.{highFirstAt};
+ghost use Rattle.fields.specs.Tags.{isTagKind, tagCount};
+ghost use Rattle.fields.specs.Fields.{firstField, fieldPlace, field, dataPlace};
+
+// ---- numbers in a frame
+
+// The octet at `i`; beyond the end 0.
+pub fn octet(f: &[u8], i: usize) -> u8
+    ensures { λ r. ⌜ r ≡ getD (now (f .entry)) i 0 ⌝ }
+{
+    if i < f.len() { f[i] } else { 0 }
+}
+
+// An octet as a number of 16 bits.
+fn wide(x: u8) -> u16
+    ensures { λ r. ⌜ (r ≡ x) × (r < 256) ⌝ }
+{
+    x as u16
+}
+
+// The number in two octets, high octet first.
+pub fn high_first(f: &[u8], at: usize) -> u16
+    ensures { λ r. ⌜ r ≡ highFirstAt (now (f .entry)) at ⌝ }
+{
+    if f.len() <= at {
+        return 0;
+    }
+    wide(octet(f, at)) * 256 + wide(octet(f, at + 1))
+}
+
+// ---- tags, and where field and data stand
+
+// Field 0x8100 means tagged.
+fn is_tag_kind(field: u16) -> bool
+    ensures { λ r. ⌜ r ≡ isTagKind field ⌝ }
+{
+    field == 0x8100
+}
+
+// The field right after the addresses.
+pub fn first_field(f: &[u8]) -> u16
+    ensures { λ r. ⌜ r ≡ firstField (now (f .entry)) ⌝ }
+{
+    high_first(f, 12)
+}
+
+// How many tags stand before the real field.
+pub fn tag_count(f: &[u8]) -> usize
+    ensures { λ r. ⌜ r ≡ tagCount (now (f .entry)) ⌝ }
+{
+    if is_tag_kind(first_field(f)) { 1 } else { 0 }
+}
+
+// Where the real field stands.
+fn field_place(f: &[u8]) -> usize
+    ensures { λ r. ⌜ r ≡ fieldPlace (now (f .entry)) ⌝ }
+{
+    12 + 4 * tag_count(f)
+}
+
+// The real field.
+pub fn field(f: &[u8]) -> u16
+    ensures { λ r. ⌜ r ≡ field (now (f .entry)) ⌝ }
+{
+    high_first(f, field_place(f))
+}
+
+// Where data begins: after the real field.
+pub fn data_place(f: &[u8]) -> usize
+    ensures { λ r. ⌜ r ≡ dataPlace (now (f .entry)) ⌝ }
+{
+    field_place(f) + 2
+}
