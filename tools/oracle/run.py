@@ -66,7 +66,8 @@ def copy_definitions(repository, folder):
     names = needed_crates(listed)
     for name in names:
         crate = repository / "crates" / name
-        shutil.copytree(crate / "specs", folder / "crates" / name / "specs")
+        if (crate / "specs").is_dir():  # the static tables have no definitions of their own
+            shutil.copytree(crate / "specs", folder / "crates" / name / "specs")
         for source in crate.glob("src/**/*.rt"):
             to = folder / source.relative_to(repository)
             to.parent.mkdir(parents=True, exist_ok=True)

@@ -1,3 +1,4 @@
+pub mod Both
 pub mod Computed
 pub mod Crc
 pub mod Words

@@ -4,7 +4,7 @@ use mathlib.Core.Path.{ap, _∙_}
 use Prim.Native.Nat.{ℕ, _/_, _%_}
 use native.Mathlib.Omega.{arith}
 use borrow.Author.Needs.{needs}
-use Rattle.crc_tables.proofs.Slices.{zeros-low}
+use Rattle.crc.proofs.Slices.{zeros-low}
 use Rattle.crc_tables.proofs.after8.Statement.{statement}
 use Rattle.crc_tables.proofs.after8.Tie as tie
 

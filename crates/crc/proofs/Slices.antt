@@ -6,11 +6,11 @@ use native.Mathlib.Nat.{add-zero, mul-add-mod-self-right, mul-add-div-right, mod
 use native.Mathlib.Omega.{arith}
 use lib.Bits.{bitXor, xor-comm, xor-block, xor-shifted}
 use lib.Dec.{lit<}
 use Rattle.crc.specs.Crc.{crcBits}
 use Rattle.crc.specs.Words.{crcZeros}
 use Rattle.crc.proofs.Xor.{xor-assoc}
 use Rattle.crc.proofs.Linear.{bits-xor, bits-add, bits-zero, bits-lt, slice}
-use Rattle.crc_tables.specs.Both.{above, both}
+use Rattle.crc.specs.Both.{above, both}
 
 xor-times : (p q : ℕ) → bitXor p q * 0x1_0000_0000 ≡ bitXor (p * 0x1_0000_0000) (q * 0x1_0000_0000)
 xor-times p q =

@@ -1,9 +1,9 @@
--- `crc_tables::far` meets its contract: what the calls ensure, joined by `cc`.
+-- `crc::far` meets its contract: what the calls ensure, joined by `cc`.
 -- Assumes nothing.
 use borrow.Author.Needs.{needs}
-use Rattle.crc_tables.proofs.Slices.{both-is}
-use Rattle.crc_tables.proofs.far.Statement.{statement}
-use Rattle.crc_tables.proofs.far.Tie as tie
+use Rattle.crc.proofs.Slices.{both-is}
+use Rattle.crc.proofs.far.Statement.{statement}
+use Rattle.crc.proofs.far.Tie as tie
 
 bits-requires : tie.Need-bits-requires
 bits-requires c κs = search needs
