@@ -55,8 +55,8 @@ missing += [f"docs/PROMISES.md: `{name}` is not there" for name in sorted(public
 missing += [f"docs/PROMISES.md: there is no public `{name}`" for name in sorted(promised - public)]
 EDIT = re.compile(r"\b(\w+)/`(\w+)`")
 for crate, edit in EDIT.findall(promises):
-    waits = root / "wip" / "must-fail" / crate / f"{edit}.edit.txt"
-    if not (root / "crates" / crate / "must-fail" / f"{edit}.edit").exists() and not waits.exists():
+    places = [root / "crates" / crate / "must-fail", root / "more-edits" / crate]
+    if not any((place / f"{edit}.edit").exists() for place in places):
         missing.append(f"docs/PROMISES.md: no edit {crate}/{edit}")
 for row in re.findall(r"^\| `\w+::\w+`.*$", promises, re.M):
     if len(re.findall(r"`\w+::\w+`", row.split("|")[1])) > 1:
