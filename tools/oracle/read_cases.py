@@ -1,12 +1,8 @@
-#!/usr/bin/env python3
-"""The lines that crates/read_cases must print, worked out by model.py alone: `tools/oracle/read_cases.py > crates/read_cases/stdout`.
-
-The captures are built here a second time, by this file's own code; the case names and their order are those of the program.
-"""
-import zlib
+"""The readings on the tape of crates/cases (tape.py): captures of each outcome and of both sides of each limit, built by this file's own code."""
 from dataclasses import replace
 
 from model import START, TERMINATE, IDLE, PREAMBLE, RESERVED_GROUP, BROADCAST, Settings, State, fcs, high_first, reading, walk
+from tape import MOST_READINGS, READINGS, TAPE, checksum
 
 FRESH = State()
 USED = State(counters=[2**32 - 1] * 11, timers=[1000] * 8)
@@ -42,33 +38,27 @@ def frame(to=OWN, field=0x0800, n=46, body=(), tagged=False, bad=0):
     return covered + list(wrong)
 
 
-def changed(word, before, after, base):
-    return " " + word + "".join(f" {base + i}={b}" for i, (a, b) in enumerate(zip(before, after)) if a != b)
-
-
-def changes(before, after):
-    return changed("counters", before.counters, after.counters, 1) + changed("timers", before.timers, after.timers, 0)
-
-
 def reading_line(name, before, r):
     answer = {"refused": f"refused {r.refusal}", "none": "none", "open": "open",
-              "counted": f"outcome {r.outcome} status {r.status:010x} part {r.part[0]} of {r.part[1]} data {len(r.data)} sum {zlib.crc32(bytes(r.data)):08x}"}[r.kind]
-    print(f"{name}: {answer} start {r.start} next {r.next}" + changes(before, r.state))
+              "counted": f"outcome {r.outcome} status {r.status:010x} part {r.part[0]} of {r.part[1]} data {len(r.data)} sum {checksum(r.data)}"}[r.kind]
+    TAPE.tell(name, f"{answer} start {r.start} next {r.next}", before, r.state)
 
 
 def one(name, s, octets, marks, place):
+    TAPE.call(READINGS, name, s, FRESH, place, 1, octets, marks)
     reading_line(name, FRESH, reading(s, FRESH, octets, marks, place))
 
 
 def every(name, s, octets, marks, state=FRESH):
+    TAPE.call(READINGS, name, s, state, 0, MOST_READINGS, octets, marks)
     readings = walk(s, state, octets, marks)
     before = state
-    for r in readings[:16]:
+    for r in readings[:MOST_READINGS]:
         reading_line(name, before, r)
         before = r.state
     last = readings[-1]
     end = f"walk refused {last.refusal}" if last.kind == "refused" else f"walk {len(readings) - 1} open {int(last.kind == 'open')}"
-    print(f"{name}: {end}" + changes(state, last.state))
+    TAPE.tell(name, end, state, last.state)
 
 
 def symbols(name, octets, marks):
@@ -236,8 +226,9 @@ def control_cases():
     case("PFC, zero quanta for some", s, frame(to=RESERVED_GROUP, field=0x8808, n=26, body=[1, 1, 0, 0x0F] + some), USED)
 
 
-line_cases()
-refusal_cases()
-frame_cases()
-address_cases()
-control_cases()
+def cases():
+    line_cases()
+    refusal_cases()
+    frame_cases()
+    address_cases()
+    control_cases()

@@ -1,14 +1,11 @@
-#!/usr/bin/env python3
-"""The lines that crates/send_cases must print, worked out by model.py alone: `tools/oracle/send_cases.py > crates/send_cases/stdout`.
-
-The case names and their order are those of the program.
-"""
-import zlib
+"""The sendings on the tape of crates/cases (tape.py): each refusal, each pair of neighbours in their order, and both sides of each limit."""
 from dataclasses import dataclass, replace
 
 from model import BROADCAST, RESERVED_GROUP, Client, Settings, State, client_sending, idle_sending, pause_sending, pfc_sending
+from tape import CLIENT, IDLE, PAUSE, PFC, TAPE, checksum, client_octets
 
 FAR = 2**64 - 1
+LONGEST = [(1 + 7 * i) % 256 for i in range(9601)]
 QUANTA = [0x0101 * (n + 1) for n in range(7)] + [65535]
 
 
@@ -43,34 +40,31 @@ def of(n, place, flow="none", **changes):
     return Call(place, flow, n, n, **changes)
 
 
-def changed(word, before, after, base):
-    return " " + word + "".join(f" {base + i}={b}" for i, (a, b) in enumerate(zip(before, after)) if a != b)
-
-
-def whole(word, octets):
-    return f" {word} {len(octets)} {zlib.crc32(bytes(octets)):08x}"
-
-
 def report(name, before, r):
     answer = f"refused {r.refusal}" if r.refusal else "wrote"
-    print(f"{name}: {answer} place {r.place}" + whole("octets", r.octets) + whole("marks", r.marks)
-          + changed("counters", before.counters, r.state.counters, 1) + changed("timers", before.timers, r.state.timers, 0))
+    octets, marks = [f"{len(buffer)} {checksum(buffer)}" for buffer in (r.octets, r.marks)]
+    TAPE.tell(name, f"{answer} place {r.place} octets {octets} marks {marks}", before, r.state)
 
 
 def client(name, call, n, kind=None, cls=0, tag=None, to=station(2)):
-    data = [(1 + 7 * i) % 256 for i in range(n)]
-    report(name, call.state, client_sending(call.settings(), call.state, *call.buffers(), call.place, Client(to, tag, kind, cls, data)))
+    data = LONGEST[:n]
+    c = Client(to, tag, kind, cls, data)
+    TAPE.call(CLIENT, name, call.settings(), call.state, call.place, 0, *call.buffers(), client=client_octets(c), data=data)
+    report(name, call.state, client_sending(call.settings(), call.state, *call.buffers(), call.place, c))
 
 
 def pause(name, call, quanta=9):
+    TAPE.call(PAUSE, name, call.settings(), call.state, call.place, quanta, *call.buffers())
     report(name, call.state, pause_sending(call.settings(), call.state, *call.buffers(), call.place, quanta))
 
 
 def pfc(name, call, named=9):
+    TAPE.call(PFC, name, call.settings(), call.state, call.place, named, *call.buffers(), quanta=QUANTA)
     report(name, call.state, pfc_sending(call.settings(), call.state, *call.buffers(), call.place, named, QUANTA))
 
 
 def idle(name, call, n):
+    TAPE.call(IDLE, name, None, call.state, call.place, n, *call.buffers())
     report(name, call.state, idle_sending(call.state, *call.buffers(), call.place, n))
 
 
@@ -237,9 +231,11 @@ def order_cases():
     idle("Idle, 3 before 8", Call(1701), 9)
 
 
-data_cases()
-field_cases()
-place_cases()
-buffer_cases()
-timer_cases()
-order_cases()
+def cases():
+    TAPE.place(LONGEST)  # of which all other data is a part
+    data_cases()
+    field_cases()
+    place_cases()
+    buffer_cases()
+    timer_cases()
+    order_cases()

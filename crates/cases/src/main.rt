@@ -1,0 +1,416 @@
+// Calls of the C face that are run and compared: each is taken from a tape on standard input, and what it gives is printed. How a tape is laid out,
+// and who makes it: tools/oracle/tape.py. What lies past the tape's end counts as 0, so that any tape has an answer.
+ghost use mathlib.Core.Path.{_≡_};
+ghost use Prim.Native.Nat.{_+_, _<_, _≤_};
+ghost use lib.ListN.{length};
+
+// ---- the tape
+
+// The octet k places behind a place; 0 past the tape's end.
+fn octet(t: &[u8], at: usize, k: usize) -> u8 {
+    if at < t.len() {
+        if k < t.len() - at {
+            return t[at + k];
+        }
+    }
+    0
+}
+
+// What is left of a run, its present octet, and the place behind the run.
+struct Run {
+    left: u8,
+    octet: u8,
+    step: u8,
+    at: usize,
+}
+
+fn next(t: &[u8], r: Run) -> Run {
+    let at = r.at;
+    if 1 < r.left {
+        return Run {
+            left: r.left - 1,
+            octet: std::num::wrapping_add_u8(r.octet, r.step),
+            step: r.step,
+            at,
+        };
+    }
+    Run {
+        left: octet(t, at, 0),
+        octet: octet(t, at, 1),
+        step: octet(t, at, 2),
+        at: std::num::wrapping_add_usize(at, 3),
+    }
+}
+
+fn octets(t: &[u8], at: usize, out: &mut [u8]) {
+    let mut r = Run {
+        left: 0,
+        octet: 0,
+        step: 0,
+        at,
+    };
+    let mut k: usize = 0;
+    while k < out.len() {
+        r = next(t, r);
+        out[k] = r.octet;
+        k += 1;
+    }
+}
+
+// Number k behind a place: eight octets, high octet first.
+fn number(t: &[u8], at: usize, k: usize) -> u64 {
+    let mut n: u64 = 0;
+    let mut i = k % 4096 * 8;
+    let end = i + 8;
+    while i < end {
+        n = n % 0x0100_0000_0000_0000 * 256 + octet(t, at, i) as u64;
+        i += 1;
+    }
+    n
+}
+
+fn state_at(t: &[u8], at: usize, out: &mut [u64; 24]) {
+    let mut k: usize = 0;
+    while k < 24 {
+        out[k] = number(t, at, k);
+        k += 1;
+    }
+}
+
+fn quanta_at(t: &[u8], at: usize, out: &mut [u16; 8]) {
+    let mut k: usize = 0;
+    while k < 8 {
+        out[k] = (number(t, at, k) % 65536) as u16;
+        k += 1;
+    }
+}
+
+fn part(t: &[u8], at: usize, n: usize) -> &[u8] {
+    if at <= t.len() {
+        if n <= t.len() - at {
+            return &t[at..at + n];
+        }
+    }
+    &t[0..0]
+}
+
+fn field(t: &[u8], r: usize, k: usize) -> &[u8] {
+    let n = number(t, r, k) as usize;
+    part(t, n / 4294967296, n % 4294967296)
+}
+
+// ---- what is printed
+
+fn at(n: &[u64], k: usize) -> u64 {
+    if k < n.len() { n[k] } else { 0 }
+}
+
+fn shown(c: u8, n: &[u64]) {
+    if 47 < c {
+        if c < 58 {
+            io::print_decimal(1, at(n, (c - 48) as usize));
+            return;
+        }
+        if 64 < c {
+            if c < 85 {
+                let k = (c - 65) as usize;
+                io::print_hex(1, at(n, k % 10), 8 + k / 10 * 2);
+                return;
+            }
+        }
+    }
+    io::write_all(1, &[c]);
+}
+
+fn mark(c: u8, left: u64, n: &[u64]) -> u64 {
+    if c == 124 {
+        return std::num::wrapping_sub_u64(left, 1);
+    }
+    if left == 0 {
+        shown(c, n);
+    }
+    left
+}
+
+fn told(form: &[u8], which: u64, n: &[u64]) {
+    let mut left = which;
+    let mut k: usize = 0;
+    while k < form.len() {
+        left = mark(form[k], left, n);
+        k += 1;
+    }
+}
+
+fn pair(k: usize, before: u64, after: u64) {
+    if before != after {
+        told(b" 0=1", 0, &[k as u64, after]);
+    }
+}
+
+// The numbers of a state that differ, from `at` on, of which the first is called `first`.
+fn changed(before: &[u64; 24], after: &[u64; 24], at: usize, n: usize, first: usize)
+    requires { ⌜ (at + n < 24) × (first < 2) ⌝ }
+{
+    let mut k: usize = 0;
+    while k < n {
+        pair(first + k, before[at + k], after[at + k]);
+        k += 1;
+    }
+}
+
+fn changes(before: &[u64; 24], after: &[u64; 24]) {
+    io::write_all(1, b" counters");
+    changed(before, after, 0, 11, 1);
+    io::write_all(1, b" timers");
+    changed(before, after, 11, 8, 0);
+    io::write_all(1, b"\n");
+}
+
+// ---- a call
+
+struct Call {
+    kind: u64,
+    place: usize,
+    n: u64,
+    settings: [u8; 40],
+    state: [u64; 24],
+    client: [u8; 44],
+    quanta: [u16; 8],
+}
+
+fn call_at(t: &[u8], r: usize) -> Call {
+    let mut settings = [0u8; 40];
+    let mut state = [0u64; 24];
+    let mut client = [0u8; 44];
+    let mut quanta = [0u16; 8];
+    octets(t, number(t, r, 2) as usize, &mut settings);
+    state_at(t, number(t, r, 3) as usize, &mut state);
+    octets(t, number(t, r, 4) as usize, &mut client);
+    quanta_at(t, number(t, r, 5) as usize, &mut quanta);
+    Call {
+        kind: number(t, r, 0),
+        place: number(t, r, 6) as usize,
+        n: number(t, r, 7),
+        settings,
+        state,
+        client,
+        quanta,
+    }
+}
+
+// ---- readings
+
+fn which(refusal: u64, kind: u64) -> u64 {
+    if refusal == 0 { kind } else { 3 }
+}
+
+struct Turn {
+    which: u64,
+    next: u64,
+}
+
+fn answer(a: &[u64; 8], o: &[u8]) -> Turn {
+    let which = which(a[0], a[1]);
+    told(
+        b" outcome 2 status P part 6 of 7| none| open| refused 0",
+        which,
+        a,
+    );
+    let mut p = [0u64; 2];
+    fenhamper::fenhamper_client_data(o.len(), a[6] as usize, a[7] as usize, &mut p);
+    let d = part(o, p[0] as usize, p[1] as usize);
+    let sum = fenhamper::fenhamper_fcs(d) as u64;
+    told(b" data 0 sum B|||", which, &[d.len() as u64, sum]);
+    told(b" start 3 next 4", 0, a);
+    Turn { which, next: a[4] }
+}
+
+fn read(s: &[u8; 40], state: &mut [u64; 24], o: &[u8], m: &[u8], at: u64) -> Turn {
+    let before = *state;
+    let mut a = [0u64; 8];
+    fenhamper::fenhamper_read(s, state, o, m, at as usize, &mut a);
+    let r = answer(&a, o);
+    changes(&before, state);
+    r
+}
+
+fn left(turns: u64, which: u64) -> u64
+    requires { ⌜ 0 < turns ⌝ }
+    ensures { λ r. ⌜ r < turns ⌝ }
+{
+    if which == 0 { turns - 1 } else { 0 }
+}
+
+fn walked(a: &[u64; 3]) {
+    told(b" walk 1 open 2||| walk refused 0", which(a[0], 0), a);
+}
+
+fn walk(s: &[u8; 40], before: &[u64; 24], o: &[u8], m: &[u8]) {
+    let mut state = *before;
+    let mut a = [0u64; 3];
+    fenhamper::fenhamper_walk(s, &mut state, o, m, &mut a);
+    walked(&a);
+    changes(before, &state);
+}
+
+fn reading(name: &[u8], c: Call, o: &[u8], m: &[u8]) {
+    let s = c.settings;
+    let before = c.state;
+    let mut state = before;
+    let mut at = c.place as u64;
+    let mut turns = c.n;
+    while 0 < turns {
+        io::write_all(1, name);
+        let x = read(&s, &mut state, o, m, at);
+        at = x.next;
+        turns = left(turns, x.which);
+    }
+    if 1 < c.n {
+        io::write_all(1, name);
+        walk(&s, &before, o, m);
+    }
+}
+
+// ---- sendings
+
+struct Sent {
+    state: [u64; 24],
+    answer: [u64; 2],
+}
+
+fn client(c: Call, d: &[u8], o: &mut [u8], m: &mut [u8]) -> Sent {
+    let s = c.settings;
+    let f = c.client;
+    let mut state = c.state;
+    let mut answer = [0u64; 2];
+    fenhamper::fenhamper_send_client(&s, &mut state, o, m, c.place, &f, d, &mut answer);
+    Sent { state, answer }
+}
+
+fn pause(c: Call, o: &mut [u8], m: &mut [u8]) -> Sent {
+    let s = c.settings;
+    let mut state = c.state;
+    let mut answer = [0u64; 2];
+    fenhamper::fenhamper_send_pause(
+        &s,
+        &mut state,
+        o,
+        m,
+        c.place,
+        (c.n % 65536) as u16,
+        &mut answer,
+    );
+    Sent { state, answer }
+}
+
+fn pfc(c: Call, o: &mut [u8], m: &mut [u8]) -> Sent {
+    let s = c.settings;
+    let q = c.quanta;
+    let mut state = c.state;
+    let mut answer = [0u64; 2];
+    fenhamper::fenhamper_send_pfc(
+        &s,
+        &mut state,
+        o,
+        m,
+        c.place,
+        (c.n % 256) as u8,
+        &q,
+        &mut answer,
+    );
+    Sent { state, answer }
+}
+
+fn idle(c: Call, o: &mut [u8], m: &mut [u8]) -> Sent {
+    let mut state = c.state;
+    let mut answer = [0u64; 2];
+    fenhamper::fenhamper_fill_idle(&mut state, o, m, c.place, c.n as usize, &mut answer);
+    Sent { state, answer }
+}
+
+fn send(c: Call, d: &[u8], o: &mut [u8], m: &mut [u8]) -> Sent {
+    if c.kind == 1 {
+        return client(c, d, o, m);
+    }
+    if c.kind == 2 {
+        return pause(c, o, m);
+    }
+    if c.kind == 3 {
+        return pfc(c, o, m);
+    }
+    idle(c, o, m)
+}
+
+fn went(a: &[u64; 2], o: &[u8], m: &[u8]) {
+    told(b" wrote place 1||| refused 0 place 1", which(a[0], 0), a);
+    let x = fenhamper::fenhamper_fcs(o) as u64;
+    let y = fenhamper::fenhamper_fcs(m) as u64;
+    told(
+        b" octets 0 B marks 2 D",
+        0,
+        &[o.len() as u64, x, m.len() as u64, y],
+    );
+}
+
+fn sending(c: Call, d: &[u8], o: &mut [u8], m: &mut [u8]) {
+    let r = send(c, d, o, m);
+    let a = r.answer;
+    let before = c.state;
+    let after = r.state;
+    went(&a, o, m);
+    changes(&before, &after);
+}
+
+// ---- cases
+
+fn called(t: &[u8], r: usize, o: &mut [u8], m: &mut [u8]) {
+    let name = field(t, r, 1);
+    let c = call_at(t, r);
+    if c.kind == 0 {
+        reading(name, c, o, m);
+        return;
+    }
+    io::write_all(1, name);
+    sending(c, field(t, r, 10), o, m);
+}
+
+fn filled(t: &[u8], r: usize, o: &mut [u8], m: &mut [u8]) {
+    octets(t, (number(t, r, 8) / 4294967296) as usize, o);
+    octets(t, (number(t, r, 9) / 4294967296) as usize, m);
+    called(t, r, o, m);
+}
+
+fn blank() -> [u8; 65537]
+    ensures { λ r. ⌜ 65537 ≡ length r ⌝ }
+{
+    [0; 65537]
+}
+
+fn most(n: u64) -> usize
+    ensures { λ r. ⌜ r < 65538 ⌝ }
+{
+    let k = n % 4294967296;
+    if k < 65538 { k as usize } else { 65537 }
+}
+
+fn case(t: &[u8], r: usize) {
+    let mut o = blank();
+    let mut m = blank();
+    let n = most(number(t, r, 8));
+    let k = most(number(t, r, 9));
+    filled(t, r, &mut o[0..n], &mut m[0..k]);
+}
+
+fn cases(t: &[u8]) {
+    let mut r = number(t, 0, 0) as usize;
+    while r < t.len() {
+        case(t, r);
+        r += 96;
+    }
+}
+
+fn main() {
+    let mut tape = io::large_buffer();
+    let n = io::read_full(0, &mut tape);
+    cases(&tape[..n]);
+}

@@ -1,0 +1,24 @@
+#!/usr/bin/env python3
+"""Writes crates/cases/stdin, the tape of all readings and sendings, and crates/cases/stdout, what the model says must be printed of them.
+
+With --check it writes nothing, and exits 1 if a file is not as it would be written.
+"""
+import pathlib
+import sys
+
+import read_cases
+import send_cases
+from tape import TAPE
+
+crate = pathlib.Path(__file__).resolve().parent.parent.parent / "crates" / "cases"
+read_cases.cases()
+send_cases.cases()
+wrong = 0
+for name, octets in [("stdin", TAPE.octets()), ("stdout", TAPE.text())]:
+    path = crate / name
+    if "--check" not in sys.argv[1:]:
+        path.write_bytes(octets)
+    elif not path.exists() or path.read_bytes() != octets:
+        print(f"crates/cases/{name} is not as tools/oracle/program_cases.py makes it")
+        wrong = 1
+sys.exit(wrong)

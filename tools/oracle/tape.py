@@ -1,0 +1,93 @@
+"""Calls of the C face on a tape, for crates/cases, and what the program must print of them, as model.py works it out.
+
+The tape: the place of the first call in eight octets, what the calls name, and the calls. Every number is eight octets, high octet first. A call is twelve
+numbers: kind (0 readings, 1 client, 2 pause, 3 PFC, 4 Idle fill); name; settings; state; client frame; quanta; place; a number (how many readings at most, and
+a walk after them if that is more than one; quanta; class octet; Idles); octets; marks; data; 0. What lies elsewhere on the tape is named by its place, and
+where its length is not known, by its place times 2^32 plus its length. A state and quanta are numbers; a name and data are octets; settings, a client frame
+and the two buffers are runs: how many octets, the first, and what is added from one to the next.
+"""
+import zlib
+
+READINGS, CLIENT, PAUSE, PFC, IDLE = range(5)
+MOST_READINGS = 16
+LONGEST = 65536  # what the program reads
+KINDS = {0x8100: 0, 0x88A8: 1}
+FLOWS = {"none": 0, "pause": 1, "PFC": 2}
+
+
+def number(n):
+    return n.to_bytes(8, "big")
+
+
+def runs(octets):
+    """As few runs as going forward gives: each of up to 255 octets, one step apart."""
+    out, i = bytearray(), 0
+    while i < len(octets):
+        step = (octets[i + 1] - octets[i]) % 256 if i + 1 < len(octets) else 0
+        n = 1
+        while n < 255 and i + n < len(octets) and octets[i + n] == (octets[i + n - 1] + step) % 256:
+            n += 1
+        out += bytes([n, octets[i], step])
+        i += n
+    return bytes(out)
+
+
+def settings_octets(s):
+    flags = [s.broadcast, s.promiscuous, s.checking, s.pass_control]
+    listed = [octet for address in s.listed for octet in address]
+    return bytes(s.own + listed + [s.count] + [int(flag) for flag in flags] + [FLOWS[s.flow]]) + s.limit.to_bytes(2, "big") + bytes(2)
+
+
+def client_octets(c):
+    tags = [] if c.tag is None else [(0x8100, c.tag)]
+    head = bytes(c.destination + [c.cls, int(c.type is not None)]) + (c.type or 0).to_bytes(2, "big") + bytes([len(tags), 0])
+    run = b"".join(bytes([KINDS[kind], 0]) + control.to_bytes(2, "big") for kind, control in tags[:8])
+    return (head + run).ljust(44, b"\0")
+
+
+def state_numbers(state):
+    return b"".join(number(n) for n in list(state.counters) + list(state.timers) + [0] * 5)
+
+
+class Tape:
+    def __init__(self):
+        self.named, self.calls, self.lines = bytearray(8), [], []
+
+    def place(self, octets):
+        """Where these octets lie on the tape: they lie there once, be it as a part of others."""
+        at = self.named.find(bytes(octets), 8)
+        if at < 0:
+            at = len(self.named)
+            self.named += bytes(octets)
+        return at
+
+    def part(self, octets, coded=None):
+        return self.place(octets if coded is None else coded) << 32 | len(octets)
+
+    def call(self, kind, name, s, state, place, n, octets, marks, client=bytes(44), quanta=(0,) * 8, data=b""):
+        self.calls.append([kind, self.part(name.encode() + b":"), self.place(runs(settings_octets(s) if s else bytes(40))), self.place(state_numbers(state)),
+                           self.place(runs(client)), self.place(b"".join(number(q) for q in quanta)), place, n, self.part(octets, runs(octets)),
+                           self.part(marks, runs(marks)), self.part(bytes(data)), 0])
+
+    def octets(self):
+        tape = bytes(number(len(self.named)) + self.named[8:] + b"".join(number(n) for call in self.calls for n in call))
+        assert len(tape) <= LONGEST, len(tape)
+        return tape
+
+    def text(self):
+        return "".join(line + "\n" for line in self.lines).encode()
+
+    def tell(self, name, what, before, after):
+        """A line that the program must print: what was answered, and what changed of the state."""
+        self.lines.append(f"{name}: {what}" + changed("counters", before.counters, after.counters, 1) + changed("timers", before.timers, after.timers, 0))
+
+
+def changed(word, before, after, first):
+    return f" {word}" + "".join(f" {first + i}={b}" for i, (a, b) in enumerate(zip(before, after)) if a != b)
+
+
+def checksum(octets):
+    return f"{zlib.crc32(bytes(octets)):08x}"
+
+
+TAPE = Tape()
