@@ -25,7 +25,7 @@ use Rattle.address.specs.Address.{accepts}
 use Rattle.fcs.proofs.Laws.{fcs-four}
 use Rattle.frame.proofs.FrameLaws.{fcs-right, frame-length, frame-field, frame-payload, kept-type, kept-long, kept-short}
 use Rattle.control.specs.Control.{isControlFrame, filtered, takesPause, takesPfc, dropsControl}
-use Rattle.receive.specs.Outcomes.{cut, badPreamble, frameOf, outcomes, outcome}
+use Rattle.outcome.specs.Outcomes.{cut, badPreamble, frameOf, outcomes, outcome}
 use Rattle.writing.specs.declared.Client.{Client}
 use Rattle.writing.specs.declared.Tag.{Tag}
 use Rattle.writing.specs.declared.Form.{Form}

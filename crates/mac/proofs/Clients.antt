@@ -17,8 +17,8 @@ use Rattle.station.specs.Numbers.{byOutcome}
 use Rattle.frame.specs.Length.{clientData}
 use Rattle.receive.specs.declared.Answer.the-variants.{Counted}
 use Rattle.receive.specs.declared.Reading.{Reading}
-use Rattle.receive.specs.Outcomes.{outcome, frameOf}
-use Rattle.receive.specs.Status.{status}
+use Rattle.outcome.specs.Outcomes.{outcome, frameOf}
+use Rattle.outcome.specs.Status.{status}
 use Rattle.receive.specs.Reading.{handedPart, readRun, readStart}
 use Rattle.receive.specs.Walk.{walk, handedBy, handedOut}
 use Rattle.receive.proofs.Handed.{handed-part}

@@ -17,7 +17,7 @@ use Rattle.station.specs.declared.State.{State}
 use Rattle.station.specs.declared.Outcome.{Outcome}
 use Rattle.station.specs.Numbers.{byOutcome}
 use Rattle.frame.specs.Length.{clientData}
-use Rattle.receive.specs.Outcomes.{frameOf, outcome}
+use Rattle.outcome.specs.Outcomes.{frameOf, outcome}
 use Rattle.receive.specs.Walk.{walk, handedOut}
 use Rattle.receive.proofs.Refusals.{passed, fine as refuses-none}
 use Rattle.writing.specs.Frames.{gap, onLine, clientBody, clientSymbols}

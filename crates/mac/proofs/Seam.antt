@@ -12,7 +12,7 @@ use Rattle.line.specs.Table.{first}
 use Rattle.line.proofs.Symbols.{by-test, met-start, met-other, start-not-data, start-octet, ending-control}
 use Rattle.line.proofs.Starts.{run-ended, run-open, Begins}
 use Rattle.station.specs.declared.Settings.{Settings}
-use Rattle.receive.specs.Outcomes.{cut, outcomes, outcome}
+use Rattle.outcome.specs.Outcomes.{cut, outcomes, outcome}
 use Rattle.mac.proofs.Clients.{clientOf, clients}
 
 -- a run that a Start ends is cut, and hands out nothing

@@ -23,7 +23,7 @@ use Rattle.receive.specs.declared.Reading.{Reading}
 use Rattle.receive.specs.declared.Walked.{Walked}
 use Rattle.receive.specs.declared.Walked.the-variants.{Ended}
 use Rattle.receive.specs.declared.WalkEnd.{WalkEnd}
-use Rattle.receive.specs.Outcomes.{outcome, frameOf}
+use Rattle.outcome.specs.Outcomes.{outcome, frameOf}
 use Rattle.receive.specs.Reading.{stateAfter, readRun, readStart}
 use Rattle.receive.specs.Walk.{walk, walkOf, walked}
 use Rattle.mac.specs.Demand2.{Readable, isUnended, lastUnended, oneIf, has, startsWith}

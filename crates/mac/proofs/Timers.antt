@@ -26,7 +26,7 @@ use Rattle.station.specs.declared.Checked.the-variants.{Fine, Refused}
 use Rattle.station.specs.declared.Outcome.{Outcome}
 use Rattle.station.specs.declared.Outcome.the-variants.{Cut, BadPreamble, Undersized, Oversized, WrongFcs, WrongLength, Filtered, PauseTaken, PfcTaken, ControlDropped, HandedOut}
 use Rattle.flow.specs.Timers.{slotsOf, quantaAt, timer, setAll, setNamed, timersAfter, lowered}
-use Rattle.receive.specs.Outcomes.{outcome, frameOf}
+use Rattle.outcome.specs.Outcomes.{outcome, frameOf}
 use Rattle.receive.specs.Reading.{stateAfter, readRun, readStart, readFound, readAt, readRefusals, readChecked, reading}
 use Rattle.writing.specs.declared.Client.{Client}
 use Rattle.send.specs.Sending.{held, written, wentRefusal, stateSent, sendChecked, clientRefusals, clientSending, pauseSending, pfcSending, idleSending}

@@ -23,8 +23,8 @@ use Rattle.station.specs.declared.Checked.{Checked}
 use Rattle.station.specs.declared.Checked.the-variants.{Fine}
 use Rattle.receive.specs.declared.Answer.the-variants.{Nothing, Open, Counted}
 use Rattle.receive.specs.declared.Reading.{Reading}
-use Rattle.receive.specs.Outcomes.{outcome, frameOf}
-use Rattle.receive.specs.Status.{status}
+use Rattle.outcome.specs.Outcomes.{outcome, frameOf}
+use Rattle.outcome.specs.Status.{status}
 use Rattle.receive.specs.Reading.{readRun, readStart, readFound, readAt, readRefusals, readChecked, reading, handedPart}
 use Rattle.receive.specs.Values.{isCounted}
 use Rattle.receive.specs.Walk.{readingsFrom, walk}

@@ -20,7 +20,7 @@ use Rattle.station.specs.declared.Checked.{Checked}
 use Rattle.station.specs.declared.Checked.the-variants.{Fine, Refused}
 use Rattle.station.specs.Numbers.{byOutcome}
 use Rattle.flow.specs.Timers.{quantaAt}
-use Rattle.receive.specs.Outcomes.{outcome, frameOf}
+use Rattle.outcome.specs.Outcomes.{outcome, frameOf}
 use Rattle.receive.specs.Reading.{readRefusals, reading}
 use Rattle.writing.specs.declared.Client.{Client}
 use Rattle.writing.specs.declared.Classes.{Classes}

@@ -14,7 +14,7 @@ use Rattle.station.specs.Numbers.{outcomeNumber}
 use Rattle.receive.specs.declared.Answer.{Answer}
 use Rattle.receive.specs.declared.Answer.the-variants.{Refused, Nothing, Open, Counted}
 use Rattle.receive.specs.declared.Reading.{Reading}
-use Rattle.receive.specs.Outcomes.{outcome}
+use Rattle.outcome.specs.Outcomes.{outcome}
 use Rattle.receive.specs.Reading.{readRefusals}
 
 -- a capture and settings with which no reading from place 0 on is refused: refusals 1 and 2 do not hold

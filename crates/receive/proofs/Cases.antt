@@ -18,7 +18,7 @@ use Rattle.station.specs.declared.Checked.the-variants.{Fine, Refused}
 use Rattle.receive.specs.declared.Answer.{Answer}
 use Rattle.receive.specs.declared.Answer.the-variants.{Open}
 use Rattle.receive.specs.declared.Reading.{Reading}
-use Rattle.receive.specs.Outcomes.{outcome}
+use Rattle.outcome.specs.Outcomes.{outcome}
 use Rattle.receive.specs.Reading.{readRefusals, readChecked, reading, readAt, readFound, readStart, readRun}
 use Rattle.receive.proofs.Refusals.{passed}
 

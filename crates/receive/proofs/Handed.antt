@@ -17,7 +17,7 @@ use Rattle.fields.specs.Fields.{field, dataPlace}
 use Rattle.frame.specs.Frame.{frameData}
 use Rattle.frame.specs.Length.{clientData, handedLength}
 use Rattle.station.specs.declared.Part.{Part}
-use Rattle.receive.specs.Outcomes.{frameOf}
+use Rattle.outcome.specs.Outcomes.{frameOf}
 use Rattle.receive.specs.Reading.{partOf}
 
 -- x stands at the front of y

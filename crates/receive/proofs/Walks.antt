@@ -26,7 +26,7 @@ use Rattle.receive.specs.declared.Reading.{Reading}
 use Rattle.receive.specs.declared.Walked.{Walked}
 use Rattle.receive.specs.declared.Walked.the-variants.{Ended}
 use Rattle.receive.specs.declared.WalkEnd.{WalkEnd}
-use Rattle.receive.specs.Outcomes.{outcome, frameOf}
+use Rattle.outcome.specs.Outcomes.{outcome, frameOf}
 use Rattle.receive.specs.Reading.{stateAfter, readRun, readStart, readFound, readAt, readRefusals, readChecked, reading}
 use Rattle.receive.specs.Values.{isCounted}
 use Rattle.receive.specs.Walk.{readingsFrom, walk, walkOf, walked}

@@ -23,8 +23,8 @@ use Rattle.flow.specs.Timers.{timersAfter}
 use Rattle.receive.specs.declared.Answer.{Answer}
 use Rattle.receive.specs.declared.Answer.the-variants.{Open, Counted}
 use Rattle.receive.specs.declared.Reading.{Reading}
-use Rattle.receive.specs.Outcomes.{outcome, frameOf}
-use Rattle.receive.specs.Status.{status}
+use Rattle.outcome.specs.Outcomes.{outcome, frameOf}
+use Rattle.outcome.specs.Status.{status}
 
 -- ---- Reading one Start
 

@@ -7,10 +7,11 @@ use denote.Ref.{now}
 use Rattle.line.specs.Table.{first}
 use Rattle.station.specs.declared.Outcome.{Outcome}
 use Rattle.frame.specs.Frame.{wrongFcs}
-use Rattle.receive.specs.Outcomes.{frameOf}
+use Rattle.outcome.specs.Outcomes.{frameOf}
 use Rattle.receive.specs.Reading.{stateAfter}
-use Rattle.receive.specs.Steps.{lateOutcomes}
-use Rattle.receive.proofs.Rules.{outcome-decided, outcome-wrong, outcome-right, early-still, wrong-still}
+use Rattle.outcome.specs.Steps.{lateOutcomes}
+use Rattle.outcome.proofs.Rules.{outcome-decided, outcome-wrong, outcome-right}
+use Rattle.receive.proofs.Still.{early-still, wrong-still}
 use borrow.Author.Needs.{needs}
 use Rattle.receive.proofs.count_run.Statement.{statement}
 use Rattle.receive.proofs.count_run.Tie as tie

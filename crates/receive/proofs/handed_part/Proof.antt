@@ -6,7 +6,7 @@ use mathlib.Core.Path.{_≡_, ap₂}
 use denote.Ref.{now}
 use Rattle.fields.proofs.Tags.{dataPlace-small}
 use Rattle.station.specs.declared.Part.{Part}
-use Rattle.receive.proofs.Words.{no-part}
+use Rattle.receive.proofs.Parts.{no-part}
 use Rattle.receive.specs.Reading.{handedPart}
 use Rattle.receive.proofs.handed_part.Statement.{statement}
 use Rattle.receive.proofs.handed_part.Tie as tie

@@ -12,7 +12,7 @@ use Rattle.line.proofs.Places.{start-found, control-found}
 use Rattle.station.specs.declared.Checked.the-variants.{Fine}
 use Rattle.line.specs.Line.{capture, findStart, findControl}
 use Rattle.receive.proofs.Refusals.{passed}
-use Rattle.receive.specs.Outcomes.{outcome}
+use Rattle.outcome.specs.Outcomes.{outcome}
 use Rattle.receive.specs.Reading.{readRefusals, readRun}
 use Rattle.line.specs.Table.{first}
 use Rattle.receive.proofs.read.Statement.{statement}

@@ -4,7 +4,7 @@ use lib.ListN.{length, length-drop}
 use denote.Ref.{now}
 use mathlib.Core.Path.{_≡_, ap}
 use borrow.Author.Needs.{needs}
-use Rattle.receive.specs.Outcomes.{frameOf}
+use Rattle.outcome.specs.Outcomes.{frameOf}
 use Rattle.receive.specs.Reading.{readRun}
 use Rattle.receive.proofs.read_run.Statement.{statement}
 use Rattle.receive.proofs.read_run.Tie as tie

@@ -1,14 +1,14 @@
--- `receive::before_fcs` meets its contract: each way out passes the rows that did not hold and stops at the one that did. Assumes nothing.
+-- `outcome::before_fcs` meets its contract: each way out passes the rows that did not hold and stops at the one that did. Assumes nothing.
 use mathlib.Core.Path.{_≡_, sym, ap, _∙_}
 use borrow.Author.Needs.{needs}
-use Rattle.receive.specs.declared.Early.the-variants.{Decided, Framed}
-use Rattle.receive.specs.Steps.{earlyOutcomes}
+use Rattle.outcome.specs.declared.Early.the-variants.{Decided, Framed}
+use Rattle.outcome.specs.Steps.{earlyOutcomes}
 use Rattle.frame.specs.Frame.{undersized, oversized}
 use Rattle.line.proofs.Tables.{first-here, first-next, first-other}
-use Rattle.receive.proofs.Rules.{cut-by, not-cut}
+use Rattle.outcome.proofs.Rules.{cut-by, not-cut}
 use Rattle.station.specs.declared.Outcome.the-variants.{Cut, BadPreamble, Undersized, Oversized}
-use Rattle.receive.proofs.before_fcs.Statement.{statement}
-use Rattle.receive.proofs.before_fcs.Tie as tie
+use Rattle.outcome.proofs.before_fcs.Statement.{statement}
+use Rattle.outcome.proofs.before_fcs.Tie as tie
 
 returns : tie.Need-returns
 unfolding earlyOutcomes

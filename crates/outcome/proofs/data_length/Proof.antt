@@ -1,12 +1,12 @@
--- `receive::data_length` meets its contract. Assumes nothing.
+-- `outcome::data_length` meets its contract. Assumes nothing.
 use lib.ListN.{length}
 use borrow.Author.Needs.{needs}
 use mathlib.Core.Path.{ap}
 use native.Mathlib.Omega.{arith}
 use denote.Ref.{now}
 use Rattle.frame.proofs.Length.{frameData-length}
-use Rattle.receive.proofs.data_length.Statement.{statement}
-use Rattle.receive.proofs.data_length.Tie as tie
+use Rattle.outcome.proofs.data_length.Statement.{statement}
+use Rattle.outcome.proofs.data_length.Tie as tie
 
 frame-data-requires : tie.Need-frame-data-requires
 frame-data-requires c κs = search needs

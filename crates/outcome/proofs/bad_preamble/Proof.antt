@@ -1,13 +1,13 @@
--- `receive::bad_preamble` meets its contract: the octets passed are right. Assumes nothing.
+-- `outcome::bad_preamble` meets its contract: the octets passed are right. Assumes nothing.
 use borrow.Author.Count.{below-none, below-more}
 use lib.ListN.{length, getD}
 use native.Mathlib.Omega.{arith}
 use mathlib.Core.Path.{_≡_, refl, sym}
 use Prim.Native.Nat.{ℕ, _≤_, _<_, _-_}
 use Rattle.line.specs.Line.{preamble}
-use Rattle.receive.proofs.Rules.{preamble-short, preamble-differs, preamble-right}
-use Rattle.receive.proofs.bad_preamble.Statement.{statement}
-use Rattle.receive.proofs.bad_preamble.Tie as tie
+use Rattle.outcome.proofs.Rules.{preamble-short, preamble-differs, preamble-right}
+use Rattle.outcome.proofs.bad_preamble.Statement.{statement}
+use Rattle.outcome.proofs.bad_preamble.Tie as tie
 
 abbrev Inv-loop : tie.InvT-loop
 Inv-loop run right k₀ k = (k ≤ 7) × (7 ≤ length run) × (right ≡ preamble) × ((i : ℕ) → i < k → getD run i 0 ≡ getD right i 0)

@@ -1,12 +1,12 @@
--- `receive::frame_of` meets its contract. Assumes nothing.
+-- `outcome::frame_of` meets its contract. Assumes nothing.
 use borrow.Author.Needs.{needs}
 use mathlib.Core.Path.{sym}
 use denote.Ref.{now}
 use Rattle.fcs.proofs.Laws.{last-part}
-use Rattle.receive.proofs.Rules.{frame-none}
-use Rattle.receive.specs.Outcomes.{frameOf}
-use Rattle.receive.proofs.frame_of.Statement.{statement}
-use Rattle.receive.proofs.frame_of.Tie as tie
+use Rattle.outcome.proofs.Rules.{frame-none}
+use Rattle.outcome.specs.Outcomes.{frameOf}
+use Rattle.outcome.proofs.frame_of.Statement.{statement}
+use Rattle.outcome.proofs.frame_of.Tie as tie
 
 slice-aggregate-result : tie.Need-slice-aggregate-result
 slice-aggregate-result c = search needs

@@ -1,7 +1,7 @@
 -- Rules 1 and 2, and the table of outcomes in the two steps that the code takes. Assumes nothing.
 use Prim.Native.Nat.{ℕ, _≤_, _<_}
 use native.Mathlib.Omega.{arith}
-use mathlib.Core.Path.{_≡_, refl, sym, ap, ap₂, subst, _∙_}
+use mathlib.Core.Path.{_≡_, refl, sym, ap, ap₂, _∙_}
 use mathlib.Core.Bool.{Bool, true, false, not, _||_, or-true}
 use mathlib.Core.List.{List, [], _∷_}
 use lib.ListN.{length, getD, take, drop, drop-of-length-le}
@@ -15,15 +15,12 @@ use Rattle.line.proofs.Tables.{first-here, first-next, first-other}
 use Rattle.station.specs.declared.Settings.{Settings}
 use Rattle.station.specs.declared.Outcome.{Outcome}
 use Rattle.station.specs.declared.Outcome.the-variants.{Cut, BadPreamble, Undersized, Oversized, WrongFcs}
-use Rattle.station.specs.declared.State.{State}
 use Rattle.station.specs.Numbers.{outcomeNumber}
-use Rattle.flow.specs.Timers.{timersAfter}
-use Rattle.receive.specs.Reading.{stateAfter}
 use Rattle.frame.specs.Frame.{undersized, oversized, wrongFcs}
-use Rattle.receive.specs.declared.Early.{Early}
-use Rattle.receive.specs.declared.Early.the-variants.{Decided, Framed}
-use Rattle.receive.specs.Outcomes.{cut, badPreamble, frameOf, outcomes, outcome}
-use Rattle.receive.specs.Steps.{earlyOutcomes, lateOutcomes, stateCounted}
+use Rattle.outcome.specs.declared.Early.{Early}
+use Rattle.outcome.specs.declared.Early.the-variants.{Decided, Framed}
+use Rattle.outcome.specs.Outcomes.{cut, badPreamble, frameOf, outcomes, outcome}
+use Rattle.outcome.specs.Steps.{earlyOutcomes, lateOutcomes}
 
 -- ---- rule 1
 
@@ -111,35 +108,8 @@ module _ (s : Settings) (run : List ℕ) (by : ℕ) where
   unfolding outcome
   outcome-right h e = agrees .framed h ∙ first-next WrongFcs _ e
 
--- ---- outcomes that set no timer
+-- ---- the table bears document 01's numbers, in order
 
-abbrev pub Still : Outcome → Type 0
-Still o = (f : List ℕ) (st : State) → stateCounted o st ≡ stateAfter o f st
-
-still-end : (o : Outcome) → first (otherwise Framed) ≡ Decided o → Still o
-still-end o h = let z : Framed ≡ Decided o = sym (first-other Framed) ∙ h in let bad : _≡_ {A = ℕ} 0 1 = cc in absurd (omega arith)
-
-still-row : (b : Bool) (o : Outcome) (e : Table Early) → Still o → ((p : Outcome) → first e ≡ Decided p → Still p)
-    → (p : Outcome) → first (b ⇒ Decided o ∣ e) ≡ Decided p → Still p
-still-row true o e w z p h =
-    let y : Decided o ≡ Decided p = sym (first-here (Decided o) e refl) ∙ h in
-    let q : o ≡ p = cc in
-    subst Still q w
-still-row false o e w z p h = z p (sym (first-next (Decided o) e refl) ∙ h)
-
--- rules 1 to 4, and a wrong FCS
-pub early-still : (limit : ℕ) (run : List ℕ) (by : ℕ) (o : Outcome) → first (earlyOutcomes limit run by) ≡ Decided o → Still o
-unfolding earlyOutcomes stateCounted stateAfter timersAfter
-early-still limit run by =
-    still-row (cut by) Cut _ (λ f st. refl)
-    (still-row (badPreamble run) BadPreamble _ (λ f st. refl)
-    (still-row (undersized (frameOf run)) Undersized _ (λ f st. refl) (still-row (oversized limit (frameOf run)) Oversized _ (λ f st. refl) still-end)))
-
-pub wrong-still : Still WrongFcs
-unfolding stateCounted stateAfter timersAfter
-wrong-still f st = refl
-
--- the table bears document 01's numbers, in order
 unfoldable pub numbersIn : Table Outcome → List ℕ
 numbersIn (otherwise o) = outcomeNumber o ∷ []
 numbersIn (r ∣ rows) = outcomeNumber (r .gives) ∷ numbersIn rows

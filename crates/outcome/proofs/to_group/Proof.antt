@@ -1,10 +1,10 @@
--- `receive::to_group` meets its contract. Assumes nothing.
+-- `outcome::to_group` meets its contract. Assumes nothing.
 use mathlib.Core.Path.{sym}
 use borrow.Author.Needs.{needs}
 use native.Mathlib.Omega.{arith}
-use Rattle.receive.proofs.Words.{group-octet, group-none}
-use Rattle.receive.proofs.to_group.Statement.{statement}
-use Rattle.receive.proofs.to_group.Tie as tie
+use Rattle.outcome.proofs.Words.{group-octet, group-none}
+use Rattle.outcome.proofs.to_group.Statement.{statement}
+use Rattle.outcome.proofs.to_group.Tie as tie
 
 returns : tie.Need-returns
 returns c = sym (group-none _ (omega arith))

@@ -1,14 +1,14 @@
--- `receive::status` meets its contract: each arm computes the definition at its outcome. Assumes nothing.
+-- `outcome::status` meets its contract: each arm computes the definition at its outcome. Assumes nothing.
 use denote.Ref.{now}
 use Prim.Native.Nat.{ℕ, _+_}
 use mathlib.Core.Path.{_≡_, ap₂}
 use native.Mathlib.Omega.{arith}
 use borrow.Author.Needs.{needs}
-use Rattle.receive.proofs.Words.{no-status}
+use Rattle.outcome.proofs.Words.{no-status}
 use Rattle.frame.proofs.Length.{handed-le, frameData-length}
-use Rattle.receive.specs.Status.{status}
-use Rattle.receive.proofs.status.Statement.{statement}
-use Rattle.receive.proofs.status.Tie as tie
+use Rattle.outcome.specs.Status.{status}
+use Rattle.outcome.proofs.status.Statement.{statement}
+use Rattle.outcome.proofs.status.Tie as tie
 
 enum-told : tie.Need-enum-told
 enum-told c = search needs

@@ -1,11 +1,11 @@
--- `receive::after_fcs` meets its contract: each way out passes the rows that did not hold and stops at the one that did. Assumes nothing.
+-- `outcome::after_fcs` meets its contract: each way out passes the rows that did not hold and stops at the one that did. Assumes nothing.
 use mathlib.Core.Path.{_≡_, sym, _∙_}
 use borrow.Author.Needs.{needs}
-use Rattle.receive.specs.Steps.{lateOutcomes}
+use Rattle.outcome.specs.Steps.{lateOutcomes}
 use Rattle.station.specs.declared.Outcome.the-variants.{WrongLength, Filtered, PauseTaken, PfcTaken, ControlDropped, HandedOut}
 use Rattle.line.proofs.Tables.{first-here, first-next, first-other}
-use Rattle.receive.proofs.after_fcs.Statement.{statement}
-use Rattle.receive.proofs.after_fcs.Tie as tie
+use Rattle.outcome.proofs.after_fcs.Statement.{statement}
+use Rattle.outcome.proofs.after_fcs.Tie as tie
 
 wrong-length-requires : tie.Need-wrong-length-requires
 wrong-length-requires c κs = search needs

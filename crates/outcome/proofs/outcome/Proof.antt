@@ -1,14 +1,14 @@
--- `receive::outcome` meets its contract: the table in two steps. Assumes nothing.
+-- `outcome::outcome` meets its contract: the table in two steps. Assumes nothing.
 use mathlib.Core.Path.{_≡_, sym, ap, _∙_}
 use borrow.Author.Needs.{needs}
 use Prim.Native.Nat.{ℕ}
 use mathlib.Core.List.{List}
 use Rattle.frame.specs.Frame.{wrongFcs}
 use Rattle.line.specs.Table.{first}
-use Rattle.receive.proofs.Rules.{outcome-decided, outcome-wrong, outcome-right}
-use Rattle.receive.specs.Steps.{lateOutcomes}
-use Rattle.receive.proofs.outcome.Statement.{statement}
-use Rattle.receive.proofs.outcome.Tie as tie
+use Rattle.outcome.proofs.Rules.{outcome-decided, outcome-wrong, outcome-right}
+use Rattle.outcome.specs.Steps.{lateOutcomes}
+use Rattle.outcome.proofs.outcome.Statement.{statement}
+use Rattle.outcome.proofs.outcome.Tie as tie
 
 before-fcs-requires : tie.Need-before-fcs-requires
 before-fcs-requires c κs = search needs

@@ -1,9 +1,9 @@
--- `receive::frame_bits` meets its contract. Assumes nothing.
+-- `outcome::frame_bits` meets its contract. Assumes nothing.
 use native.Mathlib.Omega.{arith}
 use borrow.Author.Needs.{needs}
-use Rattle.receive.specs.Status.{bit, frameBits}
-use Rattle.receive.proofs.frame_bits.Statement.{statement}
-use Rattle.receive.proofs.frame_bits.Tie as tie
+use Rattle.outcome.specs.Status.{bit, frameBits}
+use Rattle.outcome.proofs.frame_bits.Statement.{statement}
+use Rattle.outcome.proofs.frame_bits.Tie as tie
 
 to-group-requires : tie.Need-to-group-requires
 to-group-requires c κs = search needs

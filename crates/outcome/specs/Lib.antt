@@ -1,0 +1,4 @@
+pub mod Computed
+pub mod Outcomes
+pub mod Status
+pub mod Steps

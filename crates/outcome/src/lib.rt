@@ -1,0 +1,173 @@
+// What becomes of one run: the table of outcomes and the status word (document 01, "Reading one Start", "Status word"). Meaning: specs/.
+use station::Outcome;
+use station::Settings;
+ghost use mathlib.Core.Path.{_≡_};
+ghost use mathlib.Core.Bool.{not, cond, _&&_};
+ghost use Prim.Native.Nat.{_≤_};
+ghost use lib.ListN.{length};
+ghost use Rattle.line.specs.Table.{first};
+ghost use Rattle.station.specs.Station.{isGroup};
+ghost use Rattle.fields.specs.Fields.{destination};
+ghost use Rattle.frame.specs.Frame.{frameData};
+ghost use Rattle.outcome.specs.Outcomes.{badPreamble, frameOf, outcome};
+ghost use Rattle.outcome.specs.Steps.{earlyOutcomes, lateOutcomes};
+ghost use Rattle.outcome.specs.Status.{frameBits, status};
+
+// What rules 1 to 4 leave: an outcome, or a frame whose FCS is to be looked at.
+pub enum Early {
+    Decided(Outcome),
+    Framed,
+}
+
+// ---- the outcome
+
+// Rule 2: run under 7 octets, or the first 7 wrong.
+fn bad_preamble(run: &[u8]) -> bool
+    ensures { λ r. ⌜ r ≡ badPreamble (now (run .entry)) ⌝ }
+{
+    if run.len() < 7 {
+        return true;
+    }
+    let right = [0x55u8, 0x55, 0x55, 0x55, 0x55, 0x55, 0xD5];
+    let mut k: usize = 0;
+    while k < 7 {
+        if run[k] != right[k] {
+            return true;
+        }
+        k += 1;
+    }
+    false
+}
+
+// The frame of a run: what follows the preamble.
+pub fn frame_of(run: &[u8]) -> &[u8]
+    ensures { λ r. ⌜ now r ≡ frameOf (now (run .entry)) ⌝ }
+{
+    if run.len() < 7 {
+        return &run[..0];
+    }
+    &run[7..]
+}
+
+// Rules 1 to 4, in their order.
+pub fn before_fcs(limit: u16, run: &[u8], by: u8) -> Early
+    ensures { λ r. ⌜ r ≡ first (earlyOutcomes limit (now (run .entry)) by) ⌝ }
+{
+    if by != 0xFD {
+        return Early::Decided(Outcome::Cut);
+    }
+    if bad_preamble(run) {
+        return Early::Decided(Outcome::BadPreamble);
+    }
+    let f = frame_of(run);
+    if frame::undersized(f) {
+        return Early::Decided(Outcome::Undersized);
+    }
+    if frame::oversized(limit, f) {
+        return Early::Decided(Outcome::Oversized);
+    }
+    Early::Framed
+}
+
+// Rules 6 to 11, in their order.
+pub fn after_fcs(s: Settings, f: &[u8]) -> Outcome
+    ensures { λ r. ⌜ r ≡ first (lateOutcomes s (now (f .entry))) ⌝ }
+{
+    if frame::wrong_length(s.checking, f) {
+        return Outcome::WrongLength;
+    }
+    if control::filtered(s, f) {
+        return Outcome::Filtered;
+    }
+    if control::takes_pause(s, f) {
+        return Outcome::PauseTaken;
+    }
+    if control::takes_pfc(s, f) {
+        return Outcome::PfcTaken;
+    }
+    if control::drops_control(s, f) {
+        return Outcome::ControlDropped;
+    }
+    Outcome::HandedOut
+}
+
+// The outcome of a run ended by the control octet `by`: the first rule that holds.
+pub fn outcome(s: Settings, run: &[u8], by: u8) -> Outcome
+    ensures { λ r. ⌜ r ≡ outcome s (now (run .entry)) by ⌝ }
+{
+    let e = before_fcs(s.limit, run, by);
+    if let Early::Decided(o) = e {
+        return o;
+    }
+    let f = frame_of(run);
+    if frame::wrong_fcs(f) {
+        return Outcome::WrongFcs;
+    }
+    after_fcs(s, f)
+}
+
+// ---- the status word
+
+// The bits of `value` where `b`.
+fn flag(b: bool, value: u64) -> u64
+    ensures { λ r. ⌜ (r ≡ cond b value 0) × (r ≤ value) ⌝ }
+{
+    if b { value } else { 0 }
+}
+
+// Whether the destination has its group bit.
+fn to_group(f: &[u8]) -> bool
+    ensures { λ r. ⌜ r ≡ isGroup (destination (now (f .entry))) ⌝ }
+{
+    if f.len() == 0 {
+        return false;
+    }
+    f[0] % 2 == 1
+}
+
+// Multicast other than broadcast.
+fn is_multicast(group: bool, broadcast: bool) -> bool
+    ensures { λ r. ⌜ r ≡ (group && not broadcast) ⌝ }
+{
+    if group { !broadcast } else { false }
+}
+
+// What the frame alone decides: bits 38 to 16.
+fn frame_bits(f: &[u8]) -> u64
+    requires { ⌜ length (now f) ≤ 65536 ⌝ }
+    ensures { λ r. ⌜ (r ≡ frameBits (now (f .entry))) × (r ≤ 0x80_0000_0000) ⌝ }
+{
+    let group = to_group(f);
+    let broadcast = address::is_broadcast(f);
+    let tags = fields::tag_count(f);
+    let b38 = flag(!group, 0x40_0000_0000);
+    let b37 = flag(is_multicast(group, broadcast), 0x20_0000_0000);
+    let b36 = flag(broadcast, 0x10_0000_0000);
+    let b34 = flag(control::is_control_frame(f), 0x4_0000_0000);
+    let b33 = flag(tags == 1, 0x2_0000_0000);
+    let b32 = flag(2 <= tags, 0x1_0000_0000);
+    b38 + b37 + b36 + b34 + b33 + b32 + (f.len() as u64) * 0x1_0000
+}
+
+// The number of data octets.
+fn data_length(f: &[u8]) -> u64
+    requires { ⌜ length (now f) ≤ 65536 ⌝ }
+    ensures { λ r. ⌜ (r ≡ length (frameData (now (f .entry)))) × (r ≤ 65536) ⌝ }
+{
+    let data = frame::frame_data(f);
+    data.len() as u64
+}
+
+// The status word: 0 for outcomes 1 to 7. Public for this repository's crates only.
+pub fn status(s: Settings, o: Outcome, f: &[u8]) -> u64
+    requires { ⌜ length (now f) ≤ 65536 ⌝ }
+    ensures { λ r. ⌜ r ≡ status s o (now (f .entry)) ⌝ }
+{
+    match o {
+        Outcome::PauseTaken => 0x8_0000_0000 + frame_bits(f) + data_length(f),
+        Outcome::PfcTaken => 0x80_0000_0000 + frame_bits(f) + data_length(f),
+        Outcome::ControlDropped => frame_bits(f) + data_length(f),
+        Outcome::HandedOut => frame_bits(f) + (frame::handed_length(s.checking, f) as u64),
+        _ => 0,
+    }
+}
