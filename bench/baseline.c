@@ -1,8 +1,8 @@
 /*
  * A reader in C to compare with, as one writes it for speed with what is at hand: memchr for the next Start and for the end of a
  * long run, words of eight octets for that of a short one, and a CRC that is zlib's (with ZLIB) or one of its own by slicing by 16.
- * It follows document 01 with the printing program's settings, but for the limit M, which is named, and it counts outcomes.
- * Little-endian only.
+ * It follows document 01 and item 1 of document 02 with the printing program's settings, but for the limit M, which is named, and it
+ * counts outcomes. Little-endian only.
  */
 #include <stddef.h>
 #include <stdint.h>
@@ -15,7 +15,7 @@
 #define NAME(x) baseline_slicing_##x
 #endif
 
-enum { START = 0xFB, TERMINATE = 0xFD };
+enum { START = 0xFB, TERMINATE = 0xFD, MOST_TAGS = 8 };
 
 enum {
   CUT,
@@ -170,14 +170,14 @@ static int outcome(size_t limit, const uint8_t *run, size_t length, uint8_t by)
   if (size < 64)
     return UNDERSIZED;
   unsigned field = high_first(frame + 12);
-  int tagged = field == 0x8100;
   int control = field == 0x8808;
-  size_t header = 14;
-  if (tagged) {
-    field = high_first(frame + 16);
-    header = 18;
-    limit += 4;
+  size_t tags = 0;
+  while ((field == 0x8100 || field == 0x88A8) && tags < MOST_TAGS) {
+    tags++;
+    field = high_first(frame + 12 + 4 * tags);
   }
+  size_t header = 14 + 4 * tags;
+  limit += 4 * tags;
   if (size > limit)
     return OVERSIZED;
   uint32_t last;

@@ -82,17 +82,21 @@ enum {
   FENHAMPER_HANDED_OUT = 11
 };
 
-/* Why a call was refused: the lowest number that holds. A refused call leaves the state and every symbol. */
+/*
+ * Why a call was refused: the first that holds, in the order of their numbers, but that 10 is tested after 6
+ * and before 7. A refused call leaves the state and every symbol.
+ */
 enum {
   FENHAMPER_BAD_SETTINGS = 1, /* own address is a group, listed count above 4, or M out of range */
   FENHAMPER_BAD_BUFFERS = 2,  /* octets and marks differ in length, or exceed FENHAMPER_SYMBOLS */
   FENHAMPER_BAD_PLACE = 3,    /* place beyond the buffers' length */
   FENHAMPER_OTHER_FLOW = 4,   /* pause or PFC asked in another flow mode */
   FENHAMPER_BAD_CLASS = 5,    /* class above 7 */
-  FENHAMPER_BAD_TYPE = 6,     /* type under 1536, or 0x8100 or 0x8808 */
+  FENHAMPER_BAD_TYPE = 6,     /* type under 1536, or 0x8100, 0x8808 or 0x88A8 */
   FENHAMPER_LONG_DATA = 7,    /* data over 1500 (length form), or over M - 18 (type form) */
   FENHAMPER_NO_ROOM = 8,      /* too few symbols from the place to the end of the buffers */
-  FENHAMPER_HELD = 9          /* a client frame, and the timer of its class is above zero */
+  FENHAMPER_HELD = 9,         /* a client frame, and the timer of its class is above zero */
+  FENHAMPER_MANY_TAGS = 10    /* more than FENHAMPER_MOST_TAGS tags */
 };
 
 /* Whether a reading found a Start whose run ends inside the capture. */
@@ -108,6 +112,22 @@ enum { FENHAMPER_COUNTED = 0, FENHAMPER_NONE = 1, FENHAMPER_OPEN = 2 };
 #define FENHAMPER_READING_STATUS 5  /* the status word; 0 unless counted */
 #define FENHAMPER_READING_AT 6      /* the client data: from this place in octets on, */
 #define FENHAMPER_READING_LENGTH 7  /* so many octets, 0 possible for outcome 11; else 0 and 0 */
+
+/*
+ * The bits of the status word, by their numbers. Bits 31 to 16 are the frame's octets from destination to FCS,
+ * bits 15 to 0 those of its data (handed out for outcome 11; all of it for 8 to 10). For outcomes 1 to 7 the
+ * whole word is 0.
+ */
+enum {
+  FENHAMPER_STATUS_PFC = 39,       /* PFC taken */
+  FENHAMPER_STATUS_UNICAST = 38,   /* to one station */
+  FENHAMPER_STATUS_MULTICAST = 37, /* to a group other than broadcast */
+  FENHAMPER_STATUS_BROADCAST = 36, /* to all */
+  FENHAMPER_STATUS_PAUSE = 35,     /* pause taken */
+  FENHAMPER_STATUS_CONTROL = 34,   /* a control frame */
+  FENHAMPER_STATUS_TAGGED = 33,    /* exactly one tag */
+  FENHAMPER_STATUS_STACKED = 32    /* two tags or more */
+};
 
 /* Read the first Start at `place` or later: its outcome is counted, and a pause or PFC frame sets timers. */
 void fenhamper_read(const uint8_t settings[FENHAMPER_SETTINGS], uint64_t state[FENHAMPER_STATE],
@@ -143,10 +163,15 @@ void fenhamper_walk(const uint8_t settings[FENHAMPER_SETTINGS], uint64_t state[F
  *    6         class (above 7: refusal 5)
  *    7         form: 0 the data's length, anything else a type
  *    8, 9      the type, high octet first; not looked at in the length form
- *   10         tags: 0 none, anything else one
- *   11 to 13   not looked at
- *   14, 15     the tag control, high octet first; not looked at without a tag
- *   16 to 43   kept for more tags; not looked at
+ *   10         how many of the tags below count, from the front (above 8: refusal 10)
+ *   11         not looked at
+ *   12 to 43   eight tags of 4 octets, the outermost first; those beyond the count are not looked at
+ *
+ * Of each tag:
+ *
+ *    0         its kind: 0 for 0x8100, anything else for 0x88A8
+ *    1         not looked at
+ *    2, 3      its tag control, high octet first
  */
 #define FENHAMPER_CLIENT 44
 #define FENHAMPER_CLIENT_DESTINATION 0
@@ -154,7 +179,14 @@ void fenhamper_walk(const uint8_t settings[FENHAMPER_SETTINGS], uint64_t state[F
 #define FENHAMPER_CLIENT_FORM 7
 #define FENHAMPER_CLIENT_TYPE 8
 #define FENHAMPER_CLIENT_TAGS 10
-#define FENHAMPER_CLIENT_TAG_CONTROL 14
+#define FENHAMPER_CLIENT_TAG 12 /* tag k is at FENHAMPER_CLIENT_TAG + FENHAMPER_TAG * k */
+
+#define FENHAMPER_TAG 4
+#define FENHAMPER_TAG_KIND 0
+#define FENHAMPER_TAG_CONTROL 2
+#define FENHAMPER_MOST_TAGS 8
+
+enum { FENHAMPER_TAG_CUSTOMER = 0, FENHAMPER_TAG_SERVICE = 1 }; /* 0x8100, 0x88A8 */
 
 /* Write a client frame and its gap from `place` on. */
 void fenhamper_send_client(const uint8_t settings[FENHAMPER_SETTINGS], uint64_t state[FENHAMPER_STATE],

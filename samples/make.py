@@ -9,23 +9,24 @@ from pathlib import Path
 HERE = Path(__file__).resolve().parent
 sys.dont_write_bytecode = True  # nothing but the samples is written into the repository
 sys.path.insert(0, str(HERE.parent / "tools" / "oracle"))
-from model import (BROADCAST, ERROR, IDLE, PRINTING, START, TERMINATE, Client, client_symbols, high_first, idle_symbols, on_line,  # noqa: E402
-                   pause_symbols, pfc_symbols, printed, records)
+from model import (BROADCAST, CONTROL, CUSTOMER, ERROR, IDLE, PRINTING, SERVICE, START, TERMINATE, Client, client_symbols, high_first,  # noqa: E402
+                   idle_symbols, on_line, pause_symbols, pfc_symbols, printed, records)
 
 US = PRINTING.own
 PEER = replace(PRINTING, own=[0x02, 0, 0, 0, 0, 0x09])  # the station at the other end: the source of every frame here
 OTHER = [0x02, 0, 0, 0, 0, 0x02]
 IPV4, ARP = 0x0800, 0x0806
-TAG = 0x2005  # priority 1, VLAN 5
+TAG = (CUSTOMER, 0x2005)  # priority 1, VLAN 5
+OUTER_TAG = (SERVICE, 0x2064)  # a provider's: priority 1, VLAN 100
 PEER_IP, OUR_IP = bytes([192, 0, 2, 9]), bytes([192, 0, 2, 1])  # from the block for documentation
 
 
 # ---- Frames, each as the symbols from its Start to its eleventh Idle
 
 
-def client(data, to=US, tag=None, kind=None):
+def client(data, to=US, tags=(), kind=None):
     """In the length form unless `kind` is a type; the model pads it and adds the FCS."""
-    return client_symbols(PEER, Client(to, tag, kind, 0, list(data)))
+    return client_symbols(PEER, Client(to, list(tags), kind, 0, list(data)))
 
 
 def raw(field, data):
@@ -74,7 +75,7 @@ def first():
         + client(b"right behind the damage")
         + client(b"not for us", to=OTHER)
         + pause_symbols(PEER, 0xFFFF)
-        + client(echo_request(4), tag=TAG, kind=IPV4)
+        + client(echo_request(4), tags=[TAG], kind=IPV4)
     )
 
 
@@ -89,6 +90,18 @@ def outcomes():
         + client(b"filter", to=OTHER)  # 7
         + pfc_symbols(PEER, 0xFF, [1] * 8)  # 10: 8 and 9 need another flow mode than the program's, which is none
         + client(b"client")  # 11
+    )
+
+
+def tags():
+    return (
+        client(b"one tag", tags=[TAG])
+        + client(b"one tag", tags=[OUTER_TAG])
+        + client(b"a provider's tag outside", tags=[OUTER_TAG, TAG])
+        + client(b"a provider's tag inside", tags=[TAG, OUTER_TAG])
+        + client(b"eight tags", tags=[OUTER_TAG, TAG] * 4)
+        + client(b"nine tags", tags=[OUTER_TAG, TAG] * 4 + [TAG])  # no sender writes it: the ninth is a type, and all behind it is data
+        + client(b"\x00\x01\xff\xff", tags=[OUTER_TAG, TAG], kind=CONTROL)  # as a pause frame, but behind tags: a type
     )
 
 
@@ -118,6 +131,7 @@ def samples():
         "first": records(first()),
         "example": bytes.fromhex("01 FB 01 07 01 FB 00 55 01 FD"),  # document 01, "The printing program"
         "outcomes": records(outcomes()),
+        "tags": records(tags()),
         "open": records(half_a_frame()),
         "empty": b"",
         "odd": records(client(b"and a mark without its octet")) + b"\x01",

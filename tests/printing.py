@@ -18,8 +18,8 @@ ROOT = Path(__file__).resolve().parent.parent
 sys.dont_write_bytecode = True  # nothing is written into the repository
 sys.path[:0] = [str(ROOT / "tools" / "oracle"), str(ROOT / "samples")]
 import make  # noqa: E402
-from model import (BROADCAST, IDLE, MOST_RECORDS, PREAMBLE, PRINTING, RESERVED_GROUP, START, TERMINATE, fcs, high_first, on_line,  # noqa: E402
-                   printed, records)
+from model import (BROADCAST, IDLE, MOST_RECORDS, PREAMBLE, PRINTING, RESERVED_GROUP, START, TAG_KINDS, TERMINATE, fcs, high_first,  # noqa: E402
+                   on_line, printed, records)
 
 SLOW = 5  # seconds that 32,768 Starts may take: far above what they do, so that no busy machine fails this
 HANGS = 60  # seconds after which a program is given up
@@ -66,12 +66,18 @@ def edges():
     }
 
 
+def drawn_tags(rng):
+    """Most frames have none; the others one to eight of both kinds, or more, of which the ninth is a type."""
+    n = rng.choice([0] * 10 + [1, 1, 1, 2, 2, 3, 7, 8, 8, 9, 10])
+    return [octet for _ in range(n) for octet in high_first(rng.choice(TAG_KINDS)) + high_first(rng.choice([7, 0x8100, 0x88A8, 0x8808]))]
+
+
 def drawn_frame(rng):
     to = rng.choice([PRINTING.own, PRINTING.own, BROADCAST, RESERVED_GROUP, [2, 0, 0, 0, 0, 2]])
-    tag = rng.choice([[], [], [0x81, 0, 0, 7]])
+    tags = drawn_tags(rng)
     n = rng.choice([45, 46, 46, 47, 100, 1500, 1501])
-    field = rng.choice([0x0800, 0x8808, n, 0, 45, 1501, 1535, 1536])
-    covered = to + SOURCE + tag + high_first(field) + [rng.randrange(256) for _ in range(n)]
+    field = rng.choice([0x0800, 0x8808, n, 0, 45, 1501, 1535, 1536, 0x8100, 0x88A8])
+    covered = to + SOURCE + tags + high_first(field) + [rng.randrange(256) for _ in range(n)]
     check = fcs(covered)
     if rng.random() < 0.1:
         check[rng.randrange(4)] ^= 1 << rng.randrange(8)

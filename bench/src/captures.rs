@@ -219,7 +219,7 @@ fn back_to_back(random: &mut Random, limit: u16, sizes: &[usize]) -> Line {
     let (settings, mut state) = (reference_settings(limit), State::default());
     let client = Client {
         dest: OWN,
-        tag: None,
+        tags: Vec::new(),
         form: Form::Type(TYPE),
         class: 0,
     };

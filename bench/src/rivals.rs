@@ -318,7 +318,7 @@ impl Rival for IndependentSender<'_> {
     fn run(&mut self) -> Tally {
         let client = Client {
             dest: OWN,
-            tag: None,
+            tags: Vec::new(),
             form: Form::Type(TYPE),
             class: 0,
         };

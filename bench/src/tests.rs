@@ -41,13 +41,15 @@ fn frame(random: &mut Random) -> Vec<u8> {
     let other = [0x02, 0, 0, 0, 0, 2];
     let mut frame = one(random, &[OWN, OWN, OWN, [0xFF; 6], group, other]).to_vec();
     frame.extend(other);
-    if random.below(3) == 0 {
-        frame.extend([0x81, 0x00, 0x20, 0x05]);
+    for _ in 0..one(random, &[0, 0, 0, 0, 1, 1, 2, 3, 8, 9]) {
+        let kind: u16 = one(random, &[0x8100, 0x88A8]);
+        frame.extend(kind.to_be_bytes());
+        frame.extend([0x20, 0x05]);
     }
     let field: u16 = one(
         random,
         &[
-            0, 10, 45, 46, 47, 100, 1500, 1501, 1535, 1536, 0x0800, 0x8100, 0x8808, 0x8808,
+            0, 10, 45, 46, 47, 100, 1500, 1501, 1535, 1536, 0x0800, 0x8100, 0x88A8, 0x8808, 0x8808,
         ],
     );
     frame.extend(field.to_be_bytes());

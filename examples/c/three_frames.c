@@ -25,7 +25,7 @@ static const struct {
 } expected[FRAMES] = {
     {0, 72, FENHAMPER_HANDED_OUT, UINT64_C(0x400040000F), 15},
     {84, 156, FENHAMPER_WRONG_FCS, 0, 0},
-    {168, 294, FENHAMPER_HANDED_OUT, UINT64_C(0x4000760064), 100},
+    {168, 302, FENHAMPER_HANDED_OUT, UINT64_C(0x41007E0064), 100},
 };
 
 static void fail(const char *what) {
@@ -44,6 +44,17 @@ static void set_up(uint8_t settings[FENHAMPER_SETTINGS], const uint8_t own[6]) {
   settings[FENHAMPER_CHECKING] = 1;
   settings[FENHAMPER_LIMIT] = 1518 >> 8;
   settings[FENHAMPER_LIMIT + 1] = 1518 & 0xFF;
+}
+
+/* One more tag, inside those that the frame has. */
+static void add_tag(uint8_t client[FENHAMPER_CLIENT], uint8_t kind, uint16_t control) {
+  uint8_t *tag;
+  expect(client[FENHAMPER_CLIENT_TAGS] < FENHAMPER_MOST_TAGS, "a frame has too many tags");
+  tag = client + FENHAMPER_CLIENT_TAG + FENHAMPER_TAG * client[FENHAMPER_CLIENT_TAGS];
+  tag[FENHAMPER_TAG_KIND] = kind;
+  tag[FENHAMPER_TAG_CONTROL] = (uint8_t)(control >> 8);
+  tag[FENHAMPER_TAG_CONTROL + 1] = (uint8_t)(control & 0xFF);
+  client[FENHAMPER_CLIENT_TAGS]++;
 }
 
 /* The data as text if all of it can be printed, else its length. */
@@ -70,6 +81,7 @@ int main(void) {
   size_t lengths[FRAMES];
   uint64_t reading[FENHAMPER_READING], walk[FENHAMPER_WALK], sent[FENHAMPER_SENT], part[2];
   size_t place = 0, end, i;
+  int stacked;
 
   set_up(sending, sender_address);
   set_up(receiving, receiver_address);
@@ -79,7 +91,7 @@ int main(void) {
   memset(octets, 0, sizeof octets);
   memset(marks, 0, sizeof marks);
 
-  /* Two texts in the length form, and samples in the type form. */
+  /* Two texts in the length form, and samples in the type form with two tags, a provider's outside. */
   for (i = 0; i < sizeof samples; i++) samples[i] = (uint8_t)i;
   data[0] = (const uint8_t *)"the first frame";
   data[1] = (const uint8_t *)"the second frame";
@@ -95,6 +107,8 @@ int main(void) {
       client[FENHAMPER_CLIENT_FORM] = 1;
       client[FENHAMPER_CLIENT_TYPE] = 0x08;
       client[FENHAMPER_CLIENT_TYPE + 1] = 0x00;
+      add_tag(client, FENHAMPER_TAG_SERVICE, 100);
+      add_tag(client, FENHAMPER_TAG_CUSTOMER, 5);
     }
     fenhamper_send_client(sending, sender, octets, LINE, marks, LINE, place, client, data[i], lengths[i], sent);
     expect(sent[FENHAMPER_SENT_REFUSAL] == 0, "a frame was refused");
@@ -119,12 +133,15 @@ int main(void) {
     expect(reading[FENHAMPER_READING_NEXT] == expected[i].next, "a run ends at another place");
     expect(reading[FENHAMPER_READING_OUTCOME] == expected[i].outcome, "an outcome differs");
     expect(reading[FENHAMPER_READING_STATUS] == expected[i].status, "a status word differs");
+    stacked = (reading[FENHAMPER_READING_STATUS] >> FENHAMPER_STATUS_STACKED & 1) != 0;
+    expect(stacked == (i == 2), "another frame has two tags");
     fenhamper_client_data(end, (size_t)reading[FENHAMPER_READING_AT], (size_t)reading[FENHAMPER_READING_LENGTH], part);
     expect(part[1] == expected[i].length, "the data has another length");
     expect(memcmp(octets + part[0], data[i], (size_t)part[1]) == 0, "the data differs");
     printf("read at %u: outcome %u, %s, status 0x%010" PRIX64 ", ", (unsigned)reading[FENHAMPER_READING_START],
            (unsigned)reading[FENHAMPER_READING_OUTCOME], outcome_names[reading[FENHAMPER_READING_OUTCOME]],
            reading[FENHAMPER_READING_STATUS]);
+    if (stacked) printf("two tags or more, ");
     print_data(octets + part[0], (size_t)part[1]);
     place = (size_t)reading[FENHAMPER_READING_NEXT];
   }

@@ -10,7 +10,8 @@ from typing import Any, List
 
 sys.dont_write_bytecode = True  # nothing is written into the repository
 import model
-from model import BROADCAST, CONTROL, ERROR, IDLE, PREAMBLE, RESERVED_GROUP, START, TERMINATE, Client, Settings, State, high_first
+from model import (BROADCAST, CONTROL, CUSTOMER, ERROR, IDLE, MOST_TAGS, PREAMBLE, RESERVED_GROUP, START, TAG_KINDS, TERMINATE, Client,
+                   Settings, State, high_first)
 
 KINDS = {"refused": 0, "none": 1, "open": 2, "counted": 3}
 
@@ -86,7 +87,7 @@ def sending_numbers(a):
 
 
 def refusal_hits(name, tests):
-    numbers = sorted(n for n, holds in tests if holds)
+    numbers = sorted((n for n, holds in tests if holds), key=model.order)
     hits = {f"{name}: refused {numbers[0]}" if numbers else f"{name}: written"}
     return hits | {f"{name}: refusal {a} before {b}" for a, b in zip(numbers, numbers[1:])}
 
@@ -120,6 +121,10 @@ def settings_hits(name, s, refused):
     return {f"{name}: {reason} refused" for reason, holds in reasons.items() if holds}
 
 
+def tags_said(n):
+    return "untagged" if n == 0 else "1 tag" if n == 1 else f"{n} tags"
+
+
 def answer_client(c):
     k = c.asked
     a = model.client_sending(c.settings, c.state, c.octets, c.marks, c.place, k)
@@ -127,19 +132,24 @@ def answer_client(c):
     hits = common_hits("client", c, len(model.client_symbols(c.settings, k)), tests)
     form = "length" if k.type is None else "type"
     numbers = {n for n, holds in tests if holds}
+    first = model.first(*tests)
     if not numbers:
-        hits.add(f"client: {form} form, {'un' if k.tag is None else ''}tagged")
+        hits.add(f"client: {form} form, {tags_said(len(k.tags))}")
+        if k.tags:
+            hits.add(f"client: {tags_said(len(k.tags))}, {k.tags[0][0]:#06x} outermost")
         if len(k.data) in (0, 45, 46, 47, 1500):
             hits.add(f"client: data {len(k.data)} written")
         if k.cls in (0, 7):
             hits.add(f"client: class {k.cls} written")
         if any(k.cls != n and t for n, t in enumerate(c.state.timers)):
             hits.add("client: written while another class is held")
-    if min(numbers, default=7) == 7:
+    if first == 10:
+        hits.add(f"client: {len(k.tags)} tags refused")
+    if first in (None, 7):
         over = len(k.data) - (1500 if k.type is None else c.settings.limit - 18)
         if over in (0, 1):
             hits.add(f"client: {form} form, data {'at the limit' if over == 0 else 'one over'}")
-    if numbers <= {6} and k.type in (1535, 1536, 0x80FF, 0x8100, 0x8101, 0x8807, 0x8808, 0x8809):
+    if numbers <= {6} and k.type in (1535, 1536, 0x80FF, 0x8100, 0x8101, 0x8807, 0x8808, 0x8809, 0x88A7, 0x88A8, 0x88A9):
         hits.add(f"client: type {k.type:#06x} {'refused' if numbers else 'taken'}")
     return sending_numbers(a), hits
 
@@ -209,10 +219,10 @@ def reading_hits(c, r):
         hits.add(f"reading: frame of {len(run) - 7}")
     if n >= 4:
         f = model.Frame(run[7:])
-        tagged = "tagged" if f.tagged else "untagged"
+        tagged = tags_said(len(f.tags))
         over = len(f.octets) - s.limit
-        if over in (0, 1, 4, 5):
-            hits.add(f"reading: M{over:+d} {tagged}" if over else f"reading: M {tagged}")
+        if over in (0, 1, 4, 5, 8, 9, 32, 33):
+            hits.add(f"reading: M{over:+d}, {tagged}" if over else f"reading: M, {tagged}")
     if n >= 6:
         if s.checking:
             if f.field < 1536:
@@ -230,8 +240,10 @@ def reading_hits(c, r):
         if kind == "broadcast" and BROADCAST in s.listed[:s.count]:
             hits.add(f"reading: listed broadcast, setting {'on' if s.broadcast else 'off'}{', promiscuous' if s.promiscuous else ''}: {n}")
         hits.add(f"reading: {'control' if f.control else 'client'} frame to {kind}{', promiscuous' if s.promiscuous else ''}: {n}")
-        if f.tagged and f.field == CONTROL:
-            hits.add("reading: tagged 0x8808, an ordinary type")
+        if f.tags and f.field == CONTROL:
+            hits.add(f"reading: 0x8808 behind {tagged}, an ordinary type")
+        if n == 11:
+            hits |= tag_hits(f, r.status)
         if f.control and f.opcode in (0x0001, 0x0101) and n > 9:
             hits.add(f"reading: opcode {f.opcode:#06x} in flow mode {s.flow}: not taken")
         if n == 9:
@@ -242,6 +254,19 @@ def reading_hits(c, r):
             hits.add("reading: no data handed out by 11")
         if c.state.counters[n - 1] == 2**32 - 1:
             hits.add("reading: a counter rolls over")
+    return hits
+
+
+def tag_hits(f, status):
+    """What a frame that is handed out hits by its tags."""
+    kinds = [kind for kind, _ in f.tags]
+    hits = {f"reading: {tags_said(len(kinds))}, bits 33 and 32 are {status >> 32 & 3:02b}"}
+    if kinds:
+        hits.add(f"reading: {tags_said(len(kinds))}, {kinds[0]:#06x} outermost")
+    if len(kinds) == 2:
+        hits.add(f"reading: {kinds[0]:#06x} outside {kinds[1]:#06x}")
+    if len(kinds) == MOST_TAGS and f.field in TAG_KINDS:
+        hits.add(f"reading: a ninth tag, {f.field:#06x}, an ordinary type")
     return hits
 
 
@@ -258,6 +283,14 @@ def some(r, n):
 
 def some_address(r, group=False):
     return [r.randrange(128) * 2 + group] + some(r, 5)
+
+
+def some_tags(r, tags):
+    """Tags by their number, of drawn kinds, or by their kinds; "few" draws the number too. One tag control in four would mean something as a field."""
+    if tags == "few":
+        tags = r.choice([1, 1, 1, 2, 2, 3, 8])
+    kinds = [r.choice(TAG_KINDS) for _ in range(tags)] if isinstance(tags, int) else tags
+    return [(kind, r.choice([0, 0x8100, 0x88A8, 0x8808]) if r.random() < 0.25 else r.randrange(65536)) for kind in kinds]
 
 
 def some_settings(r, **given):
@@ -284,7 +317,7 @@ def address_of(r, s, to):
             "past": s.listed[min(s.count, 3)], "near": s.own[:5] + [s.own[5] ^ 1], "group": some_address(r, True), "other": some_address(r)}[to]
 
 
-def frame(r, s, to=None, tag=None, field=None, data=None, control=None, quanta=None, named=None, size=None, fcs=True):
+def frame(r, s, to=None, tags=0, field=None, data=None, control=None, quanta=None, named=None, size=None, fcs=True):
     """A frame from destination to FCS. `size` cuts or stretches it before its FCS is made; `fcs=False` spoils that."""
     d = address_of(r, s, to or r.choice(["own", "own", "listed", "reserved", "broadcast", "other", "group", "near", "past"]))
     if control is not None:
@@ -298,7 +331,7 @@ def frame(r, s, to=None, tag=None, field=None, data=None, control=None, quanta=N
         if data is None:
             data = field if 46 <= field <= 1500 else 46
         body = high_first(field) + some(r, data)
-    octets = d + some_address(r) + ([] if tag is None else [0x81, 0x00] + high_first(tag)) + body
+    octets = d + some_address(r) + [o for tag in some_tags(r, tags) for number in tag for o in high_first(number)] + body
     if size is not None:
         octets = (octets + some(r, size))[:max(0, size - 4)]
     check = model.fcs(octets)
@@ -333,9 +366,7 @@ def make_reading(r, given):
     line = {k: given.pop(k) for k in ("preamble", "ending", "strict") if k in given}
     lead = given.pop("lead", r.choice([0, 0, 1, 3]))
     shape, place, unequal = given.pop("shape", "one"), given.pop("place", None), given.pop("unequal", 0)
-    tag = given.pop("tag", None if r.random() < 0.8 else r.randrange(65536))
-    if tag == "any":
-        tag = r.randrange(65536)
+    tags = given.pop("tags", 0 if r.random() < 0.7 else "few")
     octets, marks = noise(r, lead)
     if shape == "after":  # a Start before the place
         octets, marks = octets + [START], marks + [1]
@@ -343,7 +374,7 @@ def make_reading(r, given):
     if shape == "long":  # buffers of 65,537 Idles, or of 65,536
         octets, marks = [IDLE] * given["n"], [1] * given["n"]
     elif shape != "none":
-        o, m = on_line(r, frame(r, s, tag=tag, **given), **line)
+        o, m = on_line(r, frame(r, s, tags=tags, **given), **line)
         octets, marks = octets + o, marks + m
     if line.get("ending", 0) is not None and shape != "long":
         o, m = noise(r, r.choice([0, 1, 2]))
@@ -367,7 +398,7 @@ def make_walk(r, given):
     octets, marks = noise(r, r.randrange(3))
     for part in given["parts"]:
         if part == "frame":
-            o, m = on_line(r, frame(r, s, to=r.choice(["own", "own", "listed", "reserved"]), field=r.choice([0, 20, 46, 0x0800])))
+            o, m = on_line(r, frame(r, s, to=r.choice(["own", "own", "listed", "reserved"]), tags=r.choice([0, 0, "few"]), field=r.choice([0, 20, 46, 0x0800])))
         elif part == "pause":
             o, m = on_line(r, frame(r, s, to="reserved", control=r.choice([1, 0x0101]), quanta=r.choice([0, 1, 65535])))
         elif part == "wrong":
@@ -430,8 +461,8 @@ def make_client(r, given):
     n = n(s) if callable(n) else n
     data = some(r, n) if n < 200 else [r.randrange(256)] * n
     cls = given.get("cls", r.randrange(8))
-    tag = given["tag"] if "tag" in given else None if r.random() < 0.5 else r.randrange(65536)
-    c = Client(address_of(r, s, given.get("to", r.choice(["own", "other", "broadcast", "group"]))), tag, form, cls, data)
+    tags = some_tags(r, given.get("tags", 0 if r.random() < 0.5 else "few"))
+    c = Client(address_of(r, s, given.get("to", r.choice(["own", "other", "broadcast", "group"]))), tags, form, cls, data)
     needed = len(model.client_symbols(s, c))
     octets, marks, place = room_for(r, needed, given)
     return Case("client", s, state_for(r, given, needed, cls), octets, marks, place, c)
@@ -474,13 +505,13 @@ FAULTS = {1: {"ending": ERROR}, 2: {"preamble": "wrong"}, 3: {"size": 63}, 4: {"
 
 def both(a, b):
     """A recipe with two faults at once: the first rule must win."""
-    return {**FAULTS[b], **FAULTS[a], "tag": None, "settings": {**FAULTS[b].get("settings", {}), **FAULTS[a].get("settings", {})}}
+    return {**FAULTS[b], **FAULTS[a], "tags": 0, "settings": {**FAULTS[b].get("settings", {}), **FAULTS[a].get("settings", {})}}
 
 
 PAIRS = [both(a, b) for a in range(1, 8) for b in range(a + 1, 11)
          if (a, b) not in [(3, 4), (4, 8), (4, 9), (4, 10), (6, 8), (6, 9), (6, 10), (7, 8), (7, 9), (7, 10)]]
 PAIRS += [{**FAULTS[8], "settings": {"flow": "pause", "pass_control": False}}, {**FAULTS[9], "settings": {"flow": "PFC", "pass_control": False}}]
-PAIRS += [{"to": "near", "control": 2, "tag": None, "settings": {"promiscuous": False, "pass_control": False}}]
+PAIRS += [{"to": "near", "control": 2, "tags": 0, "settings": {"promiscuous": False, "pass_control": False}}]
 
 READINGS = (
     [{"settings": x} for x in BAD_SETTINGS]
@@ -493,37 +524,51 @@ READINGS = (
     + [{"size": 63, "fcs": False}]
     + PAIRS
     # the length rule, both sides of each limit, untagged and tagged
-    + [{"to": "own", "tag": t, "field": f, "data": d, "settings": to_own()} for t in (None, "any") for f, d in
+    + [{"to": "own", "tags": t, "field": f, "data": d, "settings": to_own()} for t in (0, 1) for f, d in
        [(0, 46), (1, 46), (44, 46), (45, 46), (45, 47), (46, 46), (46, 47), (47, 47), (47, 46), (60, 60), (60, 61), (60, 59), (0, 47), (1535, 46),
         (1501, 46), (1520, 50), (1536, 46)]]
-    + [{"to": "own", "tag": "any", "field": f, "data": d, "settings": to_own()} for f, d in [(42, 42), (45, 45), (46, 45)]]
+    + [{"to": "own", "tags": 1, "field": f, "data": d, "settings": to_own()} for f, d in [(42, 42), (45, 45), (46, 45)]]
+    + [{"to": "own", "tags": t, "field": f, "data": d, "settings": to_own()} for t in (2, 8) for f, d in
+       [(0, 46), (0, 46 - 4 * t), (45, 46), (45, 47), (46, 46), (46, 47), (47, 47), (47, 46), (1501, 46), (1536, 46)]]
+    # tags: how many, of which kinds, and a ninth
+    + [{"to": "own", "tags": t, "settings": to_own()} for t in (3, 4, 5, 6, 7)]
+    + [{"to": "own", "tags": [a], "field": 0x0800, "settings": to_own()} for a in TAG_KINDS]
+    + [{"to": "own", "tags": [a, b], "field": 0x0800, "settings": to_own()} for a in TAG_KINDS for b in TAG_KINDS]
+    + [{"to": "own", "tags": [a] + [b] * 7, "field": 0x0800, "settings": to_own()} for a, b in (TAG_KINDS, TAG_KINDS[::-1], [CUSTOMER] * 2)]
+    + [{"to": "own", "tags": [b, a] * 4 + [a], "field": 10, "settings": to_own()} for a, b in (TAG_KINDS, TAG_KINDS[::-1])]
+    + [{"to": "own", "tags": t, "size": 64, "settings": to_own()} for t in (2, 8, 12)]
     + [{"to": "own", "field": f, "data": d, "settings": to_own(**OFF)} for f, d in [(0, 46), (45, 47), (60, 61), (1520, 46), (0, 60)]]
     # the address rule
     + [{"to": x, "control": c, "settings": {"promiscuous": p, "checking": True}} for x in ("own", "listed", "past", "near", "other", "group", "reserved")
        for c in (None, 2) for p in (False,)]
     + [{"to": x, "control": c, "settings": {"promiscuous": True, "pass_control": True}} for x in ("other", "broadcast", "reserved") for c in (None, 2)]
     + [{"to": "broadcast", "settings": to_own(broadcast=b, count=4)} for b in (False, True)]
-    + [{"to": "broadcast", "control": 2, "tag": None, "settings": to_own(broadcast=b, count=4, pass_control=p)} for b, p in [(False, True), (True, True), (True, False)]]
+    + [{"to": "broadcast", "control": 2, "tags": 0, "settings": to_own(broadcast=b, count=4, pass_control=p)} for b, p in [(False, True), (True, True), (True, False)]]
     # control frames
-    + [{"to": x, "control": c, "tag": t, "settings": {"flow": m, "promiscuous": False}} for x in ("reserved", "own") for c in (1, 0x0101)
-       for m in ("none", "pause", "PFC") for t in (None,)]
-    + [{"to": "reserved", "control": 1, "tag": None, "quanta": q, "settings": {"flow": "pause"}} for q in (0, 1, 65535)]
-    + [{"to": "reserved", "control": 0x0101, "tag": None, "named": k, "settings": {"flow": "PFC"}} for k in (0, 1, 128, 255, 0x5A)]
-    + [{"to": "own", "control": c, "tag": "any", "settings": to_own(flow="pause")} for c in (1, 0x0101)]
-    + [{"to": "listed", "control": 1, "tag": None, "settings": to_own(flow="pause", count=4, pass_control=p)} for p in (False, True)]
-    + [{"to": "group", "control": 0x0101, "tag": None, "settings": to_own(flow="PFC", pass_control=True)}]
+    + [{"to": x, "control": c, "tags": 0, "settings": {"flow": m, "promiscuous": False}} for x in ("reserved", "own") for c in (1, 0x0101)
+       for m in ("none", "pause", "PFC")]
+    + [{"to": "reserved", "control": 1, "tags": 0, "quanta": q, "settings": {"flow": "pause"}} for q in (0, 1, 65535)]
+    + [{"to": "reserved", "control": 0x0101, "tags": 0, "named": k, "settings": {"flow": "PFC"}} for k in (0, 1, 128, 255, 0x5A)]
+    + [{"to": "own", "control": c, "tags": t, "settings": to_own(flow="pause")} for c in (1, 0x0101) for t in (1, 2)]
+    + [{"to": "reserved", "control": 1, "tags": t, "settings": to_own(flow="pause")} for t in (1, 2, 8)]
+    + [{"to": "listed", "control": 1, "tags": 0, "settings": to_own(flow="pause", count=4, pass_control=p)} for p in (False, True)]
+    + [{"to": "group", "control": 0x0101, "tags": 0, "settings": to_own(flow="PFC", pass_control=True)}]
     + [{}] * 12
 )
 # few of these: a thousand octets and more, whose check antt computes in seconds
 LARGE_READINGS = [
-    {"to": "own", "tag": None, "field": 0x0800, "size": 1518, "settings": to_own(limit=1518)},
-    {"to": "own", "tag": "any", "field": 0x0800, "size": 1522, "settings": to_own(limit=1518)},
-    {"to": "own", "tag": None, "field": 0x0800, "size": 1519, "settings": to_own(limit=1518)},
-    {"to": "own", "tag": "any", "field": 0x0800, "size": 1523, "settings": to_own(limit=1518)},
-    {"to": "own", "tag": None, "field": 0x0800, "size": 1522, "settings": to_own(limit=1518)},
-    {"to": "own", "tag": None, "field": 1500, "data": 1500, "settings": to_own(limit=9618)},
-    {"to": "own", "tag": None, "field": 1500, "data": 1501, "settings": to_own(limit=9618)},
-    {"to": "own", "tag": None, "field": 1501, "data": 1501, "settings": to_own(limit=9618)},
+    {"to": "own", "tags": 0, "field": 0x0800, "size": 1518, "settings": to_own(limit=1518)},
+    {"to": "own", "tags": 1, "field": 0x0800, "size": 1522, "settings": to_own(limit=1518)},
+    {"to": "own", "tags": 0, "field": 0x0800, "size": 1519, "settings": to_own(limit=1518)},
+    {"to": "own", "tags": 1, "field": 0x0800, "size": 1523, "settings": to_own(limit=1518)},
+    {"to": "own", "tags": 2, "field": 0x0800, "size": 1526, "settings": to_own(limit=1518)},
+    {"to": "own", "tags": 2, "field": 0x0800, "size": 1527, "settings": to_own(limit=1518)},
+    {"to": "own", "tags": 8, "field": 0x0800, "size": 1550, "settings": to_own(limit=1518)},
+    {"to": "own", "tags": 9, "field": 0x0800, "size": 1551, "settings": to_own(limit=1518)},
+    {"to": "own", "tags": 0, "field": 0x0800, "size": 1522, "settings": to_own(limit=1518)},
+    {"to": "own", "tags": 0, "field": 1500, "data": 1500, "settings": to_own(limit=9618)},
+    {"to": "own", "tags": 0, "field": 1500, "data": 1501, "settings": to_own(limit=9618)},
+    {"to": "own", "tags": 0, "field": 1501, "data": 1501, "settings": to_own(limit=9618)},
     {"shape": "long", "n": 65537, "place": 65530},
     {"shape": "long", "n": 65536, "place": 65530},
 ]
@@ -540,22 +585,26 @@ CONTROLS += [{"settings": BAD_SETTINGS[0], "unequal": True}, {"settings": BAD_SE
 M_18 = {"limit": 1518}
 CLIENTS = (
     CONTROLS + [{"settings": {"limit": x}} for x in (1518, 9618)] + [{"place": 5, "room": "more"}]
-    + [{"data": n, "tag": t} for n in (0, 45, 46, 47) for t in (None, 7, 0xFFFF)]
-    + [{"data": n, "type": 0x0800, "tag": t} for n in (0, 46, 47) for t in (None, 7)]
-    + [{"type": t} for t in (0, 1535, 1536, 0x8100, 0x8808, 0x80FF, 0x8101, 0x8807, 0x8809, 0xFFFF)]
+    + [{"data": n, "tags": t} for n in (0, 45, 46, 47) for t in (0, 1, 2)]
+    + [{"data": n, "type": 0x0800, "tags": t} for n in (0, 46, 47) for t in (0, 1)]
+    + [{"type": t, "tags": 2} for t in (None, 0x0800)] + [{"type": t, "tags": 8} for t in (None, 0x0800)] + [{"tags": t} for t in (3, 4, 5, 6, 7)]
+    + [{"tags": [a]} for a in TAG_KINDS] + [{"tags": [a, b]} for a, b in (TAG_KINDS, TAG_KINDS[::-1])]
+    + [{"tags": [a] + [b] * 7} for a, b in (TAG_KINDS, TAG_KINDS[::-1])] + [{"tags": t, "type": None, "data": 9} for t in (9, 12, 255)]
+    + [{"type": t} for t in (0, 1535, 1536, 0x8100, 0x8808, 0x88A8, 0x80FF, 0x8101, 0x8807, 0x8809, 0x88A7, 0x88A9, 0xFFFF)]
     + [{"cls": k} for k in (0, 7, 8, 255)] + [{"held": True}, {"held": True, "cls": 0}, {"held": True, "cls": 7}]
     # two refusals at once
     + [{"settings": BAD_SETTINGS[0], "cls": 8}, {"beyond": True, "cls": 8}, {"unequal": True, "held": True}, {"beyond": True, "held": True}]
     + [{"cls": 8, "type": 5}, {"cls": 9, "room": "short"}, {"type": 0x8100, "room": "short"}, {"type": 0x8100, "held": True}, {"room": "short", "held": True}]
     + [{"cls": 8, "data": 1501, "type": None, "place": 0}, {"beyond": True, "type": 5}]
+    + [{"tags": 9, "type": 0x88A8}, {"tags": 9, "cls": 8}, {"tags": 9, "type": 0x0800, "room": "short"}, {"tags": 9, "type": None, "held": True}]
     + [{}] * 6
 )
 # the data may be long while no check is computed: refused for its length or for room
 LARGE_CLIENTS = [
-    {"data": 1500, "type": None, "room": "exact", "tag": None}, {"data": 1501, "type": None, "n": 3, "place": 0, "settings": {"limit": 9618}},
-    {"data": 1500, "type": 0x0800, "settings": M_18, "tag": 5}, {"data": 1501, "type": 0x0800, "n": 3, "place": 0, "settings": M_18},
+    {"data": 1500, "type": None, "room": "exact", "tags": 0}, {"data": 1501, "type": None, "n": 3, "place": 0, "settings": {"limit": 9618}},
+    {"data": 1500, "type": 0x0800, "settings": M_18, "tags": 8}, {"data": 1501, "type": 0x0800, "n": 3, "place": 0, "settings": M_18},
     {"data": 1501, "type": 1535, "n": 3, "place": 0, "settings": M_18}, {"data": 1501, "type": 0x0800, "n": 3, "place": 0, "held": True, "settings": M_18},
-    {"data": 9601, "type": 0x0800, "n": 3, "place": 0, "settings": {"limit": 9618}}, {"data": 1501, "type": None, "room": "exact", "settings": M_18},
+    {"data": 9601, "type": 0x0800, "n": 3, "place": 0, "tags": 9, "settings": {"limit": 9618}}, {"data": 1501, "type": None, "room": "exact", "settings": M_18},
 ]
 FLOWS = [{"settings": {"flow": m}} for m in ("none", "pause", "PFC")]
 FLOWS += [{"settings": {"flow": "none"}, "room": "short"}, {"settings": {"flow": "none"}, "beyond": True}]
@@ -594,28 +643,36 @@ def generate(n, seed) -> List[Case]:
 MUST = (
     ["reading: none", "reading: open"] + [f"reading: outcome {n}" for n in range(1, 12)] + [f"reading: refused {n}" for n in (1, 2, 3)]
     + ["walk: ends none", "walk: ends open", "walk: refused 1", "walk: refused 2", "walk: a Start that ended the run before it"]
-    + [f"client: refused {n}" for n in (1, 2, 3, 5, 6, 7, 8, 9)] + [f"{c}: refused {n}" for c in ("pause", "pfc") for n in (1, 2, 3, 4, 8)]
+    + [f"client: refused {n}" for n in (1, 2, 3, 5, 6, 7, 8, 9, 10)] + [f"{c}: refused {n}" for c in ("pause", "pfc") for n in (1, 2, 3, 4, 8)]
     + [f"idle: refused {n}" for n in (2, 3, 8)] + [f"{c}: written" for c in ("client", "pause", "pfc", "idle")]
     + [f"{c}: {x} refused" for c in ("reading", "client", "pause", "pfc") for x in ("group bit", "count 5", "M 1517", "M 9619")]
     + [f"{c}: M {x} taken" for c in ("reading", "client") for x in (1518, 9618)]
     + [f"{c}: room {x}" for c in ("client", "pause", "pfc", "idle") for x in ("exact", "one short")]
     + [f"{c}: place beyond the length" for c in ("client", "pause", "pfc", "idle")] + ["reading: place at the length", "idle: place at the length"]
     + ["reading: unequal buffers", "reading: too long buffers", "idle: too long buffers"]
-    + [f"reading: frame of {n}" for n in (63, 64)] + ["reading: M untagged", "reading: M+1 untagged", "reading: M+4 tagged", "reading: M+5 tagged"]
-    + ["reading: M+4 untagged"]
-    + [f"reading: field {x}, {t}" for t in ("untagged", "tagged") for x in ("0 kept", "45 kept", "45 broken", "46 kept", "46 broken", "47 kept", "47 broken",
+    + [f"reading: frame of {n}" for n in (63, 64)]
+    + [f"reading: M{x}" for x in (", untagged", "+1, untagged", "+4, untagged", "+4, 1 tag", "+5, 1 tag", "+8, 2 tags", "+9, 2 tags", "+32, 8 tags", "+33, 8 tags")]
+    + [f"reading: field {x}, {t}" for t in ("2 tags", "8 tags") for x in ("0 kept", "0 broken", "45 kept", "45 broken", "46 kept", "46 broken", "47 kept",
+       "47 broken", "1501 broken")]
+    + [f"reading: {n}, bits 33 and 32 are {x}" for n, x in [("untagged", "00"), ("1 tag", "10"), ("2 tags", "01"), ("3 tags", "01"), ("8 tags", "01")]]
+    + [f"reading: {n}, {x:#06x} outermost" for n in ("1 tag", "2 tags", "8 tags") for x in TAG_KINDS]
+    + [f"reading: {a:#06x} outside {b:#06x}" for a in TAG_KINDS for b in TAG_KINDS] + [f"reading: a ninth tag, {x:#06x}, an ordinary type" for x in TAG_KINDS]
+    + [f"reading: 0x8808 behind {n}, an ordinary type" for n in ("1 tag", "2 tags")]
+    + [f"reading: field {x}, {t}" for t in ("untagged", "1 tag") for x in ("0 kept", "45 kept", "45 broken", "46 kept", "46 broken", "47 kept", "47 broken",
        "1501 broken", "1535 broken")] + ["reading: field 1500 kept, untagged", "reading: field 1500 broken, untagged", "reading: field 1536, a type"]
-    + ["reading: length field, checking off", "reading: tagged 0x8808, an ordinary type", "reading: data 0xFB in the run", "reading: a counter rolls over"]
+    + ["reading: length field, checking off", "reading: data 0xFB in the run", "reading: a counter rolls over"]
     + ["reading: PFC class named", "reading: PFC class not named"] + [f"reading: pause of {n} quanta" for n in (0, 1, 65535)]
     + [f"reading: ended by {x}" for x in ("Idle", "Start", "Error", "Sequence", "another control octet")]
     + [f"reading: outcome {a} before {b}" for a, b in [(1, 2), (2, 3), (3, 5), (4, 5), (5, 6), (6, 7), (7, 10), (8, 10), (9, 10)]]
     + ["reading: listed broadcast, setting on: 11", "reading: listed broadcast, setting off: 7", "reading: client frame to listed: 11",
        "reading: client frame to listed past the count: 7", "reading: control frame to own: 8", "reading: control frame to reserved group: 8"]
-    + [f"client: {f} form, {t}" for f in ("length", "type") for t in ("tagged", "untagged")] + [f"client: data {n} written" for n in (0, 45, 46, 47, 1500)]
+    + [f"client: {f} form, {t}" for f in ("length", "type") for t in ("untagged", "1 tag", "2 tags", "8 tags")]
+    + [f"client: {n}, {x:#06x} outermost" for n in ("1 tag", "2 tags", "8 tags") for x in TAG_KINDS] + [f"client: {n} tags refused" for n in (9, 255)] + [f"client: data {n} written" for n in (0, 45, 46, 47, 1500)]
     + [f"client: {f} form, data {x}" for f in ("length", "type") for x in ("at the limit", "one over")]
     + ["client: type 0x05ff refused", "client: type 0x0600 taken", "client: type 0x8100 refused", "client: type 0x8808 refused"]
+    + ["client: type 0x88a7 taken", "client: type 0x88a8 refused", "client: type 0x88a9 taken"]
     + [f"client: a timer at n{x} slots" for x in ("-1", "", "+1")] + ["client: written while another class is held", "pfc: class not named with quanta"]
-    + [f"client: refusal {a} before {b}" for a, b in [(1, 2), (2, 3), (3, 5), (5, 6), (6, 7), (7, 8), (8, 9)]]
+    + [f"client: refusal {a} before {b}" for a, b in [(1, 2), (2, 3), (3, 5), (5, 6), (6, 10), (10, 7), (7, 8), (8, 9)]]
     + [f"{c}: refusal {a} before {b}" for c in ("pause", "pfc") for a, b in [(1, 2), (2, 3), (3, 4), (4, 8)]] + ["idle: refusal 2 before 3", "fcs: published value"]
 )
 

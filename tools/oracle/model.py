@@ -1,6 +1,6 @@
-"""An independent model of document 01, written from its text alone and not from the definitions in crates/*/specs.
+"""An independent model of document 01 with item 1 of document 02, written from their text alone and not from the definitions in crates/*/specs.
 
-Each piece stands under the sentence of the document that it renders. The check is zlib's crc32, not a loop of our own.
+Each piece stands under the sentence of the documents that it renders. The check is zlib's crc32, not a loop of our own.
 """
 import zlib
 from dataclasses import dataclass, field, replace
@@ -15,7 +15,11 @@ PREAMBLE = [0x55] * 6 + [0xD5]
 # "broadcast (all ones)"; "The reserved group is 01-80-C2-00-00-01."
 BROADCAST = [0xFF] * 6
 RESERVED_GROUP = [0x01, 0x80, 0xC2, 0x00, 0x00, 0x01]
-TAGGED, CONTROL = 0x8100, 0x8808
+CONTROL = 0x8808
+# Item 1: "a 0x88A8 tag outside a 0x8100 one"; "up to eight tags of either kind"
+CUSTOMER, SERVICE = 0x8100, 0x88A8
+TAG_KINDS = (CUSTOMER, SERVICE)
+MOST_TAGS = 8
 
 
 def is_data(mark: int) -> bool:
@@ -71,9 +75,14 @@ def bad_buffers(octets: List[int], marks: List[int]) -> bool:
     return len(octets) != len(marks) or len(octets) > 65536
 
 
-def lowest(*tests: Tuple[int, bool]) -> Optional[int]:
-    """"Lowest number first." """
-    return min((number for number, holds in tests if holds), default=None)
+def order(refusal: int) -> float:
+    """"Lowest number first."; item 1: "new 10, …, tested after 6 and before 7" """
+    return 6.5 if refusal == 10 else refusal
+
+
+def first(*tests: Tuple[int, bool]) -> Optional[int]:
+    """The refusal that is given."""
+    return min((number for number, holds in tests if holds), key=order, default=None)
 
 
 # ---- FCS
@@ -99,13 +108,14 @@ class Frame:
         self.octets = octets
         self.destination = octets[0:6]
         self.first_field = self.number(12)
-        self.tagged = self.first_field == TAGGED
-        self.field_place = 16 if self.tagged else 12
+        self.tags = self.tag_run(12, MOST_TAGS)
+        # "The length rule and padding act on the field after the last tag."
+        self.field_place = 12 + 4 * len(self.tags)
         self.field = self.number(self.field_place)
         # "Data runs from after the field to before the FCS."
         self.data_place = self.field_place + 2
         self.data = octets[self.data_place:len(octets) - 4]
-        # "First field 0x8808 … A tagged 0x8808 is an ordinary type."
+        # "First field 0x8808 … A tagged 0x8808 is an ordinary type.", however many tags there are
         self.control = self.first_field == CONTROL
         # "the next two octets are the opcode, high octet first"
         self.opcode = self.number(14)
@@ -114,13 +124,19 @@ class Frame:
         """"read high octet first" """
         return int.from_bytes(bytes(self.octets[place:place + 2]), "big")
 
+    def tag_run(self, place: int, most: int) -> List[Tuple[int, int]]:
+        """Kinds and tag controls: "a run that is one tag followed by a shorter run; a ninth is an ordinary type" """
+        if most == 0 or self.number(place) not in TAG_KINDS:
+            return []
+        return [(self.number(place), self.number(place + 2))] + self.tag_run(place + 4, most - 1)
+
     def undersized(self) -> bool:
         """3: "frame under 64 octets" """
         return len(self.octets) < 64
 
     def oversized(self, s: Settings) -> bool:
-        """4: "over the limit M, or M + 4 if tagged" """
-        return len(self.octets) > s.limit + (4 if self.tagged else 0)
+        """4: "over the limit M, or M + 4 if tagged"; item 1: "M grows by 4 for each tag." """
+        return len(self.octets) > s.limit + 4 * len(self.tags)
 
     def wrong_fcs(self) -> bool:
         """5: "last four octets differ from the check"; "It covers destination to the end of data." """
@@ -193,10 +209,10 @@ class Frame:
         everyone = self.destination == BROADCAST
         # "15 to 0 data length (handed out for 11; all of the data for 8, 9 and 10)"
         length = len(self.handed(s)) if outcome == 11 else len(self.data)
-        # "Bit 39 PFC taken; 38 unicast; 37 multicast other than broadcast; 36 broadcast; 35 pause taken; 34 control; 33 tagged; 32 stacked,
-        # always 0 for now; 31 to 16 frame length, destination to FCS"
+        # "Bit 39 PFC taken; 38 unicast; 37 multicast other than broadcast; 36 broadcast; 35 pause taken; 34 control; …; 31 to 16 frame length,
+        # destination to FCS"; item 1: "Status bit 33 means exactly one tag, bit 32 two or more."
         bits = [(39, outcome == 9), (38, not group), (37, group and not everyone), (36, everyone), (35, outcome == 8), (34, self.control),
-                (33, self.tagged)]
+                (33, len(self.tags) == 1), (32, len(self.tags) >= 2)]
         return sum(1 << n for n, on in bits if on) | len(self.octets) << 16 | length
 
 
@@ -241,7 +257,7 @@ def rules_that_hold(s: Settings, run: List[int], by: int) -> List[int]:
 
 def read_refusal(s, octets, marks, place) -> Optional[int]:
     """"Reading can give 1 to 3"; 3: "place beyond the buffers' length" """
-    return lowest((1, bad_settings(s)), (2, bad_buffers(octets, marks)), (3, place > len(octets)))
+    return first((1, bad_settings(s)), (2, bad_buffers(octets, marks)), (3, place > len(octets)))
 
 
 def reading(s: Settings, state: State, octets: List[int], marks: List[int], place: int) -> Reading:
@@ -288,12 +304,19 @@ def walk(s: Settings, state: State, octets: List[int], marks: List[int]) -> List
 
 @dataclass(frozen=True)
 class Client:
-    """"A client frame names a destination, an optional tag control, a form (length, or a type), a class 0 to 7 and data." """
+    """"A client frame names a destination, …, a form (length, or a type), a class 0 to 7 and data."; item 1: "Sending takes up to eight tags
+    with their kinds." No tag may be given as None, and a single 0x8100 tag by its tag control alone."""
     destination: List[int]
-    tag: Optional[int]
+    tags: List[Tuple[int, int]]  # kinds and tag controls, the outermost first
     type: Optional[int]  # none: the length form
     cls: int
     data: List[int]
+
+    def __post_init__(self):
+        if self.tags is None:
+            object.__setattr__(self, "tags", [])
+        if isinstance(self.tags, int):
+            object.__setattr__(self, "tags", [(CUSTOMER, self.tags)])
 
 
 @dataclass
@@ -317,13 +340,13 @@ def on_line(covered: List[int]) -> List[Tuple[int, int]]:
 
 
 def client_symbols(s: Settings, c: Client) -> List[Tuple[int, int]]:
-    tag = [] if c.tag is None else high_first(TAGGED) + high_first(c.tag)
+    tags = [octet for kind, control in c.tags for octet in high_first(kind) + high_first(control)]
     # "In the length form the field is the data's length."
     number = len(c.data) if c.type is None else c.type
     # "Data under 46 octets is padded with zeros to 46, tagged or not."
     padded = c.data + [0] * max(0, 46 - len(c.data))
     # "Source is the own address."
-    return on_line(c.destination + s.own + tag + high_first(number) + padded)
+    return on_line(c.destination + s.own + tags + high_first(number) + padded)
 
 
 def pause_symbols(s: Settings, quanta: int) -> List[Tuple[int, int]]:
@@ -361,16 +384,17 @@ def common(octets, marks, place, needed) -> List[Tuple[int, bool]]:
 
 
 def client_refusals(s, state, octets, marks, place, c: Client) -> List[Tuple[int, bool]]:
-    """"client sending 1 to 3 and 5 to 9" """
+    """"client sending 1 to 3 and 5 to 9"; item 1: "Refusals: 6 also for type 0x88A8; new 10, more than eight tags" """
     most = 1500 if c.type is None else s.limit - 18
     # "type form under 1536, or 0x8100 or 0x8808"
-    bad_type = c.type is not None and (c.type < 1536 or c.type in (TAGGED, CONTROL))
+    bad_type = c.type is not None and (c.type < 1536 or c.type == CONTROL or c.type in TAG_KINDS)
     return common(octets, marks, place, len(client_symbols(s, c))) + [
         (1, bad_settings(s)),
         (5, c.cls > 7),  # "class above 7"
         (6, bad_type),
         (7, len(c.data) > most),  # "data over 1500 (length form) or over M - 18 (type form)"
         (9, c.cls <= 7 and state.timers[c.cls] > 0),  # "client frame, timer of its class above zero"
+        (10, len(c.tags) > MOST_TAGS),
     ]
 
 
@@ -385,19 +409,19 @@ def idle_refusals(octets, marks, place, n) -> List[Tuple[int, bool]]:
 
 
 def client_sending(s, state, octets, marks, place, c: Client) -> Sending:
-    return sent(lowest(*client_refusals(s, state, octets, marks, place, c)), state, octets, marks, place, client_symbols(s, c))
+    return sent(first(*client_refusals(s, state, octets, marks, place, c)), state, octets, marks, place, client_symbols(s, c))
 
 
 def pause_sending(s, state, octets, marks, place, quanta: int) -> Sending:
-    return sent(lowest(*control_refusals(s, octets, marks, place, "pause")), state, octets, marks, place, pause_symbols(s, quanta))
+    return sent(first(*control_refusals(s, octets, marks, place, "pause")), state, octets, marks, place, pause_symbols(s, quanta))
 
 
 def pfc_sending(s, state, octets, marks, place, named: int, quanta: List[int]) -> Sending:
-    return sent(lowest(*control_refusals(s, octets, marks, place, "PFC")), state, octets, marks, place, pfc_symbols(s, named, quanta))
+    return sent(first(*control_refusals(s, octets, marks, place, "PFC")), state, octets, marks, place, pfc_symbols(s, named, quanta))
 
 
 def idle_sending(state, octets, marks, place, n: int) -> Sending:
-    return sent(lowest(*idle_refusals(octets, marks, place, n)), state, octets, marks, place, idle_symbols(n))
+    return sent(first(*idle_refusals(octets, marks, place, n)), state, octets, marks, place, idle_symbols(n))
 
 
 # ---- The printing program

@@ -31,9 +31,10 @@ def line(frame, by=TERMINATE):
     return [(START, 1)] + [(o, 0) for o in PREAMBLE + frame] + [(by, 1)]
 
 
-def frame(to=OWN, field=0x0800, n=46, body=(), tagged=False, bad=0):
+def frame(to=OWN, field=0x0800, n=46, body=(), tagged=False, tags=(), bad=0):
     filler = [(1 + 7 * i) % 256 for i in range(n)]
-    covered = to + SOURCE + (TAG if tagged else []) + high_first(field) + list(body) + filler
+    run = [octet for kind in tags for octet in high_first(kind) + TAG[2:]]
+    covered = to + SOURCE + (TAG if tagged else run) + high_first(field) + list(body) + filler
     wrong = (int.from_bytes(bytes(fcs(covered)), "little") ^ bad).to_bytes(4, "little")
     return covered + list(wrong)
 
@@ -143,6 +144,22 @@ def frame_cases():
         case(f"unchecked, field {field} with {n}", replace(wide, checking=False), frame(field=field, n=n))
 
 
+def tag_cases():
+    s = settings()
+    c, p = 0x8100, 0x88A8
+    for name, tags in [("0x88A8", [p]), ("0x88A8 outside 0x8100", [p, c]), ("0x8100 outside 0x88A8", [c, p]), ("three tags", [p, c, c]), ("eight tags", [p, c] * 4),
+                       ("nine tags", [p] * 9), ("a ninth of 0x8100", [p] * 8 + [c]), ("0x88A9", [0x88A9])]:
+        case(name, s, frame(tags=tags))
+    for n, most in [(2, 1500), (8, 1500), (9, 1496)]:
+        case(f"{n} tags, the limit", s, frame(n=most, tags=[p] * n))
+        case(f"{n} tags, over it", s, frame(n=most + 1, tags=[p] * n))
+    for n in (2, 8):
+        for field, octets in [(45, 46), (45, 47), (46, 46), (46, 47), (100, 100)]:
+            case(f"{n} tags, field {field} with {octets}", s, frame(field=field, n=octets, tags=[p] * n))
+    for tags in [[p], [p, c]]:
+        case(f"pause behind {len(tags)} of 0x88A8 and 0x8100", settings(flow="pause"), frame(RESERVED_GROUP, 0x8808, 42, [0, 1, 0, 5], tags=tags))
+
+
 def address_cases():
     everything = settings(promiscuous=True)
     for name, s, to in [
@@ -230,5 +247,6 @@ def cases():
     line_cases()
     refusal_cases()
     frame_cases()
+    tag_cases()
     address_cases()
     control_cases()

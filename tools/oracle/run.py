@@ -17,6 +17,7 @@ sys.dont_write_bytecode = True
 HERE = Path(__file__).resolve().parent
 sys.path.insert(0, str(HERE))
 import cases as oracle  # noqa: E402
+import model  # noqa: E402
 
 REPOSITORY = HERE.parent.parent
 BATCH, MOST = 50, 30000  # cases to a run of antt, and numbers in their buffers and answers, so that memory stays low
@@ -138,6 +139,13 @@ def state(st):
     return f"(stateOf {numbers(st.counters)} {numbers(st.timers)})"
 
 
+def tags(asked):
+    """An array of eight: those asked for, as far as there is room, and others behind them that do not count."""
+    names = {model.CUSTOMER: "Customer", model.SERVICE: "Service"}
+    eight = (asked + [(model.SERVICE, 0xFFFF)] * model.MOST_TAGS)[:model.MOST_TAGS]
+    return "(" + "".join(f"tagOf {names[kind]} {control} ∷ " for kind, control in eight) + "[])"
+
+
 def call(c):
     """The definition's answer to a case."""
     if c.call == "fcs":
@@ -155,9 +163,8 @@ def call(c):
     if c.call == "pfc":
         return f"givePfc {line}\n    {c.place} (classesOf {c.asked[0]} {numbers(c.asked[1])})"
     k = c.asked
-    tag = "Untagged" if k.tag is None else f"(Tagged {k.tag})"
     form = "ByLength" if k.type is None else f"(ByType {k.type})"
-    return f"giveClient {line}\n    {c.place} (clientOf {numbers(k.destination)} {tag} {form} {k.cls}) {numbers(k.data)}"
+    return f"giveClient {line}\n    {c.place} (clientOf {numbers(k.destination)} {tags(k.tags)} {len(k.tags)} {form} {k.cls}) {numbers(k.data)}"
 
 
 # the fields of an answer, in the order of cases.py: names and how many numbers each has (none: the rest)

@@ -97,6 +97,18 @@ def data_cases():
     client("tag control 0", Call(3), 50, cls=3, to=RESERVED_GROUP, tag=0)
 
 
+def tag_cases():
+    stack = [(0x88A8, 0x2007), (0x8100, 0x2005)]
+    for n in (2, 8):
+        client(f"{n} tags, length 50", Call(3), 50, tag=(stack * 4)[:n])
+        client(f"{n} tags, type with M - 18", Call(3), 1500, 0x86DD, tag=(stack * 4)[:n])
+    client("0x88A8 alone", Call(3), 0, tag=stack[:1])
+    client("eight tags, room exactly", of(116, 0), 46, tag=stack * 4)
+    client("eight tags, one symbol short", of(115, 0), 46, tag=stack * 4)
+    for n in (9, 255):
+        client(f"{n} tags", Call(3), 50, tag=(stack * 128)[:n])
+
+
 def field_cases():
     for c in [7, 8, 255]:
         client(f"class {c}", Call(3), 50, cls=c)
@@ -216,6 +228,10 @@ def order_cases():
     client("client, 3 before 5", Call(1701), 46, cls=8)
     client("client, 5 before 6", Call(3), 46, 1535, cls=8)
     client("client, 6 before 7", Call(3), 1501, 0x8100)
+    client("client, 6 before 10", Call(3), 46, 0x88A8, tag=[(0x8100, 5)] * 9)
+    client("client, 10 before 7", Call(3), 1501, tag=[(0x8100, 5)] * 9)
+    client("client, 10 before 8", Call(1650), 46, tag=[(0x8100, 5)] * 9)
+    client("client, 10 before 9", all_at(1), 46, tag=[(0x8100, 5)] * 9)
     client("client, 7 before 8", Call(1000), 1501)
     client("client, 7 before 9", all_at(1), 1501)
     client("client, 8 before 9", all_at(1, place=1650), 46)
@@ -234,6 +250,7 @@ def order_cases():
 def cases():
     TAPE.place(LONGEST)  # of which all other data is a part
     data_cases()
+    tag_cases()
     field_cases()
     place_cases()
     buffer_cases()

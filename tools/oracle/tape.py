@@ -39,7 +39,7 @@ def settings_octets(s):
 
 
 def client_octets(c):
-    tags = [] if c.tag is None else [(0x8100, c.tag)]
+    tags = c.tags
     head = bytes(c.destination + [c.cls, int(c.type is not None)]) + (c.type or 0).to_bytes(2, "big") + bytes([len(tags), 0])
     run = b"".join(bytes([KINDS[kind], 0]) + control.to_bytes(2, "big") for kind, control in tags[:8])
     return (head + run).ljust(44, b"\0")

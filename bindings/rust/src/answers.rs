@@ -1,4 +1,5 @@
 //! What a call answers: outcome, refusal, status word.
+use crate::sys;
 use std::error::Error;
 use std::fmt;
 
@@ -19,7 +20,7 @@ pub enum Outcome {
     BadPreamble = 2,
     /// Frame under 64 octets.
     Undersized = 3,
-    /// Over the limit M, or M + 4 if tagged.
+    /// Over the limit M, which grows by 4 for each tag.
     Oversized = 4,
     /// The last four octets differ from the check.
     WrongFcs = 5,
@@ -137,7 +138,7 @@ pub enum Refusal {
     OtherFlow,
     /// 5: class above 7.
     BadClass,
-    /// 6: type under 1536, or 0x8100 or 0x8808.
+    /// 6: type under 1536, or 0x8100, 0x8808 or 0x88A8.
     BadType,
     /// 7: data over 1500 in the length form, or over M - 18 in the type form.
     LongData,
@@ -145,13 +146,15 @@ pub enum Refusal {
     NoRoom,
     /// 9: a client frame, and the timer of its class is above zero.
     Held,
+    /// 10: more than eight tags. It is tested after 6 and before 7.
+    ManyTags,
     /// A number that has no name here, or 0 for an answer that has no meaning here: the archive is
     /// of another version than this face.
     Unknown(u8),
 }
 
 impl Refusal {
-    /// Document 01's number.
+    /// Its number in the documents.
     pub const fn number(self) -> u8 {
         match self {
             Refusal::BadSettings => 1,
@@ -163,6 +166,7 @@ impl Refusal {
             Refusal::LongData => 7,
             Refusal::NoRoom => 8,
             Refusal::Held => 9,
+            Refusal::ManyTags => 10,
             Refusal::Unknown(number) => number,
         }
     }
@@ -179,6 +183,7 @@ impl Refusal {
             Refusal::LongData => "long data",
             Refusal::NoRoom => "no room",
             Refusal::Held => "held",
+            Refusal::ManyTags => "many tags",
             Refusal::Unknown(_) => "unknown",
         }
     }
@@ -192,12 +197,13 @@ impl Refusal {
             Refusal::BadPlace => "place beyond the buffers' length",
             Refusal::OtherFlow => "pause or PFC asked in another flow mode",
             Refusal::BadClass => "class above 7",
-            Refusal::BadType => "type under 1536, or 0x8100 or 0x8808",
+            Refusal::BadType => "type under 1536, or 0x8100, 0x8808 or 0x88A8",
             Refusal::LongData => {
                 "data over 1500 in the length form, or over M - 18 in the type form"
             }
             Refusal::NoRoom => "too few symbols from the place to the end of the buffers",
             Refusal::Held => "the timer of the frame's class is above zero",
+            Refusal::ManyTags => "more than eight tags",
             Refusal::Unknown(_) => "the archive is of another version",
         }
     }
@@ -215,6 +221,7 @@ impl Refusal {
             7 => Refusal::LongData,
             8 => Refusal::NoRoom,
             9 => Refusal::Held,
+            10 => Refusal::ManyTags,
             other => Refusal::Unknown(u8::try_from(other).unwrap_or(u8::MAX)),
         })
     }
@@ -264,42 +271,51 @@ impl Status {
 
     /// Bit 39: PFC taken.
     pub const fn pfc(self) -> bool {
-        self.bit(39)
+        self.bit(sys::STATUS_PFC)
     }
 
     /// Bit 38: to one station.
     pub const fn unicast(self) -> bool {
-        self.bit(38)
+        self.bit(sys::STATUS_UNICAST)
     }
 
     /// Bit 37: to a group other than broadcast.
     pub const fn multicast(self) -> bool {
-        self.bit(37)
+        self.bit(sys::STATUS_MULTICAST)
     }
 
     /// Bit 36: broadcast.
     pub const fn broadcast(self) -> bool {
-        self.bit(36)
+        self.bit(sys::STATUS_BROADCAST)
     }
 
     /// Bit 35: pause taken.
     pub const fn pause(self) -> bool {
-        self.bit(35)
+        self.bit(sys::STATUS_PAUSE)
     }
 
     /// Bit 34: a control frame.
     pub const fn control(self) -> bool {
-        self.bit(34)
+        self.bit(sys::STATUS_CONTROL)
     }
 
-    /// Bit 33: tagged.
+    /// Bit 33: exactly one tag.
+    ///
+    /// ```
+    /// use fenhamper::Status;
+    ///
+    /// // no tag, one tag, two tags or more
+    /// let words = [0x4000400000, 0x4200440000, 0x4100480000].map(Status::new);
+    /// assert_eq!(words.map(Status::tagged), [false, true, false]);
+    /// assert_eq!(words.map(Status::stacked), [false, false, true]);
+    /// ```
     pub const fn tagged(self) -> bool {
-        self.bit(33)
+        self.bit(sys::STATUS_TAGGED)
     }
 
-    /// Bit 32: stacked tags, always false for now.
+    /// Bit 32: two tags or more.
     pub const fn stacked(self) -> bool {
-        self.bit(32)
+        self.bit(sys::STATUS_STACKED)
     }
 
     /// Bits 31 to 16: octets from destination to FCS.

@@ -75,7 +75,7 @@ fn numbers_are_the_headers() {
             u64::from(outcome.number()),
         );
     }
-    for number in 1..=9 {
+    for number in 1..=10 {
         let refusal = Refusal::check(number).unwrap_err();
         assert_eq!(u64::from(refusal.number()), number);
         ours.insert(in_capitals(&format!("{refusal:?}")), number);

@@ -13,6 +13,7 @@ mod send;
 mod settings;
 mod state;
 mod sys;
+mod tag;
 
 #[cfg(test)]
 mod header;
@@ -23,6 +24,7 @@ pub use receive::{Capture, Counted, Reading, Readings, Walk};
 pub use send::{Frame, Sender};
 pub use settings::{Address, Flow, Settings};
 pub use state::State;
+pub use tag::{Tag, TagKind};
 
 /// The most symbols that a call takes: longer buffers get refusal 2.
 ///

@@ -4,27 +4,29 @@ use crate::receive::Capture;
 use crate::settings::{Address, Settings};
 use crate::state::State;
 use crate::sys;
+use crate::tag::Tag;
 
 /// A client frame but for its data: untagged, in the length form and of class 0 unless said
 /// otherwise. Its source is the own address.
 ///
-/// Any frame can be named; one that document 01 does not allow is refused when it is sent.
+/// Any frame can be named; one that the rules do not allow is refused when it is sent.
 ///
 /// ```
-/// use fenhamper::{Address, Frame};
+/// use fenhamper::{Address, Frame, Tag};
 ///
 /// let to = Address([0x02, 0, 0, 0, 0, 9]);
 /// assert_eq!(Frame::to(to), Frame::to(to).by_length().class(0));
-/// assert_ne!(
-///     Frame::to(to),
-///     Frame::to(to).tag(0xE005).by_type(0x0800).class(7)
-/// );
+/// let tagged = Frame::to(to).tag(Tag::customer(0xE005));
+/// assert_ne!(Frame::to(to), tagged.by_type(0x0800).class(7));
 /// ```
 #[derive(Clone, Copy, Debug, PartialEq, Eq, Hash)]
 #[must_use]
 pub struct Frame {
     to: Address,
-    tag: Option<u16>,
+    // those that count, then `Tag::NONE`
+    tags: [Tag; sys::MOST_TAGS],
+    // how many were named, or 255 if more
+    tag_count: u8,
     by_type: Option<u16>,
     class: u8,
 }
@@ -34,21 +36,78 @@ impl Frame {
     pub const fn to(destination: Address) -> Frame {
         Frame {
             to: destination,
-            tag: None,
+            tags: [Tag::NONE; sys::MOST_TAGS],
+            tag_count: 0,
             by_type: None,
             class: 0,
         }
     }
 
-    /// With a tag of this tag control, in place of one named before. Its priority bits do not name
-    /// the class.
-    pub const fn tag(mut self, control: u16) -> Frame {
-        self.tag = Some(control);
+    /// With one more tag, inside those named before: the first named is the outermost. There is
+    /// room for eight; a frame with more is refused (10). A tag's priority bits do not name the
+    /// class.
+    ///
+    /// ```
+    /// use fenhamper::{Address, Capture, Frame, Reading, Sender, Settings, State, Tag};
+    ///
+    /// let own = Address([0x02, 0, 0, 0, 0, 1]);
+    /// let (settings, mut state) = (Settings::new(own), State::default());
+    /// let (mut octets, mut marks) = ([0; 92], [0; 92]);
+    /// // a provider's tag outside a customer's
+    /// let frame = Frame::to(own)
+    ///     .tag(Tag::service(100))
+    ///     .tag(Tag::customer(5));
+    /// let mut sender = Sender::new(&mut octets, &mut marks);
+    /// sender.client(&settings, &mut state, &frame, b"data")?;
+    /// assert_eq!(octets[20..28], [0x88, 0xA8, 0, 100, 0x81, 0x00, 0, 5]);
+    /// let capture = Capture::new(&octets, &marks);
+    /// let Reading::Counted(r) = capture.read(&settings, &mut state, 0)? else {
+    ///     panic!("no frame")
+    /// };
+    /// assert!(r.status.stacked());
+    /// assert_eq!(r.data, b"data");
+    /// # Ok::<(), fenhamper::Refusal>(())
+    /// ```
+    pub const fn tag(mut self, tag: Tag) -> Frame {
+        let count = self.tag_count as usize;
+        if count < self.tags.len() {
+            self.tags[count] = tag;
+        }
+        self.tag_count = self.tag_count.saturating_add(1);
         self
     }
 
-    /// In the type form: the field is this type. Under 1536, 0x8100 and 0x8808 are refused (6).
-    /// Data under 46 octets comes out at the other end followed by zeros to 46.
+    /// With these tags, the outermost first, in place of those named before. More than eight are
+    /// refused (10).
+    ///
+    /// ```
+    /// use fenhamper::{Address, Frame, Refusal, Sender, Settings, State, Tag};
+    ///
+    /// let to = Frame::to(Address([0x02, 0, 0, 0, 0, 9]));
+    /// let tags = [Tag::service(100), Tag::customer(5)];
+    /// assert_eq!(to.tags(&tags), to.tag(tags[0]).tag(tags[1]));
+    /// assert_eq!(to.tags(&tags).tags(&[]), to);
+    ///
+    /// let (mut octets, mut marks) = ([0; 200], [0; 200]);
+    /// let mut sender = Sender::new(&mut octets, &mut marks);
+    /// let (settings, mut state) = (Settings::default(), State::default());
+    /// let mut send = |tags: &[Tag]| sender.client(&settings, &mut state, &to.tags(tags), b"");
+    /// assert_eq!(send(&[Tag::customer(5); 8]), Ok(84 + 8 * 4));
+    /// assert_eq!(send(&[Tag::customer(5); 9]), Err(Refusal::ManyTags));
+    /// ```
+    pub const fn tags(mut self, tags: &[Tag]) -> Frame {
+        self.tags = [Tag::NONE; sys::MOST_TAGS];
+        self.tag_count = 0;
+        let mut k = 0;
+        while k < tags.len() {
+            self = self.tag(tags[k]);
+            k += 1;
+        }
+        self
+    }
+
+    /// In the type form: the field is this type. Under 1536, 0x8100, 0x8808 and 0x88A8 are refused
+    /// (6). Data under 46 octets comes out at the other end followed by zeros to 46.
     pub const fn by_type(mut self, field: u16) -> Frame {
         self.by_type = Some(field);
         self
@@ -76,9 +135,10 @@ impl Frame {
             octets[sys::CLIENT_FORM] = 1;
             octets[sys::CLIENT_TYPE..][..2].copy_from_slice(&field.to_be_bytes());
         }
-        if let Some(control) = self.tag {
-            octets[sys::CLIENT_TAGS] = 1;
-            octets[sys::CLIENT_TAG_CONTROL..][..2].copy_from_slice(&control.to_be_bytes());
+        octets[sys::CLIENT_TAGS] = self.tag_count;
+        let places = octets[sys::CLIENT_TAG..].chunks_exact_mut(sys::TAG);
+        for (place, tag) in places.zip(self.tags) {
+            place.copy_from_slice(&tag.octets());
         }
         octets
     }
@@ -90,14 +150,15 @@ impl Frame {
 /// written. A refused one leaves the place, the state and every symbol.
 ///
 /// ```
-/// use fenhamper::{Address, Capture, Frame, Sender, Settings, State};
+/// use fenhamper::{Address, Capture, Frame, Sender, Settings, State, Tag};
 ///
 /// let own = Address([0x02, 0, 0, 0, 0, 1]);
 /// let (settings, mut state) = (Settings::new(own), State::default());
 /// let (mut octets, mut marks) = ([0; 200], [0; 200]);
 /// let mut sender = Sender::new(&mut octets, &mut marks);
 /// sender.client(&settings, &mut state, &Frame::to(own), b"one")?;
-/// sender.client(&settings, &mut state, &Frame::to(own).tag(5), b"two")?;
+/// let tagged = Frame::to(own).tag(Tag::customer(5));
+/// sender.client(&settings, &mut state, &tagged, b"two")?;
 /// let end = sender.idle(&mut state, 28)?;
 /// assert_eq!(end, 200);
 /// let walk = Capture::new(&octets, &marks).walk(&settings, &mut state)?;
@@ -166,7 +227,8 @@ impl<'b> Sender<'b> {
 
     /// Writes a client frame and its gap, unless the timer of its class is above zero (9).
     ///
-    /// Refused are 1 to 3 and 5 to 9, the lowest number first.
+    /// Refused are 1 to 3 and 5 to 10, the lowest number first, but that 10 comes after 6 and before
+    /// 7.
     ///
     /// ```
     /// use fenhamper::{Address, Frame, Refusal, Sender, Settings, State};
@@ -291,5 +353,59 @@ impl<'b> Sender<'b> {
         Refusal::check(sent[sys::SENT_REFUSAL])?;
         self.place = sent[sys::SENT_PLACE] as usize;
         Ok(self.place)
+    }
+}
+
+#[cfg(test)]
+mod tests {
+    use super::*;
+
+    // What a record sends, and the answer.
+    fn sent(client: &[u8; sys::CLIENT]) -> ([u64; sys::SENT], [u8; 200]) {
+        let (mut octets, mut marks) = ([0; 200], [0; 200]);
+        let (settings, mut state) = (Settings::default().octets(), State::default());
+        let numbers = state.numbers();
+        let sent = sys::send_client(
+            &settings,
+            numbers,
+            &mut octets,
+            &mut marks,
+            0,
+            client,
+            b"data",
+        );
+        (sent, octets)
+    }
+
+    // The record with another octet at a place.
+    fn with(mut client: [u8; sys::CLIENT], place: usize, octet: u8) -> [u8; sys::CLIENT] {
+        client[place] = octet;
+        client
+    }
+
+    // Octets that the header says are not looked at, are not; of a kind only whether it is 0.
+    #[test]
+    fn the_record_is_the_headers() {
+        let tags = [Tag::service(0x1234), Tag::customer(0x5678)];
+        let client = Frame::to(Address::BROADCAST).tags(&tags).octets();
+        let expected = sent(&client);
+        assert_eq!(expected.0, [0, 92]);
+        let tag = |k| sys::CLIENT_TAG + sys::TAG * k;
+        let in_tags = [tag(0) + 1, tag(1) + 1].into_iter();
+        // the type in the length form, what stands behind the count, the tags beyond it
+        for place in [8, 9, 11].into_iter().chain(in_tags).chain(tag(2)..44) {
+            assert_eq!(sent(&with(client, place, 0xFF)), expected, "{place}");
+        }
+        let first_customer = sent(&with(client, tag(0), 0));
+        assert_ne!(first_customer, expected);
+        for kind in 1..=255 {
+            assert_eq!(sent(&with(client, tag(0), kind)), expected);
+            assert_ne!(sent(&with(client, tag(1), kind)), expected);
+        }
+        for count in 0..=255 {
+            let (answer, _) = sent(&with(client, sys::CLIENT_TAGS, count));
+            let refused = if count > 8 { 10 } else { 0 };
+            assert_eq!(answer[sys::SENT_REFUSAL], refused, "{count}");
+        }
     }
 }

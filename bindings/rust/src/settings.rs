@@ -152,8 +152,8 @@ impl Settings {
         self
     }
 
-    /// The limit M on a frame's octets from destination to FCS; outside 1518 to 9618 the settings
-    /// are refused (1).
+    /// The limit M on a frame's octets from destination to FCS, which grows by 4 for each tag of a
+    /// frame; outside 1518 to 9618 the settings are refused (1).
     pub const fn limit(mut self, limit: u16) -> Settings {
         self.limit = limit;
         self

@@ -42,6 +42,15 @@ pub const READING_STATUS: usize = 5;
 pub const READING_AT: usize = 6;
 pub const READING_LENGTH: usize = 7;
 
+pub const STATUS_PFC: u32 = 39;
+pub const STATUS_UNICAST: u32 = 38;
+pub const STATUS_MULTICAST: u32 = 37;
+pub const STATUS_BROADCAST: u32 = 36;
+pub const STATUS_PAUSE: u32 = 35;
+pub const STATUS_CONTROL: u32 = 34;
+pub const STATUS_TAGGED: u32 = 33;
+pub const STATUS_STACKED: u32 = 32;
+
 pub const WALK: usize = 3;
 pub const WALK_REFUSAL: usize = 0;
 pub const WALK_STARTS: usize = 1;
@@ -57,7 +66,15 @@ pub const CLIENT_CLASS: usize = 6;
 pub const CLIENT_FORM: usize = 7;
 pub const CLIENT_TYPE: usize = 8;
 pub const CLIENT_TAGS: usize = 10;
-pub const CLIENT_TAG_CONTROL: usize = 14;
+pub const CLIENT_TAG: usize = 12;
+
+pub const TAG: usize = 4;
+pub const TAG_KIND: usize = 0;
+pub const TAG_CONTROL: usize = 2;
+pub const MOST_TAGS: usize = 8;
+
+pub const TAG_CUSTOMER: u8 = 0;
+pub const TAG_SERVICE: u8 = 1;
 
 extern "C" {
     fn fenhamper_read(

@@ -1,7 +1,7 @@
 //! A first reading, a first sending, and every refusal, against the linked archive.
 use fenhamper::{
     Address, Capture, Fcs, Flow, Frame, Outcome, Reading, Refusal, Sender, Settings, State, Status,
-    Walk, SYMBOLS,
+    Tag, Walk, SYMBOLS,
 };
 
 const OWN: Address = Address([0x02, 0, 0, 0, 0, 1]);
@@ -44,7 +44,32 @@ fn what_is_sent_is_read() {
     let frames = [
         (Frame::to(OWN), b"".to_vec(), 84, 0x4000400000),
         (Frame::to(OWN), vec![1; 46], 84, 0x400040002E),
-        (Frame::to(OWN).tag(0x2005), vec![2; 47], 89, 0x420045002F),
+        (
+            Frame::to(OWN).tag(Tag::customer(0x2005)),
+            vec![2; 47],
+            89,
+            0x420045002F,
+        ),
+        (
+            Frame::to(OWN).tag(Tag::service(100)),
+            vec![3; 45],
+            88,
+            0x420044002D,
+        ),
+        (
+            Frame::to(OWN)
+                .tag(Tag::service(100))
+                .tag(Tag::customer(0x2005)),
+            vec![4; 10],
+            92,
+            0x410048000A,
+        ),
+        (
+            Frame::to(OWN).tags(&[Tag::service(0xFFFF); 8]),
+            vec![],
+            116,
+            0x4100600000,
+        ),
         (
             Frame::to(Address::BROADCAST),
             vec![3; 1500],
@@ -57,9 +82,15 @@ fn what_is_sent_is_read() {
             9638,
             0x4025922580,
         ),
+        (
+            Frame::to(OWN).by_type(0x0800).tags(&[Tag::customer(1); 8]),
+            vec![5; 9600],
+            9670,
+            0x4125B22580,
+        ),
     ];
     let mut state = State::default();
-    let (octets, marks) = line(20000, |sender| {
+    let (octets, marks) = line(30000, |sender| {
         for (frame, data, symbols, _) in &frames {
             let before = sender.place();
             assert_eq!(
@@ -83,15 +114,127 @@ fn what_is_sent_is_read() {
     assert!(readings.next().is_none());
     assert!(!readings.ended_open());
     assert_eq!(readings.place(), octets.len());
-    assert_eq!(state.counter(Outcome::HandedOut), 5);
+    assert_eq!(state.counter(Outcome::HandedOut), 9);
     assert_eq!(
         capture.walk(&settings, &mut state),
         Ok(Walk {
-            starts: 5,
+            starts: 9,
             open: false
         })
     );
-    assert_eq!(state.counters(), [0, 0, 0, 0, 0, 0, 0, 0, 0, 0, 10]);
+    assert_eq!(state.counters(), [0, 0, 0, 0, 0, 0, 0, 0, 0, 0, 18]);
+}
+
+// The tags of a frame that is sent, as octets on the line.
+fn tag_octets(frame: &Frame) -> Vec<u8> {
+    let (octets, _) = line(200, |sender| {
+        let settings = Settings::new(OWN);
+        sender.client(&settings, &mut State::default(), frame, &[])
+    });
+    // behind Start, preamble and two addresses; before field, data, FCS and gap
+    octets[20..octets.len() - 2 - 46 - 4 - 12].to_vec()
+}
+
+#[test]
+fn tags_stand_in_their_order() {
+    assert_eq!(tag_octets(&Frame::to(OWN)), []);
+    // bit k of the choice is the kind of tag k
+    for n in 1..=8 {
+        for choice in 0..1 << n {
+            let mut tags = Vec::new();
+            let mut expected = Vec::new();
+            for k in 0..n {
+                let control = 0xA0B1 + k;
+                let (tag, kind) = match choice >> k & 1 {
+                    0 => (Tag::customer(control), [0x81, 0x00]),
+                    _ => (Tag::service(control), [0x88, 0xA8]),
+                };
+                tags.push(tag);
+                expected.extend(kind);
+                expected.extend(control.to_be_bytes());
+            }
+            let frame = Frame::to(OWN).tags(&tags);
+            assert_eq!(tag_octets(&frame), expected);
+            let one_by_one = tags.iter().fold(Frame::to(OWN), |f, &tag| f.tag(tag));
+            assert_eq!(one_by_one, frame);
+        }
+    }
+}
+
+#[test]
+fn tags_replace_those_before() {
+    let (a, b, c) = (Tag::customer(1), Tag::service(2), Tag::customer(3));
+    let frame = Frame::to(OWN);
+    assert_eq!(frame.tags(&[a, b]).tags(&[c]), frame.tag(c));
+    assert_eq!(frame.tags(&[a; 300]).tags(&[c]), frame.tag(c));
+    assert_eq!(frame.tags(&[a]).tag(b), frame.tags(&[a, b]));
+    assert_ne!(frame.tag(a).tag(b), frame.tag(b).tag(a));
+    assert_ne!(frame.tag(Tag::customer(0)), frame);
+    assert_ne!(Tag::customer(2), b);
+}
+
+#[test]
+fn more_than_eight_tags_are_refused() {
+    let (settings, mut state) = (Settings::new(OWN), State::default());
+    let (mut octets, mut marks) = ([0; 200], [0; 200]);
+    let mut sender = Sender::new(&mut octets, &mut marks);
+    // 264 would be eight if its high bits were lost
+    for n in [9, 10, 255, 256, 264, 300] {
+        let by_list = Frame::to(OTHER).tags(&vec![Tag::service(1); n]);
+        let one_by_one = (0..n).fold(Frame::to(OTHER), |f, _| f.tag(Tag::service(1)));
+        for frame in [by_list, one_by_one] {
+            assert_eq!(
+                sender.client(&settings, &mut state, &frame, b"data"),
+                Err(Refusal::ManyTags)
+            );
+        }
+    }
+    assert_eq!(Refusal::ManyTags.number(), 10);
+    assert_eq!(
+        Refusal::ManyTags.to_string(),
+        "refusal 10, many tags: more than eight tags"
+    );
+}
+
+#[test]
+fn tags_are_counted_in_the_status() {
+    let (settings, mut state) = (Settings::new(OWN), State::default());
+    for n in 0..=8 {
+        let frame = Frame::to(OWN).tags(&vec![Tag::service(7); n]);
+        let (octets, marks) = line(200, |sender| {
+            sender.client(&settings, &mut state, &frame, b"data")
+        });
+        let capture = Capture::new(&octets, &marks);
+        let Ok(Reading::Counted(r)) = capture.read(&settings, &mut state, 0) else {
+            panic!("no frame");
+        };
+        assert_eq!((r.outcome, r.data), (Outcome::HandedOut, &b"data"[..]));
+        assert_eq!(r.status.tagged(), n == 1);
+        assert_eq!(r.status.stacked(), n >= 2);
+        assert_eq!(usize::from(r.status.frame_length()), 64 + 4 * n);
+        assert_eq!(r.at, 22 + 4 * n);
+    }
+}
+
+#[test]
+fn a_ninth_tag_is_a_type() {
+    let (settings, mut state) = (Settings::new(OWN), State::default());
+    let frame = Frame::to(OWN).tags(&[Tag::customer(7); 8]).by_type(0x0800);
+    for kind in [[0x81, 0x00], [0x88, 0xA8]] {
+        let (mut octets, marks) = line(200, |sender| {
+            sender.client(&settings, &mut state, &frame, &[9; 46])
+        });
+        // the type behind eight tags, and the FCS
+        octets[52..54].copy_from_slice(&kind);
+        let check = fenhamper::fcs(&octets[8..100]);
+        octets[100..104].copy_from_slice(&check.to_le_bytes());
+        let capture = Capture::new(&octets, &marks);
+        let Ok(Reading::Counted(r)) = capture.read(&settings, &mut state, 0) else {
+            panic!("no frame");
+        };
+        assert_eq!((r.outcome, r.data), (Outcome::HandedOut, &[9; 46][..]));
+        assert!(r.status.stacked() && !r.status.tagged());
+    }
 }
 
 #[test]
@@ -273,10 +416,17 @@ fn sendings_are_refused() {
             sender.client(&good, &mut state, &frame.class(8).by_type(0), &long),
             Err(Refusal::BadClass)
         );
-        for field in [0, 1535, 0x8100, 0x8808] {
+        let many = frame.tags(&[Tag::customer(5); 9]);
+        for field in [0, 1535, 0x8100, 0x8808, 0x88A8] {
             assert_eq!(
-                sender.client(&good, &mut state, &frame.by_type(field), &long),
+                sender.client(&good, &mut state, &many.by_type(field), &long),
                 Err(Refusal::BadType)
+            );
+        }
+        for many in [many, many.by_type(0x0800)] {
+            assert_eq!(
+                sender.client(&good, &mut state, &many.class(3), &long),
+                Err(Refusal::ManyTags)
             );
         }
         assert_eq!(

@@ -1,6 +1,6 @@
 -- The C face (include/fenhamper.h): what the arrays that cross stand for, and how answers and states cross back. Decoding is total: any
 -- numbers are some settings, some state, some client frame.
-use Prim.Native.Nat.{ℕ, zero, suc, _+_, _-_, _%_}
+use Prim.Native.Nat.{ℕ, zero, suc, _+_, _-_, _*_, _%_}
 use mathlib.Core.Bool.{Bool, true, false, cond, not, _&&_}
 use mathlib.Core.List.{List, [], _∷_, _++_}
 use lib.ListN.{length, getD, replicate}
@@ -23,8 +23,9 @@ use Rattle.receive.specs.declared.WalkEnd.{WalkEnd}
 use Rattle.receive.specs.Values.{answerOutcome, answerRefusal, answerStatus, answerPart, walkedRefusal}
 use Rattle.writing.specs.declared.Client.{Client}
 use Rattle.writing.specs.declared.Classes.{Classes}
+use Rattle.writing.specs.declared.Kind.{Kind}
+use Rattle.writing.specs.declared.Kind.the-variants.{Customer, Service}
 use Rattle.writing.specs.declared.Tag.{Tag}
-use Rattle.writing.specs.declared.Tag.the-variants.{Untagged, Tagged}
 use Rattle.writing.specs.declared.Form.{Form}
 use Rattle.writing.specs.declared.Form.the-variants.{ByLength, ByType}
 use Rattle.send.specs.declared.Sent.{Sent}
@@ -77,15 +78,21 @@ timersOf l = each (λ (i : ℕ). record { 0 = lowAt l i }) 11 8
 unfoldable pub stateOf : List ℕ → State
 stateOf l = record { counters = countersOf l; timers = timersOf l }
 
--- a client frame, of 44 octets: "0 none, anything else one"; "0 the data's length, anything else a type"
-unfoldable pub tagOf : List ℕ → Tag
-tagOf o = cond (eqb (getD o 10 0) 0) Untagged (Tagged (highFirstAt o 14))
+-- a client frame, of 44 octets: of each tag "0 for 0x8100, anything else for 0x88A8"; "0 the data's length, anything else a type"
+unfoldable pub kindOf : ℕ → Kind
+kindOf n = cond (eqb n 0) Customer Service
+
+unfoldable pub tagAt : List ℕ → ℕ → Tag
+tagAt o at = record { kind = kindOf (getD o at 0); control = highFirstAt o (at + 2) }
+
+unfoldable pub tagsOf : List ℕ → List Tag
+tagsOf o = each (λ (k : ℕ). tagAt o (12 + 4 * k)) 0 8
 
 unfoldable pub formOf : List ℕ → Form
 formOf o = cond (eqb (getD o 7 0) 0) ByLength (ByType (highFirstAt o 8))
 
 unfoldable pub clientOf : List ℕ → Client
-clientOf o = record { dest = addressAt o 0; tag = tagOf o; form = formOf o; class = getD o 6 0 }
+clientOf o = record { dest = addressAt o 0; tags = tagsOf o; count = getD o 10 0; form = formOf o; class = getD o 6 0 }
 
 -- quanta, of their number; and what a PFC frame says, of the class octet and eight numbers
 abbrev pub quantaOf : ℕ → Quanta

@@ -15,6 +15,7 @@ use station::State;
 use writing::Classes;
 use writing::Client;
 use writing::Form;
+use writing::Kind;
 use writing::Tag;
 ghost use mathlib.Core.Path.{_≡_};
 ghost use mathlib.Core.Bool.{cond, not};
@@ -28,7 +29,7 @@ ghost use Rattle.flow.specs.Timers.{timer};
 ghost use Rattle.receive.specs.Reading.{reading};
 ghost use Rattle.receive.specs.Walk.{walked};
 ghost use Rattle.send.specs.Sending.{clientSending, pauseSending, pfcSending, idleSending};
-ghost use Rattle.fenhamper.specs.Face.{flowOf, addressAt, settingsOf, countersOf, timersOf, stateOf, tagOf, formOf, clientOf, quantaOf, classesOf, stateNumbers, readingNumbers, walkNumbers, sentNumbers, partWithin, told, readTold, walkTold, wrote, sendTold};
+ghost use Rattle.fenhamper.specs.Face.{flowOf, addressAt, settingsOf, countersOf, timersOf, stateOf, kindOf, tagAt, tagsOf, formOf, clientOf, quantaOf, classesOf, stateNumbers, readingNumbers, walkNumbers, sentNumbers, partWithin, told, readTold, walkTold, wrote, sendTold};
 
 // ---- what crosses to the module
 
@@ -126,13 +127,38 @@ fn state_of(n: &[u64; 24]) -> State
     State { counters, timers }
 }
 
-fn tag(o: &[u8; 44]) -> Tag
-    ensures { λ r. ⌜ r ≡ tagOf (now (o .entry)) ⌝ }
+fn kind(n: u8) -> Kind
+    ensures { λ r. ⌜ r ≡ kindOf n ⌝ }
 {
-    if o[10] == 0 {
-        return Tag::Untagged;
+    if n == 0 {
+        return Kind::Customer;
     }
-    Tag::Tagged(fields::high_first(o, 14))
+    Kind::Service
+}
+
+// The tag in four octets from `at` on.
+fn tag(o: &[u8; 44], at: usize) -> Tag
+    requires { ⌜ at + 4 ≤ 44 ⌝ }
+    ensures { λ r. ⌜ r ≡ tagAt (now (o .entry)) at ⌝ }
+{
+    let kind = kind(o[at]);
+    let control = fields::high_first(o, at + 2);
+    Tag { kind, control }
+}
+
+fn tags(o: &[u8; 44]) -> [Tag; 8]
+    ensures { λ r. ⌜ r ≡ tagsOf (now (o .entry)) ⌝ }
+{
+    [
+        tag(o, 12),
+        tag(o, 16),
+        tag(o, 20),
+        tag(o, 24),
+        tag(o, 28),
+        tag(o, 32),
+        tag(o, 36),
+        tag(o, 40),
+    ]
 }
 
 fn form(o: &[u8; 44]) -> Form
@@ -148,12 +174,14 @@ fn client(o: &[u8; 44]) -> Client
     ensures { λ r. ⌜ r ≡ clientOf (now (o .entry)) ⌝ }
 {
     let dest = address(o, 0);
-    let tag = tag(o);
+    let tags = tags(o);
+    let count = o[10];
     let form = form(o);
     let class = o[6];
     Client {
         dest,
-        tag,
+        tags,
+        count,
         form,
         class,
     }

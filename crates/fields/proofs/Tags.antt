@@ -1,24 +1,30 @@
 -- Laws of specs/Tags.antt, and of the places that tags move. Assumes nothing.
-use Prim.Native.Nat.{ℕ, zero, suc, _+_, _≤_, _<_}
+use Prim.Native.Nat.{ℕ, zero, suc, _+_, _-_, _≤_, _<_}
 use native.Mathlib.Omega.{arith}
-use mathlib.Core.Path.{_≡_, refl, ap, _∙_}
+use mathlib.Core.Path.{_≡_, refl}
 use mathlib.Core.Bool.{Bool, true, false}
 use mathlib.Core.List.{List, [], _++_}
-use lib.ListN.{length, drop}
-use lib.Seq.{drop-at}
+use lib.ListN.{drop}
+use lib.Seq.{drop-drop}
 use Rattle.line.specs.Octets.{highFirstAt, highFirst}
 use Rattle.fields.specs.Tags.{isTagKind, mostTags, tagRun, tagCount}
-use Rattle.fields.specs.Fields.{firstField, fieldPlace, dataPlace}
+use Rattle.fields.specs.Fields.{fieldPlace, dataPlace}
 use Rattle.line.proofs.Octets.{highFirst-drop, highFirst-read}
 
--- what the first field says of the tags
-pub tagged : (f : List ℕ) → isTagKind (firstField f) ≡ true → tagCount f ≡ 1
-unfolding tagCount mostTags tagRun firstField
-tagged f h = rw (highFirst-drop f 12, h, tagRun)
+-- a run, by what stands at its place
+pub run-none : (f : List ℕ) (at most : ℕ) → isTagKind (highFirstAt f at) ≡ false → tagRun most (drop at f) ≡ 0
+unfolding tagRun
+run-none f at zero h = refl
+run-none f at (suc most) h = rw (highFirst-drop f at, h, tagRun)
 
-pub untagged : (f : List ℕ) → isTagKind (firstField f) ≡ false → tagCount f ≡ 0
-unfolding tagCount mostTags tagRun firstField
-untagged f h = rw (highFirst-drop f 12, h, tagRun)
+pub run-more : (f : List ℕ) (at most : ℕ) → 0 < most → isTagKind (highFirstAt f at) ≡ true → tagRun most (drop at f) ≡ 1 + tagRun (most - 1) (drop (at + 4) f)
+unfolding tagRun
+run-more f at zero z h = omega arith
+run-more f at (suc most) z h = (let e : suc most - 1 ≡ most = omega arith in rw (highFirst-drop f at, h, tagRun, drop-drop 4 at f, e))
+
+pub run-over : (l : List ℕ) → tagRun 0 l ≡ 0
+unfolding tagRun
+run-over l = refl
 
 -- there are few, so that no sum of the code wraps
 choice-le : (b : Bool) (n m : ℕ) → n ≤ m → elim b [ true ↦ 1 + n | false ↦ 0 ] ≤ suc m
@@ -42,12 +48,13 @@ pub dataPlace-small : (f : List ℕ) → dataPlace f ≤ 46
 unfolding dataPlace
 dataPlace-small f = omega (arith, fieldPlace-small f)
 
--- the tags of a frame that is put together: `a` is the two addresses
-pub tags-none : (a : List ℕ) (n : ℕ) (r : List ℕ) → length a ≡ 12 → n < 65536 → isTagKind n ≡ false → tagCount (a ++ (highFirst n ++ r)) ≡ 0
-unfolding tagCount mostTags tagRun
-tags-none a n r e lt h =
-    ap (tagRun 1) (drop-at a (highFirst n ++ r) 12 e) ∙ rw (highFirst-read [] n r 0 refl lt, h, tagRun)
+-- the tags of a frame that is put together
+pub run-ends : (most n : ℕ) (r : List ℕ) → n < 65536 → isTagKind n ≡ false → tagRun most (highFirst n ++ r) ≡ 0
+unfolding tagRun
+run-ends zero n r lt h = refl
+run-ends (suc most) n r lt h = rw (highFirst-read [] n r 0 refl lt, h, tagRun)
 
-pub tags-one : (a : List ℕ) (r : List ℕ) → length a ≡ 12 → tagCount (a ++ (highFirst 0x8100 ++ r)) ≡ 1
-unfolding tagCount mostTags tagRun isTagKind highFirstAt highFirst
-tags-one a r e = ap (tagRun 1) (drop-at a (highFirst 0x8100 ++ r) 12 e)
+pub run-goes-on : (most kind control : ℕ) (r : List ℕ) → kind < 65536 → isTagKind kind ≡ true
+    → tagRun (suc most) (highFirst kind ++ (highFirst control ++ r)) ≡ 1 + tagRun most r
+unfolding tagRun
+run-goes-on most kind control r lt h = rw (highFirst-read [] kind (highFirst control ++ r) 0 refl lt, h, tagRun) (unfold highFirst in refl)

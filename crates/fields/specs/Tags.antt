@@ -1,19 +1,19 @@
--- Document 01, "Frame": tags. Item 1 of document 02 makes `mostTags` 8 and adds 0x88A8 to `isTagKind`; nothing else here.
+-- Document 01, "Frame", and document 02, item 1: tags.
 use Prim.Native.Nat.{ℕ, zero, suc, _+_, _*_}
-use mathlib.Core.Bool.{Bool, true, false}
+use mathlib.Core.Bool.{Bool, true, false, _||_}
 use mathlib.Core.List.{List}
 use lib.ListN.{drop}
 use lib.Dec.{eqb}
 use Rattle.line.specs.Octets.{highFirstAt}
 
--- "Field 0x8100 means tagged"
+-- "Field 0x8100 means tagged"; item 1: "up to eight tags of either kind, in any order"
 unfoldable pub isTagKind : ℕ → Bool
-isTagKind field = eqb field 0x8100
+isTagKind field = eqb field 0x8100 || eqb field 0x88A8
 
 unfoldable pub mostTags : ℕ
-mostTags = 1
+mostTags = 8
 
--- how many tags stand at the front, of `most` at most: one tag ("two octets of tag control, then the real field") and a shorter run
+-- how many tags stand at the front, of `most` at most: "a run that is one tag followed by a shorter run"; "a ninth is an ordinary type"
 unfoldable pub tagRun : ℕ → List ℕ → ℕ
 tagRun zero l = 0
 tagRun (suc most) l = elim (isTagKind (highFirstAt l 0)) [ true ↦ 1 + tagRun most (drop 4 l) | false ↦ 0 ]

@@ -1,10 +1,10 @@
 // The parts of a frame: octets and numbers in it, tags, the real field, and where data begins (document 01, "Frame"). Meaning: specs/.
 // `f` is always a whole frame. An octet beyond its end counts as 0, so that every function has an answer for a frame of any size.
 ghost use mathlib.Core.Path.{_≡_};
-ghost use Prim.Native.Nat.{_<_};
-ghost use lib.ListN.{getD};
+ghost use Prim.Native.Nat.{_+_, _*_, _≤_, _<_};
+ghost use lib.ListN.{getD, drop};
 ghost use Rattle.line.specs.Octets.{highFirstAt};
-ghost use Rattle.fields.specs.Tags.{isTagKind, tagCount};
+ghost use Rattle.fields.specs.Tags.{isTagKind, tagRun, tagCount};
 ghost use Rattle.fields.specs.Fields.{firstField, fieldPlace, field, dataPlace};
 
 // ---- numbers in a frame
@@ -35,11 +35,14 @@ pub fn high_first(f: &[u8], at: usize) -> u16
 
 // ---- tags, and where field and data stand
 
-// Field 0x8100 means tagged.
+// Field 0x8100 or 0x88A8 means tagged.
 fn is_tag_kind(field: u16) -> bool
     ensures { λ r. ⌜ r ≡ isTagKind field ⌝ }
 {
-    field == 0x8100
+    if field == 0x8100 {
+        return true;
+    }
+    field == 0x88A8
 }
 
 // The field right after the addresses.
@@ -49,11 +52,25 @@ pub fn first_field(f: &[u8]) -> u16
     high_first(f, 12)
 }
 
+// How many tags stand from `at` on, of `most` at most: one tag followed by a shorter run.
+fn tag_run(f: &[u8], at: usize, most: usize) -> usize
+    requires { ⌜ at + 4 * most ≤ 44 ⌝ }
+    ensures { λ r. ⌜ (r ≡ tagRun most (drop at (now (f .entry)))) × (r ≤ most) ⌝ }
+{
+    if most == 0 {
+        return 0;
+    }
+    if is_tag_kind(high_first(f, at)) {
+        return 1 + tag_run(f, at + 4, most - 1);
+    }
+    0
+}
+
 // How many tags stand before the real field.
 pub fn tag_count(f: &[u8]) -> usize
     ensures { λ r. ⌜ r ≡ tagCount (now (f .entry)) ⌝ }
 {
-    if is_tag_kind(first_field(f)) { 1 } else { 0 }
+    tag_run(f, 12, 8)
 }
 
 // Where the real field stands.

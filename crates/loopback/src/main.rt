@@ -9,6 +9,7 @@ use station::Settings;
 use station::State;
 use writing::Client;
 use writing::Form;
+use writing::Kind;
 use writing::Tag;
 ghost use Prim.Native.Nat.{_<_, _≤_};
 
@@ -38,10 +39,16 @@ fn settings(n: u8) -> Settings {
     }
 }
 
-fn client(tag: Tag, form: Form) -> Client {
+// With one tag or none.
+fn client(count: u8, form: Form) -> Client {
+    let tag = Tag {
+        kind: Kind::Customer,
+        control: 0x2005,
+    };
     Client {
         dest: numbered(2),
-        tag,
+        tags: [tag; 8],
+        count,
         form,
         class: 0,
     }
@@ -72,19 +79,19 @@ fn damage(o: &mut [u8], m: &mut [u8], at: usize, octet: u8, mark: u8) {
 
 // The three frames, back to back: short in the length form, short in the type form, and tagged.
 fn three(o: &mut [u8], m: &mut [u8], place: usize) -> usize {
-    let a = sent(o, m, place, client(Tag::Untagged, Form::ByLength), b"short");
+    let a = sent(o, m, place, client(0, Form::ByLength), b"short");
     let b = sent(
         o,
         m,
         a,
-        client(Tag::Untagged, Form::ByType(0x0800)),
+        client(0, Form::ByType(0x0800)),
         b"a type, and padding",
     );
     sent(
         o,
         m,
         b,
-        client(Tag::Tagged(0x2005), Form::ByLength),
+        client(1, Form::ByLength),
         b"tagged, and longer than what is padded to forty-six octets",
     )
 }
@@ -218,7 +225,7 @@ fn clean() {
 fn cut() {
     let mut o = [0u8; 400];
     let mut m = [0u8; 400];
-    let c = client(Tag::Untagged, Form::ByLength);
+    let c = client(0, Form::ByLength);
     let a = sent(&mut o, &mut m, 0, c, b"cut");
     damage(&mut o, &mut m, 40, 0xFE, 1);
     three(&mut o, &mut m, a);
@@ -229,7 +236,7 @@ fn cut() {
 fn turned() {
     let mut o = [0u8; 400];
     let mut m = [0u8; 400];
-    let c = client(Tag::Untagged, Form::ByLength);
+    let c = client(0, Form::ByLength);
     let a = sent(&mut o, &mut m, 0, c, b"turned");
     damage(&mut o, &mut m, 30, 0x99, 0);
     three(&mut o, &mut m, a);
@@ -240,7 +247,7 @@ fn turned() {
 fn overrun() {
     let mut o = [0u8; 400];
     let mut m = [0u8; 400];
-    let c = client(Tag::Untagged, Form::ByLength);
+    let c = client(0, Form::ByLength);
     sent(&mut o, &mut m, 0, c, b"overrun");
     three(&mut o, &mut m, 50);
     every(b"open run", &o, &m);

@@ -4,7 +4,7 @@ use native.Mathlib.Omega.{arith}
 use mathlib.Core.Path.{_≡_, refl, sym, ap, ap₂, _∙_, subst}
 use mathlib.Core.Bool.{Bool, true, false, not, _&&_, _||_, cond, and-false, true≢false}
 use mathlib.Core.List.{List, [], _∷_, _++_, append-assoc, append-nil}
-use lib.ListN.{length, take, drop, replicate, length-append, length-replicate}
+use lib.ListN.{length, take, drop, replicate, length-append, length-replicate, length-take}
 use lib.Seq.{drop-at, take-at, take-length}
 use lib.Dec.{eqb, ltb, leb, lit<}
 use borrow.Author.Tests.{eq-eqb, ne-eqb, le-ltb, lt-ltb, ltb-true, ltb-false, eqb-false}
@@ -32,7 +32,7 @@ use Rattle.writing.specs.declared.Form.{Form}
 use Rattle.writing.specs.declared.Form.the-variants.{ByLength, ByType}
 use Rattle.writing.specs.Frames.{padded, tagOctets, tagsSent, fieldSent, clientBody}
 use Rattle.writing.proofs.TagLaws.{tag-length, tags-are, not-control}
-use Rattle.send.specs.Sending.{badType, longData}
+use Rattle.send.specs.Sending.{badType, manyTags, longData}
 use Rattle.mac.specs.Demand3.{Frame, Carried, Bits16, delivered}
 
 -- what the reader finds in a frame
@@ -116,21 +116,21 @@ parts b a r h n p t dst own six ea hl lt e₁ e₂ et ec =
       right = fcs-right b;
     }
 
-module _ (dst own : List ℕ) (six : length dst ≡ 6) (ownSix : length own ≡ 6) (tg : Tag) (n : ℕ) (lt : n < 65536) (p : List ℕ) where
+module _ (dst own : List ℕ) (six : length dst ≡ 6) (ownSix : length own ≡ 6) (ts : List Tag) (few : length ts ≤ 8) (n : ℕ) (lt : n < 65536) (p : List ℕ) where
   twelve : length (dst ++ own) ≡ 12
   twelve = simp length-append (omega arith)
 
   found : isTagKind n ≡ false → eqb n 0x8808 ≡ false
-      → let b : List ℕ = dst ++ (own ++ (tagOctets tg ++ (highFirst n ++ p))) in Facts (b ++ fcs b) dst n p (tagsSent tg)
+      → let b : List ℕ = dst ++ (own ++ (tagOctets ts ++ (highFirst n ++ p))) in Facts (b ++ fcs b) dst n p (length ts)
   found h g =
-      let b : List ℕ = dst ++ (own ++ (tagOctets tg ++ (highFirst n ++ p))) in
+      let b : List ℕ = dst ++ (own ++ (tagOctets ts ++ (highFirst n ++ p))) in
       let r : List ℕ = p ++ fcs b in
-      let e₁ : b ++ fcs b ≡ dst ++ own ++ (tagOctets tg ++ (highFirst n ++ r)) = simp append-assoc in
-      let e₂ : b ++ fcs b ≡ dst ++ (own ++ tagOctets tg) ++ (highFirst n ++ r) = simp append-assoc in
-      parts b (dst ++ own) (tagOctets tg ++ (highFirst n ++ r)) (dst ++ (own ++ tagOctets tg)) n p (tagsSent tg) dst own six refl
-      (simp length-append (omega (arith, tag-length tg))) lt e₁ e₂
-      (ap tagCount e₁ ∙ tags-are tg (dst ++ own) n r twelve lt h)
-      (ap isControlFrame e₁ ∙ not-control tg (dst ++ own) n r twelve lt g)
+      let e₁ : b ++ fcs b ≡ dst ++ own ++ (tagOctets ts ++ (highFirst n ++ r)) = simp append-assoc in
+      let e₂ : b ++ fcs b ≡ dst ++ (own ++ tagOctets ts) ++ (highFirst n ++ r) = simp append-assoc in
+      parts b (dst ++ own) (tagOctets ts ++ (highFirst n ++ r)) (dst ++ (own ++ tagOctets ts)) n p (length ts) dst own six refl
+      (simp length-append (omega (arith, tag-length ts))) lt e₁ e₂
+      (ap tagCount e₁ ∙ tags-are ts (dst ++ own) n r few twelve lt h)
+      (ap isControlFrame e₁ ∙ not-control ts (dst ++ own) n r twelve lt g)
 
 -- ---- the conditions, in numbers
 
@@ -152,19 +152,28 @@ unfolding padded
 padded-long d h = ap (λ (k : ℕ). d ++ replicate k 0) (let e : 46 - length d ≡ 0 = omega arith in e) ∙ append-nil d
 
 -- a type that is not refused: what each test of `badType` leaves
-type-tests : (t : ℕ) → badType (ByType t) ≡ false → (1536 ≤ t) × (eqb t 0x8100 ≡ false) × (eqb t 0x8808 ≡ false)
+type-tests : (t : ℕ) → badType (ByType t) ≡ false → (1536 ≤ t) × (eqb t 0x8100 ≡ false) × (eqb t 0x8808 ≡ false) × (eqb t 0x88A8 ≡ false)
 unfolding badType
 type-tests t h =
-    let ab = or-left (ltb t 1536 || eqb t 0x8100) (eqb t 0x8808) h in
-    (ltb-false t 1536 (or-left (ltb t 1536) (eqb t 0x8100) ab), or-right (ltb t 1536) (eqb t 0x8100) ab, or-right (ltb t 1536 || eqb t 0x8100) (eqb t 0x8808) h)
+    let a = ltb t 1536 in
+    let b = eqb t 0x8100 in
+    let c = eqb t 0x8808 in
+    let abc = or-left (a || b || c) (eqb t 0x88A8) h in
+    let ab = or-left (a || b) c abc in
+    (ltb-false t 1536 (or-left a b ab), or-right a b ab, or-right (a || b) c abc, or-right (a || b || c) (eqb t 0x88A8) h)
 
 -- a field that is neither a tag's nor a control frame's
 no-tag : (g : Form) (d : List ℕ) → badType g ≡ false → (m : ℕ) → longData m g d ≡ false → (isTagKind (fieldSent g d) ≡ false) × (eqb (fieldSent g d) 0x8808 ≡ false)
 unfolding longData fieldSent isTagKind
 no-tag ByLength d h m g =
     let k : length d ≤ 1500 = ltb-false 1500 (length d) g in
-    (ne-eqb (length d) 0x8100 (λ e. omega arith), ne-eqb (length d) 0x8808 (λ e. omega arith))
-no-tag (ByType t) d h m g = let k = type-tests t h in (k .1, k .2)
+    (ap₂ _||_ (ne-eqb (length d) 0x8100 (λ e. omega arith)) (ne-eqb (length d) 0x88A8 (λ e. omega arith)), ne-eqb (length d) 0x8808 (λ e. omega arith))
+no-tag (ByType t) d h m g = let k = type-tests t h in (ap₂ _||_ (k .1) (k .3), k .2)
+
+-- a frame that is not refused by 10 has eight tags at most
+few-tags : (c : Client) → manyTags c ≡ false → length (tagsSent c) ≤ 8
+unfolding manyTags tagsSent
+few-tags c h = let n = ltb-false 8 (c .count) h in omega (arith, length-take (c .count) (c .tags))
 
 -- the field has 16 bits
 field-bits : (g : Form) (d : List ℕ) (m : ℕ) → Bits16 g → longData m g d ≡ false → fieldSent g d < 65536
@@ -208,17 +217,17 @@ module _ (tx rx : Settings) (fr : Frame) (w : Carried tx rx fr) where
   abbrev body : List ℕ
   body = clientBody tx (fr .client) (fr .octets)
 
-  facts : Facts (body ++ fcs body) dst n p (tagsSent (fr .client .tag))
+  facts : Facts (body ++ fcs body) dst n p (length (tagsSent (fr .client)))
   unfolding clientBody
   facts =
       let k = no-tag (fr .client .form) (fr .octets) (w .form) (tx .limit) (w .short) in
-      found dst (tx .own .0) (w .welcome .typed .six) (w .welcome .typed .ownSix) (fr .client .tag) n
+      found dst (tx .own .0) (w .welcome .typed .six) (w .welcome .typed .ownSix) (tagsSent (fr .client)) (few-tags (fr .client) (w .few)) n
       (field-bits (fr .client .form) (fr .octets) (tx .limit) (w .welcome .typed .bits) (w .short))
       p (k .0) (k .1)
 
   pub accepted : outcome rx (preamble ++ (body ++ fcs body)) terminate ≡ HandedOut
   accepted =
-      handed-out rx (body ++ fcs body) dst n p (tagsSent (fr .client .tag)) facts
+      handed-out rx (body ++ fcs body) dst n p (length (tagsSent (fr .client))) facts
       (let j = padded-length (fr .octets) in omega arith)
       (w .welcome .allowed)
       (keeps (fr .client .form) (fr .octets) (tx .limit) (w .form) (w .short))

@@ -1,14 +1,14 @@
--- Claim 2, demand 1: each call ends with a reading, symbols written or a refusal out of exactly its list, the lowest that holds; a refusal leaves
+-- Claim 2, demand 1: each call ends with a reading, symbols written or a refusal out of exactly its list, the first that holds; a refusal leaves
 -- state and both buffers as they were. The statements are `reading-refuses`, `walk-refuses`, `client-refuses`, `pause-refuses`, `pfc-refuses`
 -- and `idle-refuses`. Assumes nothing.
-use Prim.Native.Nat.{ℕ, _+_, _≤_, _<_}
+use Prim.Native.Nat.{ℕ, _+_, _*_, _≤_, _<_}
 use native.Mathlib.Omega.{arith}
 use mathlib.Core.Path.{_≡_, refl, sym, ap, ap₂, _∙_, subst}
-use mathlib.Core.Bool.{Bool, true, false, not, _&&_, _||_, true≢false, and-false}
+use mathlib.Core.Bool.{Bool, true, false, not, cond, _&&_, _||_, true≢false, and-false}
 use mathlib.Core.Logic.{_⊎_, inl, inr, ⊎-elim}
 use mathlib.Core.List.{List, [], _∷_}
 use lib.Dec.{eqb, ltb, lit<}
-use borrow.Author.Tests.{eq-eqb, ne-eqb, ltb-true, ltb-false, le-ltb}
+use borrow.Author.Tests.{eq-eqb, ne-eqb, eqb-true, ltb-true, ltb-false, le-ltb}
 use lib.ListN.{length, drop}
 use native.Mathlib.Numerals.{add-one}
 use Rattle.line.specs.declared.Found.{Found}
@@ -35,30 +35,30 @@ use Rattle.writing.specs.declared.Client.{Client}
 use Rattle.writing.specs.declared.Classes.{Classes}
 use Rattle.writing.specs.Frames.{clientSymbols, pauseSymbols, pfcSymbols, idleSymbols}
 use Rattle.send.specs.Sending.{Sending, wentRefusal, sendChecked, clientRefusals, controlRefusals, idleRefusals, clientChecked, pauseChecked, pfcChecked, idleChecked, clientSending, pauseSending, pfcSending, idleSending}
-use Rattle.mac.specs.Demand1.{numbersOf, rowHolds, Exactly, ReadRefused, SendRefused, ReadsOrRefuses, SendsOrRefuses}
+use Rattle.mac.specs.Demand1.{numbersOf, rowHolds, turn, Exactly, ReadRefused, SendRefused, ReadsOrRefuses, SendsOrRefuses}
 use Rattle.receive.proofs.Walks.{through, walk-through, walked-refused}
 
--- ---- a table whose numbers ascend, above k, and that gives `Fine` where no row holds
+-- ---- a table whose turns ascend, above k, and that gives `Fine` where no row holds
 
 unfoldable Ascends : ℕ → Table Checked → Type 0
 Ascends k (otherwise a) = a ≡ Fine
-Ascends k (r ∣ rows) = (k < checkedNumber (r .gives)) × Ascends (checkedNumber (r .gives)) rows
+Ascends k (r ∣ rows) = (k < turn (checkedNumber (r .gives))) × Ascends (turn (checkedNumber (r .gives))) rows
 
--- no row has a number up to k
-none-below : (k : ℕ) (rows : Table Checked) → Ascends k rows → (m : ℕ) → m ≤ k → rowHolds rows m ≡ false
+-- no row has a turn up to k
+none-below : (k : ℕ) (rows : Table Checked) → Ascends k rows → (m : ℕ) → turn m ≤ k → rowHolds rows m ≡ false
 unfolding Ascends rowHolds
 none-below k (otherwise a) w m h = refl
 none-below k (r ∣ rows) w m h =
     ap₂ (λ (a b : Bool). (a && r .holds) || b)
-    (ne-eqb (checkedNumber (r .gives)) m (λ e. let l = w .0 in omega arith))
-    (none-below (checkedNumber (r .gives)) rows (w .1) m (let l = w .0 in omega arith))
+    (ne-eqb (checkedNumber (r .gives)) m (λ e. let l = w .0 in let t = ap turn e in omega arith))
+    (none-below (turn (checkedNumber (r .gives))) rows (w .1) m (let l = w .0 in omega arith))
 
--- what the table gives: nothing where no row holds, or the lowest number whose row does
-abbrev Lowest : ℕ → Table Checked → ℕ → Type 0
-Lowest k rows n = (k < n) × (rowHolds rows n ≡ true) × ((m : ℕ) → m < n → rowHolds rows m ≡ false)
+-- what the table gives: nothing where no row holds, or the number of the earliest turn whose row does
+abbrev Earliest : ℕ → Table Checked → ℕ → Type 0
+Earliest k rows n = (k < turn n) × (rowHolds rows n ≡ true) × ((m : ℕ) → turn m < turn n → rowHolds rows m ≡ false)
 
 abbrev Gives : ℕ → Table Checked → ℕ → Type 0
-Gives k rows n = ((n ≡ 0) × ((m : ℕ) → rowHolds rows m ≡ false)) ⊎ Lowest k rows n
+Gives k rows n = ((n ≡ 0) × ((m : ℕ) → rowHolds rows m ≡ false)) ⊎ Earliest k rows n
 
 -- a first row that holds, and one that does not
 row-holds : (r : Row Checked) (rows : Table Checked) → r .holds ≡ true → rowHolds (r ∣ rows) (checkedNumber (r .gives)) ≡ true
@@ -71,12 +71,12 @@ row-passed r rows m h =
     ap (λ (b : Bool). (eqb (checkedNumber (r .gives)) m && b) || rowHolds rows m) h
     ∙ ap (λ (b : Bool). b || rowHolds rows m) (and-false (eqb (checkedNumber (r .gives)) m))
 
-row-above : (r : Row Checked) (rows : Table Checked) → Ascends (checkedNumber (r .gives)) rows → (m : ℕ) → m < checkedNumber (r .gives) → rowHolds (r ∣ rows) m ≡ false
+row-above : (r : Row Checked) (rows : Table Checked) → Ascends (turn (checkedNumber (r .gives))) rows → (m : ℕ) → turn m < turn (checkedNumber (r .gives)) → rowHolds (r ∣ rows) m ≡ false
 unfolding rowHolds
 row-above r rows w m l =
     ap₂ (λ (a b : Bool). (a && r .holds) || b)
-    (ne-eqb (checkedNumber (r .gives)) m (λ e. omega arith))
-    (none-below (checkedNumber (r .gives)) rows w m (omega arith))
+    (ne-eqb (checkedNumber (r .gives)) m (λ e. let t = ap turn e in omega arith))
+    (none-below (turn (checkedNumber (r .gives))) rows w m (omega arith))
 
 no-rows : (a : Checked) (m : ℕ) → rowHolds (otherwise a) m ≡ false
 unfolding rowHolds
@@ -86,7 +86,7 @@ gives : (k : ℕ) (rows : Table Checked) → Ascends k rows → Gives k rows (ch
 unfolding Ascends
 gives k (otherwise a) w = inl (ap checkedNumber (first-other a ∙ w), no-rows a)
 gives k (r ∣ rows) w =
-    let g : ℕ = checkedNumber (r .gives) in
+    let g : ℕ = turn (checkedNumber (r .gives)) in
     by-test (r .holds)
     (λ h. subst (Gives k (r ∣ rows)) (sym (ap checkedNumber (first-here (r .gives) rows h))) (inr (w .0, row-holds r rows h, row-above r rows (w .1))))
     (λ h. subst (Gives k (r ∣ rows)) (sym (ap checkedNumber (first-next (r .gives) rows h)))
@@ -99,15 +99,29 @@ gives k (r ∣ rows) w =
 clash : {P : Type 0} (b : Bool) → b ≡ true → b ≡ false → P
 clash b t f = absurd (true≢false (sym t ∙ f))
 
-meets : (rows : Table Checked) (n g : ℕ) → Gives 0 rows g → 0 < n → rowHolds rows n ≡ true → ((m : ℕ) → m < n → rowHolds rows m ≡ false) → g ≡ n
-meets rows n g x pos here lower =
+turn-of : (n : ℕ) {b : Bool} → eqb n 10 ≡ b → turn n ≡ cond b 13 (2 * n)
+turn-of n e = ap (λ (b : Bool). cond b 13 (2 * n)) e
+
+-- no two refusals have one turn
+one-turn : (a b : ℕ) → turn a ≡ turn b → a ≡ b
+one-turn a b e =
+    by-test (eqb a 10)
+    (λ x. by-test (eqb b 10)
+    (λ y. eqb-true a 10 x ∙ sym (eqb-true b 10 y))
+    (λ y. let l = sym (turn-of a x) ∙ e ∙ turn-of b y in absurd (omega arith)))
+    (λ x. by-test (eqb b 10)
+    (λ y. let l = sym (turn-of a x) ∙ e ∙ turn-of b y in absurd (omega arith))
+    (λ y. let l = sym (turn-of a x) ∙ e ∙ turn-of b y in omega arith))
+
+meets : (rows : Table Checked) (n g : ℕ) → Gives 0 rows g → rowHolds rows n ≡ true → ((m : ℕ) → turn m < turn n → rowHolds rows m ≡ false) → g ≡ n
+meets rows n g x here earlier =
     ⊎-elim
     (λ y. clash (rowHolds rows n) here (y .1 n))
-    (λ y. by-test (ltb g n)
-    (λ l. clash (rowHolds rows g) (y .1) (lower g (ltb-true g n l)))
-    (λ l. by-test (ltb n g)
-    (λ k. clash (rowHolds rows n) here (y .2 n (ltb-true n g k)))
-    (λ k. let a = ltb-false g n l in let b = ltb-false n g k in omega arith)))
+    (λ y. by-test (ltb (turn g) (turn n))
+    (λ l. clash (rowHolds rows g) (y .1) (earlier g (ltb-true (turn g) (turn n) l)))
+    (λ l. by-test (ltb (turn n) (turn g))
+    (λ k. clash (rowHolds rows n) here (y .2 n (ltb-true (turn n) (turn g) k)))
+    (λ k. let a = ltb-false (turn g) (turn n) l in let b = ltb-false (turn n) (turn g) k in one-turn g n (omega arith))))
     x
 
 exactly : (rows : Table Checked) (numbers : List ℕ) (g : ℕ) → Ascends 0 rows → numbersOf rows ≡ numbers → g ≡ checkedNumber (first rows) → Exactly rows numbers g
@@ -115,12 +129,12 @@ exactly rows numbers g w l e =
     let x : Gives 0 rows g = subst (Gives 0 rows) (sym e) (gives 0 rows w) in
     record {
       listed = l;
-      lowest = λ n pos. (
-        λ q. ⊎-elim (λ y. let z = y .0 in absurd (omega arith)) (λ y. subst (λ (i : ℕ). (rowHolds rows i ≡ true) × ((m : ℕ) → m < i → rowHolds rows m ≡ false)) q (y .1, y .2)) x,
-        λ p. meets rows n g x pos (p .0) (p .1),
+      earliest = λ n pos. (
+        λ q. ⊎-elim (λ y. let z = y .0 in absurd (omega arith)) (λ y. subst (λ (i : ℕ). (rowHolds rows i ≡ true) × ((m : ℕ) → turn m < turn i → rowHolds rows m ≡ false)) q (y .1, y .2)) x,
+        λ p. meets rows n g x (p .0) (p .1),
       );
       none = (
-        λ q. ⊎-elim (λ y. y .1) (λ y. let z = y .0 in absurd (omega arith)) x,
+        λ q. ⊎-elim (λ y. y .1) (λ y. let z = y .0 in let t : turn g ≡ 0 = ap turn q in absurd (omega arith)) x,
         λ p. ⊎-elim (λ y. y .0) (λ y. clash (rowHolds rows g) (y .1) (p g)) x,
       );
     }
@@ -220,13 +234,13 @@ send-refuses rows numbers w l st os ms place new =
     }
 
 module _ (s : Settings) (st : State) (os ms : List ℕ) (place : ℕ) where
-  -- "client sending 1 to 3 and 5 to 9"
+  -- "client sending 1 to 3 and 5 to 9", and 10
   pub client-refuses : (c : Client) (d : List ℕ)
-      → SendsOrRefuses (clientRefusals s st os ms place c d) (1 ∷ 2 ∷ 3 ∷ 5 ∷ 6 ∷ 7 ∷ 8 ∷ 9 ∷ []) st os ms place (clientSending s st os ms place c d)
+      → SendsOrRefuses (clientRefusals s st os ms place c d) (1 ∷ 2 ∷ 3 ∷ 5 ∷ 6 ∷ 10 ∷ 7 ∷ 8 ∷ 9 ∷ []) st os ms place (clientSending s st os ms place c d)
   unfolding clientSending clientChecked
   client-refuses c d =
-      send-refuses (clientRefusals s st os ms place c d) (1 ∷ 2 ∷ 3 ∷ 5 ∷ 6 ∷ 7 ∷ 8 ∷ 9 ∷ [])
-      (unfold clientRefusals Ascends in (lit< tt, (lit< tt, (lit< tt, (lit< tt, (lit< tt, (lit< tt, (lit< tt, (lit< tt, refl)))))))))
+      send-refuses (clientRefusals s st os ms place c d) (1 ∷ 2 ∷ 3 ∷ 5 ∷ 6 ∷ 10 ∷ 7 ∷ 8 ∷ 9 ∷ [])
+      (unfold clientRefusals Ascends in (lit< tt, (lit< tt, (lit< tt, (lit< tt, (lit< tt, (lit< tt, (lit< tt, (lit< tt, (lit< tt, refl))))))))))
       (unfold clientRefusals numbersOf in refl)
       st os ms place (clientSymbols s c d)
 

@@ -19,7 +19,7 @@ use Rattle.station.specs.declared.State.{State}
 use Rattle.station.specs.declared.Quanta.{Quanta}
 use Rattle.station.specs.declared.Slots.{Slots}
 use Rattle.station.specs.declared.Refusal.{Refusal}
-use Rattle.station.specs.declared.Refusal.the-variants.{BadSettings, BadBuffers, BadPlace, BadClass, BadType, LongData, NoRoom, Held}
+use Rattle.station.specs.declared.Refusal.the-variants.{BadSettings, BadBuffers, BadPlace, BadClass, BadType, LongData, NoRoom, Held, ManyTags}
 use Rattle.station.specs.declared.Checked.{Checked}
 use Rattle.station.specs.declared.Checked.the-variants.{Refused}
 use Rattle.flow.specs.Timers.{timer}
@@ -43,7 +43,7 @@ held-refused s st os ms p c d h =
     still _ BadSettings _
     (still _ BadBuffers _
     (still _ BadPlace _
-    (still _ BadClass _ (still _ BadType _ (still _ LongData _ (still _ NoRoom _ (Held, first-here (Refused Held) _ h)))))))
+    (still _ BadClass _ (still _ BadType _ (still _ ManyTags _ (still _ LongData _ (still _ NoRoom _ (Held, first-here (Refused Held) _ h))))))))
 
 no-first : (l : List Symbol) (j : ℕ) → getD (firstIs false l) j false ≡ false
 unfolding firstIs

@@ -18,7 +18,8 @@ use Rattle.station.specs.Station.{badSettings}
 use Rattle.receive.specs.Walk.{walk, handedOut}
 use Rattle.receive.proofs.Refusals.{fine as refuses-none}
 use Rattle.writing.specs.Frames.{clientSymbols}
-use Rattle.send.specs.Sending.{Sending, sendChecked, clientChecked, clientSending}
+use borrow.Author.Tests.{le-ltb}
+use Rattle.send.specs.Sending.{Sending, manyTags, sendChecked, clientChecked, clientSending}
 use Rattle.send.proofs.Refusals.{Passed, passed}
 use Rattle.mac.specs.Demand2.{Readable}
 use Rattle.mac.specs.Demand3.{Frame, rowSymbols, allDelivered, AllWelcome, AllCarried, sendNext, sendRow, rowFrom, NoneRefused}
@@ -91,7 +92,7 @@ unfolding NoneRefused AllWelcome AllCarried
 carried tx rx x [] w v = tt
 carried tx rx x (f ∷ fs) w v =
     let k = passed tx (x .given .state) (x .octets) (x .marks) (x .given .place) (f .client) (f .octets) (w .0) in
-    (record { welcome = v .0; form = k .type; short = k .short }, carried tx rx (sendNext tx x f) fs (w .1) (v .1))
+    (record { welcome = v .0; form = k .type; few = (unfold manyTags in le-ltb 8 (f .client .count) (k .tags)); short = k .short }, carried tx rx (sendNext tx x f) fs (w .1) (v .1))
 
 -- a sender tx and a receiver rx with settings of its own, which are valid and check lengths; one frame or more, from a place of any buffers on
 module _ (tx rx : Settings) (valid : badSettings rx ≡ false) (checks : rx .checking ≡ true) (st : State) (os ms : List ℕ) (place : ℕ) (f : Frame) (fs : List Frame)

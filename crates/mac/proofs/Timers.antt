@@ -30,7 +30,7 @@ use Rattle.outcome.specs.Outcomes.{outcome, frameOf}
 use Rattle.receive.specs.Reading.{stateAfter, readRun, readStart, readFound, readAt, readRefusals, readChecked, reading}
 use Rattle.writing.specs.declared.Client.{Client}
 use Rattle.send.specs.Sending.{held, written, wentRefusal, stateSent, sendChecked, clientRefusals, clientSending, pauseSending, pfcSending, idleSending}
-use Rattle.mac.specs.Demand1.{rowHolds}
+use Rattle.mac.specs.Demand1.{rowHolds, turn}
 use Rattle.mac.specs.Calls.{Call, reads, sendsClient, sendsPause, sendsPfc, fillsIdle, afterCall, afterCalls, writes, allWritten, names, quantaOf, setBy, setByStart, setByFound, setChecked, setsClass, NoneSets}
 use Rattle.mac.proofs.Demand1.{client-refuses}
 
@@ -190,12 +190,12 @@ module _ (s : Settings) (st : State) (os ms : List ℕ) (p : ℕ) (c : Client) (
   unfolding rowHolds clientRefusals
   row-9 = or-none (held st (c .class))
 
-  -- given exactly while the timer of its class is above zero and no lower refusal holds
+  -- given exactly while the timer of its class is above zero and no refusal that is tested before it holds
   pub held-exactly : (wentRefusal (clientSending s st os ms p c d .given .answer) ≡ 9)
-      ↔ ((0 < timer (st .timers) (c .class) .0) × ((m : ℕ) → m < 9 → rowHolds (clientRefusals s st os ms p c d) m ≡ false))
+      ↔ ((0 < timer (st .timers) (c .class) .0) × ((m : ℕ) → turn m < turn 9 → rowHolds (clientRefusals s st os ms p c d) m ≡ false))
   unfolding held
   held-exactly =
-      let x = client-refuses s st os ms p c d .exactly .lowest 9 (lit< tt) in (
+      let x = client-refuses s st os ms p c d .exactly .earliest 9 (lit< tt) in (
         λ e. (ltb-true 0 (timer (st .timers) (c .class) .0) (sym row-9 ∙ x .0 e .0), x .0 e .1),
         λ y. x .1 (row-9 ∙ lt-ltb 0 (timer (st .timers) (c .class) .0) (y .0), y .1),
       )

@@ -1,7 +1,7 @@
 -- Demand 1: what it says of a call's refusals. The theorems are proofs/Demand1.antt.
-use Prim.Native.Nat.{ℕ, _<_}
+use Prim.Native.Nat.{ℕ, _*_, _<_}
 use mathlib.Core.Path.{_≡_}
-use mathlib.Core.Bool.{Bool, true, false, _&&_, _||_}
+use mathlib.Core.Bool.{Bool, true, false, cond, _&&_, _||_}
 use mathlib.Core.Logic.{_↔_}
 use mathlib.Core.List.{List, [], _∷_}
 use lib.Dec.{eqb}
@@ -24,11 +24,15 @@ unfoldable pub rowHolds : Table Checked → ℕ → Bool
 rowHolds (otherwise a) n = false
 rowHolds (r ∣ rows) n = (eqb (checkedNumber (r .gives)) n && r .holds) || rowHolds rows n
 
--- "Given exactly when", "Lowest number first": the number `given`, 0 for no refusal, is one of `numbers`; it is n exactly when the row of n holds
--- and that of no lower number does; and it is 0 exactly when no row holds
+-- "Lowest number first"; document 02, item 1: "10, …, tested after 6 and before 7". A refusal is tested before those of a higher turn
+abbrev pub turn : ℕ → ℕ
+turn n = cond (eqb n 10) 13 (2 * n)
+
+-- "Given exactly when": the number `given`, 0 for no refusal, is one of `numbers`; it is n exactly when the row of n holds and that of none
+-- tested before it does; and it is 0 exactly when no row holds
 pub record Exactly (rows : Table Checked) (numbers : List ℕ) (given : ℕ) : Type 0 where
   pub listed : numbersOf rows ≡ numbers
-  pub lowest : (n : ℕ) → 0 < n → (given ≡ n) ↔ ((rowHolds rows n ≡ true) × ((m : ℕ) → m < n → rowHolds rows m ≡ false))
+  pub earliest : (n : ℕ) → 0 < n → (given ≡ n) ↔ ((rowHolds rows n ≡ true) × ((m : ℕ) → turn m < turn n → rowHolds rows m ≡ false))
   pub none : (given ≡ 0) ↔ ((m : ℕ) → rowHolds rows m ≡ false)
 
 -- "A refusal gives its number, status 0, an empty part, the place it was called with (in a reading, as both places), the old state"

@@ -16,7 +16,7 @@ use Rattle.writing.specs.declared.Form.{Form}
 use Rattle.writing.specs.declared.Form.the-variants.{ByLength, ByType}
 use Rattle.send.specs.declared.Went.the-variants.{Wrote}
 use Rattle.writing.specs.Frames.{padded, clientBody, clientSymbols}
-use Rattle.send.specs.Sending.{badType, longData, Sending, sending, clientChecked, clientSending}
+use Rattle.send.specs.Sending.{badType, manyTags, longData, Sending, sending, clientChecked, clientSending}
 
 -- a client frame and its data
 pub record Frame : Type 0 where
@@ -53,10 +53,11 @@ pub record Welcome (tx rx : Settings) (f : Frame) : Type 0 where
   pub heard : accepts rx (f .client .dest .0) ≡ true
   pub allowed : oversized (rx .limit) (clientBody tx (f .client) (f .octets) ++ fcs (clientBody tx (f .client) (f .octets))) ≡ false
 
--- and it is one "from our sender", which refuses it neither by 6 nor by 7
+-- and it is one "from our sender", which refuses it by none of 6, 10 and 7: "any number of tags up to eight" (document 02, item 1)
 pub record Carried (tx rx : Settings) (f : Frame) : Type 0 where
   pub welcome : Welcome tx rx f
   pub form : badType (f .client .form) ≡ false
+  pub few : manyTags (f .client) ≡ false
   pub short : longData (tx .limit) (f .client .form) (f .octets) ≡ false
 
 unfoldable pub AllWelcome : Settings → Settings → List Frame → Type 0

@@ -1,5 +1,5 @@
 -- Document 01, "Both sides of the limits": the cases with a star, as one list of tests of the definitions. The statement is proofs/Limits.antt.
-use Prim.Native.Nat.{ℕ}
+use Prim.Native.Nat.{ℕ, zero, suc, _+_}
 use mathlib.Core.Bool.{Bool, true, false, not, _&&_}
 use mathlib.Core.List.{List, [], _∷_, _++_, map}
 use lib.ListN.{length, replicate}
@@ -20,8 +20,8 @@ use Rattle.receive.specs.Reading.{reading}
 use Rattle.receive.specs.Walk.{walk}
 use Rattle.writing.specs.declared.Client.{Client}
 use Rattle.writing.specs.declared.Classes.{Classes}
+use Rattle.writing.specs.declared.Kind.the-variants.{Customer, Service}
 use Rattle.writing.specs.declared.Tag.{Tag}
-use Rattle.writing.specs.declared.Tag.the-variants.{Untagged, Tagged}
 use Rattle.writing.specs.declared.Form.the-variants.{ByLength}
 use Rattle.writing.specs.Frames.{onLine, clientSymbols, pauseSymbols, pfcSymbols}
 
@@ -45,14 +45,33 @@ settings mode =
       passing = false;
     }
 
--- how many symbols a client frame in the length form takes, with a tag and a number of data octets
-unfoldable pub symbolsSent : Tag → ℕ → ℕ
-symbolsSent tag n =
-    length (clientSymbols (settings Off) (record { dest = record { 0 = station }; tag = tag; form = ByLength; class = 0 }) (replicate n 0xA5))
+-- a client frame to the station in the length form, with a number of tags: the outermost of a provider
+unfoldable pub client : ℕ → Client
+client count =
+    record {
+      dest = record { 0 = station };
+      tags = record { kind = Service; control = 7 } ∷ replicate 7 (record { kind = Customer; control = 7 });
+      count = count;
+      form = ByLength;
+      class = 0;
+    }
+
+-- how many symbols it takes with a number of data octets
+unfoldable pub symbolsSent : ℕ → ℕ → ℕ
+symbolsSent tags n = length (clientSymbols (settings Off) (client tags) (replicate n 0xA5))
+
+-- a run of tags, all of the provider's kind
+unfoldable pub runWith : ℕ → List ℕ
+runWith zero = []
+runWith (suc n) = highFirst 0x88A8 ++ (highFirst 7 ++ runWith n)
 
 -- a frame to the station with a field and a number of data octets, as the FCS covers it
 unfoldable pub bodyWith : ℕ → ℕ → List ℕ
 bodyWith field n = station ++ (station ++ (highFirst field ++ replicate n 0xA5))
+
+-- a frame to the station with tags, type 0x0800, a number of data octets and four for the FCS
+unfoldable pub taggedWith : ℕ → ℕ → List ℕ
+taggedWith tags n = station ++ (station ++ (runWith tags ++ (highFirst 0x0800 ++ replicate (n + 4) 0xA5)))
 
 -- a frame with whatever stands in the place of its FCS
 unfoldable pub unchecked : List ℕ → List Symbol
@@ -67,6 +86,10 @@ told a = answerOutcome a ∷ answerStatus a ∷ answerPart a .len ∷ []
 unfoldable pub reads : Flow → List Symbol → List ℕ
 reads mode c = told (reading (settings mode) fresh (octetsOf c) (marksOf c) 0 .answer)
 
+-- what is read of it without data
+unfoldable pub readsTagged : ℕ → List ℕ
+readsTagged tags = reads Off (clientSymbols (settings Off) (client tags) [])
+
 -- the outcome alone
 unfoldable pub outcomeRead : List Symbol → ℕ
 outcomeRead c = answerOutcome (reading (settings Off) fresh (octetsOf c) (marksOf c) 0 .answer)
@@ -80,11 +103,11 @@ outcomesRead c = map (λ (r : Reading). answerOutcome (r .answer)) (walk (settin
 unfoldable pub starred : List Bool
 starred =
     -- "length form, data 0, 46, 47, 1500: 84, 84, 85, 1538 symbols; tagged data 0: 88"
-    eqb (symbolsSent Untagged 0) 84
-    ∷ eqb (symbolsSent Untagged 46) 84
-    ∷ eqb (symbolsSent Untagged 47) 85
-    ∷ eqb (symbolsSent Untagged 1500) 1538
-    ∷ eqb (symbolsSent (Tagged 7) 0) 88
+    eqb (symbolsSent 0 0) 84
+    ∷ eqb (symbolsSent 0 46) 84
+    ∷ eqb (symbolsSent 0 47) 85
+    ∷ eqb (symbolsSent 0 1500) 1538
+    ∷ eqb (symbolsSent 1 0) 88
     -- "field 45 with 46 octets: rule kept, 45 handed out; field 45 with 47: broken"
     ∷ kept 45 46
     ∷ sameOctets (reads Off (onLine (bodyWith 45 46))) (11 ∷ 0x400040002D ∷ 45 ∷ [])
@@ -113,9 +136,18 @@ starred =
     ∷ sameOctets (reads Pause (pauseSymbols (settings Pause) (record { 0 = 5 }))) (8 ∷ 0x2C0040002E ∷ 0 ∷ [])
     ∷ sameOctets (reads Pfc (pfcSymbols (settings Pfc) (record { named = 0x81; quanta = replicate 8 (record { 0 = 5 }) }))) (9 ∷ 0xA40040002E ∷ 0 ∷ [])
     -- "unicast, length form, data 0, handed out: 0x4000400000"
-    ∷ sameOctets
-    (reads Off (clientSymbols (settings Off) (record { dest = record { 0 = station }; tag = Untagged; form = ByLength; class = 0 }) []))
-    (11 ∷ 0x4000400000 ∷ 0 ∷ [])
+    ∷ sameOctets (readsTagged 0) (11 ∷ 0x4000400000 ∷ 0 ∷ [])
+    -- document 02, item 1, of one, two and eight tags: 4 symbols each; "Status bit 33 means exactly one tag, bit 32 two or more"
+    ∷ eqb (symbolsSent 2 0) 92
+    ∷ eqb (symbolsSent 8 0) 116
+    ∷ sameOctets (readsTagged 1) (11 ∷ 0x4200440000 ∷ 0 ∷ [])
+    ∷ sameOctets (readsTagged 2) (11 ∷ 0x4100480000 ∷ 0 ∷ [])
+    ∷ sameOctets (readsTagged 8) (11 ∷ 0x4100600000 ∷ 0 ∷ [])
+    -- "M grows by 4 for each tag": with two tags 1526 octets are allowed, 1527 are not; "a ninth is an ordinary type": with nine 1550 are, 1551 not
+    ∷ eqb (outcomeRead (unchecked (taggedWith 2 1500))) 5
+    ∷ eqb (outcomeRead (unchecked (taggedWith 2 1501))) 4
+    ∷ eqb (outcomeRead (unchecked (taggedWith 9 1496))) 5
+    ∷ eqb (outcomeRead (unchecked (taggedWith 9 1497))) 4
     ∷ []
 
 unfoldable pub allTrue : List Bool → Bool

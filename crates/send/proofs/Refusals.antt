@@ -13,7 +13,7 @@ use Rattle.line.proofs.Tables.{first-here, first-next}
 use Rattle.station.specs.declared.Settings.{Settings}
 use Rattle.station.specs.declared.State.{State}
 use Rattle.station.specs.declared.Refusal.{Refusal}
-use Rattle.station.specs.declared.Refusal.the-variants.{BadSettings, BadBuffers, BadPlace, OtherFlow, BadClass, BadType, LongData, NoRoom}
+use Rattle.station.specs.declared.Refusal.the-variants.{BadSettings, BadBuffers, BadPlace, OtherFlow, BadClass, BadType, LongData, NoRoom, ManyTags}
 use Rattle.station.specs.declared.Checked.{Checked}
 use Rattle.station.specs.declared.Checked.the-variants.{Fine, Refused}
 use Rattle.station.specs.Station.{isGroup, badSettings, badBuffers, badPlace}
@@ -22,7 +22,7 @@ use Rattle.writing.specs.declared.Client.{Client}
 use Rattle.writing.specs.declared.Form.{Form}
 use Rattle.writing.specs.declared.Form.the-variants.{ByLength, ByType}
 use Rattle.writing.specs.Frames.{clientSymbols, idleSymbols}
-use Rattle.send.specs.Sending.{badClass, badType, longData, noRoom, clientRefusals, controlRefusals, idleRefusals, clientChecked, idleChecked}
+use Rattle.send.specs.Sending.{badClass, badType, manyTags, longData, noRoom, clientRefusals, controlRefusals, idleRefusals, clientChecked, idleChecked}
 
 -- ---- a table whose first n rows do not hold, and its next row, whose test the code answered by r
 
@@ -61,6 +61,10 @@ pub class-to-7 : (c : Client) → badClass c ≡ false → c .class ≤ 7
 unfolding badClass
 class-to-7 c h = ltb-false 7 (c .class) h
 
+pub tags-to-8 : (c : Client) → manyTags c ≡ false → c .count ≤ 8
+unfolding manyTags
+tags-to-8 c h = ltb-false 8 (c .count) h
+
 pub short-by-length : (m : ℕ) (d : List ℕ) → longData m ByLength d ≡ false → length d ≤ 1500
 unfolding longData
 short-by-length m d h = ltb-false 1500 (length d) h
@@ -96,13 +100,14 @@ room-of os ms place new b p n =
     let same = same-length os ms b in
     record { even = same .0; small = same .1; room = fits os place new (inside os place p) n }
 
--- and a client frame's call of its settings, class, form and data
+-- and a client frame's call of its settings, class, form, tags and data
 pub record Passed (s : Settings) (os ms : List ℕ) (place : ℕ) (c : Client) (d : List ℕ) : Type 0 where
   pub valid : badSettings s ≡ false
   pub even : length os ≡ length ms
   pub small : length os ≤ 65536
   pub class : c .class ≤ 7
   pub type : badType (c .form) ≡ false
+  pub tags : c .count ≤ 8
   pub short : longData (s .limit) (c .form) d ≡ false
   pub data-small : length d ≤ 9600
   pub room : place + length (clientSymbols s c d) ≤ length os
@@ -116,7 +121,8 @@ passed s st os ms place c d h =
     let r3 = fine-row BadPlace _ (r2 .1) in
     let r5 = fine-row BadClass _ (r3 .1) in
     let r6 = fine-row BadType _ (r5 .1) in
-    let r7 = fine-row LongData _ (r6 .1) in
+    let r10 = fine-row ManyTags _ (r6 .1) in
+    let r7 = fine-row LongData _ (r10 .1) in
     let r8 = fine-row NoRoom _ (r7 .1) in
     let k = room-of os ms place (clientSymbols s c d) (r2 .0) (r3 .0) (r8 .0) in
     record {
@@ -125,6 +131,7 @@ passed s st os ms place c d h =
       small = k .small;
       class = class-to-7 c (r5 .0);
       type = r6 .0;
+      tags = tags-to-8 c (r10 .0);
       short = r7 .0;
       data-small = short-data (s .limit) (c .form) d (limit-from s (r1 .0) .1) (r7 .0);
       room = k .room;

@@ -11,7 +11,7 @@ use Rattle.station.specs.declared.Settings.{Settings}
 use Rattle.station.specs.declared.State.{State}
 use Rattle.station.specs.declared.Quanta.{Quanta}
 use Rattle.station.specs.declared.Refusal.{Refusal}
-use Rattle.station.specs.declared.Refusal.the-variants.{BadSettings, BadBuffers, BadPlace, OtherFlow, BadClass, BadType, LongData, NoRoom, Held}
+use Rattle.station.specs.declared.Refusal.the-variants.{BadSettings, BadBuffers, BadPlace, OtherFlow, BadClass, BadType, LongData, NoRoom, Held, ManyTags}
 use Rattle.station.specs.declared.Checked.{Checked}
 use Rattle.station.specs.declared.Checked.the-variants.{Fine, Refused}
 use Rattle.station.specs.Numbers.{refusalNumber}
@@ -68,16 +68,20 @@ sendChecked Fine st os ms place new =
     (overwrite os place (octetsOf new))
     (overwrite ms place (marksOf new))
 
--- ---- Refusals and their order: the tests of 5 to 9
+-- ---- Refusals and their order: the tests of 5 to 10
 
 -- 5: "class above 7"
 unfoldable pub badClass : Client → Bool
 badClass c = ltb 7 (c .class)
 
--- 6: "type form under 1536, or 0x8100 or 0x8808"
+-- 6: "type form under 1536, or 0x8100 or 0x8808"; document 02, item 1: "6 also for type 0x88A8"
 unfoldable pub badType : Form → Bool
 badType ByLength = false
-badType (ByType t) = ltb t 1536 || eqb t 0x8100 || eqb t 0x8808
+badType (ByType t) = ltb t 1536 || eqb t 0x8100 || eqb t 0x8808 || eqb t 0x88A8
+
+-- 10, of item 1: "more than eight tags"
+unfoldable pub manyTags : Client → Bool
+manyTags c = ltb 8 (c .count)
 
 -- 7: "data over 1500 (length form) or over M - 18 (type form)"
 unfoldable pub longData : ℕ → Form → List ℕ → Bool
@@ -94,7 +98,7 @@ held st class = ltb 0 (timer (st .timers) class .0)
 
 -- ---- Refusals and their order: the tables, "Lowest number first", and the calls
 
--- "client sending 1 to 3 and 5 to 9"
+-- "client sending 1 to 3 and 5 to 9"; item 1: 10 "tested after 6 and before 7"
 unfoldable pub clientRefusals : Settings → State → List ℕ → List ℕ → ℕ → Client → List ℕ → Table Checked
 clientRefusals s st os ms place c d =
     badSettings s ⇒ Refused BadSettings
@@ -102,6 +106,7 @@ clientRefusals s st os ms place c d =
     ∣ badPlace os place ⇒ Refused BadPlace
     ∣ badClass c ⇒ Refused BadClass
     ∣ badType (c .form) ⇒ Refused BadType
+    ∣ manyTags c ⇒ Refused ManyTags
     ∣ longData (s .limit) (c .form) d ⇒ Refused LongData
     ∣ noRoom os place (clientSymbols s c d) ⇒ Refused NoRoom
     ∣ held st (c .class) ⇒ Refused Held

@@ -7,7 +7,6 @@ use station::State;
 use writing::Classes;
 use writing::Client;
 use writing::Form;
-use writing::Tag;
 ghost use mathlib.Core.Path.{_≡_};
 ghost use mathlib.Core.List.{List};
 ghost use Prim.Native.Nat.{_+_, _-_, _≤_, _<_, _*_};
@@ -17,8 +16,7 @@ ghost use Rattle.line.specs.Line.{Symbol};
 ghost use Rattle.line.specs.Table.{first};
 ghost use Rattle.station.specs.declared.Quanta.{Quanta};
 ghost use Rattle.writing.specs.declared.Classes.{Classes};
-ghost use Rattle.writing.specs.Frames.{tagsSent};
-ghost use Rattle.send.specs.Sending.{refusedAt, wroteUpTo, stateSent, badClass, badType, longData, held, clientChecked, controlRefusals, pauseChecked, pfcChecked, idleChecked, sending, clientSending, pauseSending, pfcSending, idleSending};
+ghost use Rattle.send.specs.Sending.{refusedAt, wroteUpTo, stateSent, badClass, badType, manyTags, longData, held, clientChecked, controlRefusals, pauseChecked, pfcChecked, idleChecked, sending, clientSending, pauseSending, pfcSending, idleSending};
 
 // What a sending call answers; the place and the state stand beside it.
 pub enum Went {
@@ -55,7 +53,17 @@ fn bad_type(form: Form) -> bool
     if t == 0x8100 {
         return true;
     }
-    t == 0x8808
+    if t == 0x8808 {
+        return true;
+    }
+    t == 0x88A8
+}
+
+// Refusal 10.
+fn many_tags(c: Client) -> bool
+    ensures { λ r. ⌜ r ≡ manyTags c ⌝ }
+{
+    8 < c.count
 }
 
 // Refusal 7: the limit is M.
@@ -87,22 +95,12 @@ fn held(state: State, class: u8) -> bool
     0 < t.0
 }
 
-// How many tags a frame carries.
-fn tags_sent(tag: Tag) -> usize
-    ensures { λ r. ⌜ (r ≡ tagsSent tag) × (r ≤ 1) ⌝ }
-{
-    match tag {
-        Tag::Untagged => 0,
-        Tag::Tagged(_) => 1,
-    }
-}
-
 // How many symbols a client frame is: Start, preamble, addresses, tags, field, data with its padding, FCS and gap.
-fn client_size(tag: Tag, n: usize) -> usize
+fn client_size(count: u8, n: usize) -> usize
     requires { ⌜ n ≤ 65535 ⌝ }
-    ensures { λ r. ⌜ r ≡ 38 + 4 * tagsSent tag + (n + (46 - n)) ⌝ }
+    ensures { λ r. ⌜ r ≡ 38 + 4 * count + (n + (46 - n)) ⌝ }
 {
-    let tags = tags_sent(tag);
+    let tags = count as usize;
     if n < 46 {
         return 84 + 4 * tags;
     }
@@ -137,11 +135,13 @@ fn check_client(
     if bad_type(form) {
         return Checked::Refused(Refusal::BadType);
     }
+    if many_tags(client) {
+        return Checked::Refused(Refusal::ManyTags);
+    }
     if long_data(s.limit, form, d) {
         return Checked::Refused(Refusal::LongData);
     }
-    let tag = client.tag;
-    if no_room(octets, place, client_size(tag, d.len())) {
+    if no_room(octets, place, client_size(client.count, d.len())) {
         return Checked::Refused(Refusal::NoRoom);
     }
     if held(state, client.class) {

@@ -57,7 +57,7 @@ pub enum Outcome {
     HandedOut,
 }
 
-// Refusals 1 to 9, in their order. A later one is appended; its place among the tests is the affair of each call's table.
+// Refusals 1 to 10 by number; their place among the tests is the affair of each call's table.
 pub enum Refusal {
     BadSettings,
     BadBuffers,
@@ -68,6 +68,7 @@ pub enum Refusal {
     LongData,
     NoRoom,
     Held,
+    ManyTags,
 }
 
 // What a table of refusals gives: the first refusal that holds, or that the call goes on.
@@ -144,6 +145,7 @@ pub fn refusal_number(r: Refusal) -> u8
         Refusal::LongData => 7,
         Refusal::NoRoom => 8,
         Refusal::Held => 9,
+        Refusal::ManyTags => 10,
     }
 }
 

@@ -9,7 +9,7 @@ use mathlib.Core.List.{List, [], _∷_, _++_, map, append-assoc}
 use mathlib.Core.Bool.{cond}
 use lib.Dec.{eqb}
 use lib.Seq.{sets, drop-cons}
-use lib.ListN.{length, getD, drop, replicate, length-append, length-replicate, drop-of-length-le}
+use lib.ListN.{length, getD, take, drop, replicate, length-append, length-replicate, drop-of-length-le}
 use borrow.Rule.Slice.PartMut.{midOf, putMid}
 use Rattle.line.specs.Line.{Symbol, octetsOf, marksOf, asData, asControl, overwrite, preamble, idle}
 use Rattle.line.specs.Octets.{highFirst, between}
@@ -25,8 +25,9 @@ use Rattle.fcs.specs.Fcs.{fcs}
 use Rattle.fcs.proofs.Laws.{fcs-four}
 use Rattle.control.specs.Control.{reservedGroup}
 use Rattle.writing.specs.declared.Client.{Client}
+use Rattle.writing.specs.declared.Tag.{Tag}
 use Rattle.writing.specs.declared.Classes.{Classes}
-use Rattle.writing.specs.Frames.{tagOctets, fieldSent, padded, clientBody, gap, onLine, pauseBody, classQuanta, pfcBody, idleSymbols}
+use Rattle.writing.specs.Frames.{kindField, tagsSent, tagOctets, fieldSent, padded, clientBody, gap, onLine, pauseBody, classQuanta, pfcBody, idleSymbols}
 use Rattle.writing.specs.Pieces.{lead, headOf, controlOf, gapOctets, endOf, frameMarks, Laid}
 use Rattle.writing.proofs.Sizes.{two, group-six, line-size, idle-size}
 
@@ -55,7 +56,7 @@ marks-size n h = simp (length-append, length-replicate) (omega arith)
 -- ---- each body, associated as it is written
 
 pub client-pieces : (s : Settings) (c : Client) (d : List ℕ)
-    → ((headOf (c .dest .0) (s .own) ++ tagOctets (c .tag)) ++ highFirst (fieldSent (c .form) d)) ++ padded d ≡ lead ++ clientBody s c d
+    → ((headOf (c .dest .0) (s .own) ++ tagOctets (tagsSent c)) ++ highFirst (fieldSent (c .form) d)) ++ padded d ≡ lead ++ clientBody s c d
 unfolding headOf clientBody
 client-pieces s c d = simp append-assoc
 
@@ -84,6 +85,24 @@ quanta-turn {l} {m} {p} {r} {x} left k qs q h e put =
 pub quanta-end : (l : List ℕ) (p left k : ℕ) (qs : List Quanta) → length qs ≤ k → sets l p (classQuanta left (drop k qs)) ≡ l
 unfolding classQuanta
 quanta-end l p left k qs h = rw (drop-of-length-le qs {i = k} h)
+
+-- ---- the tags, one by one
+
+pub tags-begin : (l : List ℕ) (p n : ℕ) (ts : List Tag) → sets l (p + 4 * 0) (tagOctets (take (n - 0) (drop 0 ts))) ≡ sets l p (tagOctets (take n ts))
+tags-begin l p n ts = let all : n - 0 ≡ n = omega arith in rw (add-zero, all)
+
+pub tags-turn : {l m : List ℕ} {p r : ℕ} (n k : ℕ) (ts : List Tag) (t : Tag) → k < n → k < length ts
+    → Put l p (highFirst (kindField (getD ts k t .kind)) ++ highFirst (getD ts k t .control)) r m
+    → sets m (p + 4) (tagOctets (take (n - (k + 1)) (drop (k + 1) ts))) ≡ sets l p (tagOctets (take (n - k) (drop k ts)))
+unfolding tagOctets highFirst
+tags-turn {l} {m} {p} {r} n k ts t lt h put =
+    let four : p + 4 ≡ suc (suc (suc (suc p))) = omega arith in
+    let less : n - k ≡ suc (n - (k + 1)) = omega arith in
+    rw (less, drop-cons ts k t h, tagOctets, add-one, four, put .holds)
+
+pub tags-end : (l : List ℕ) (p n k : ℕ) (ts : List Tag) → n ≤ k → sets l p (tagOctets (take (n - k) (drop k ts))) ≡ l
+unfolding tagOctets
+tags-end l p n k ts h = let none : n - k ≡ 0 = omega arith in rw none
 
 -- ---- the octets and the marks of symbols
 

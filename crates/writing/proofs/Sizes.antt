@@ -12,7 +12,7 @@ use Rattle.station.specs.declared.Quanta.{Quanta}
 use Rattle.control.specs.Control.{reservedGroup}
 use Rattle.writing.specs.declared.Client.{Client}
 use Rattle.writing.specs.declared.Classes.{Classes}
-use Rattle.writing.specs.Frames.{tagOctets, tagsSent, padded, clientBody, gap, onLine, clientSymbols, pauseBody, classQuanta, pfcBody, pauseSymbols, pfcSymbols, idleSymbols}
+use Rattle.writing.specs.Frames.{tagsSent, padded, clientBody, gap, onLine, clientSymbols, pauseBody, classQuanta, pfcBody, pauseSymbols, pfcSymbols, idleSymbols}
 use Rattle.writing.proofs.TagLaws.{tag-length}
 
 -- what owning a struct tells of its array of structs: the array's length stands there at the list of their parts
@@ -37,12 +37,12 @@ unfolding padded
 padded-size d = simp (length-append, length-replicate)
 
 pub client-body-size : (s : Settings) (c : Client) (d : List ℕ) → length (c .dest .0) ≡ 6 → length (s .own .0) ≡ 6
-    → length (clientBody s c d) ≡ 14 + 4 * tagsSent (c .tag) + (length d + (46 - length d))
+    → length (clientBody s c d) ≡ 14 + 4 * length (tagsSent c) + (length d + (46 - length d))
 unfolding clientBody
 client-body-size s c d dest own = simp (length-append, two, tag-length, padded-size) (omega arith)
 
 pub client-size : (s : Settings) (c : Client) (d : List ℕ) → length (c .dest .0) ≡ 6 → length (s .own .0) ≡ 6
-    → length (clientSymbols s c d) ≡ 38 + 4 * tagsSent (c .tag) + (length d + (46 - length d))
+    → length (clientSymbols s c d) ≡ 38 + 4 * length (tagsSent c) + (length d + (46 - length d))
 unfolding clientSymbols
 client-size s c d dest own = simp (line-size, client-body-size s c d dest own) (omega arith)
 

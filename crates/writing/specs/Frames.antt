@@ -2,7 +2,7 @@
 use Prim.Native.Nat.{ℕ, _+_, _-_, _/_, _%_}
 use mathlib.Core.Bool.{Bool, true, false, cond}
 use mathlib.Core.List.{List, [], _∷_, _++_, map}
-use lib.ListN.{length, drop, replicate}
+use lib.ListN.{length, take, replicate}
 use lib.Dec.{eqb}
 use Rattle.line.specs.Line.{Symbol, asData, asControl, idle, start, terminate, preamble}
 use Rattle.line.specs.Octets.{highFirst}
@@ -12,22 +12,27 @@ use Rattle.station.specs.declared.Quanta.{Quanta}
 use Rattle.control.specs.Control.{reservedGroup}
 use Rattle.writing.specs.declared.Client.{Client}
 use Rattle.writing.specs.declared.Classes.{Classes}
+use Rattle.writing.specs.declared.Kind.{Kind}
+use Rattle.writing.specs.declared.Kind.the-variants.{Customer, Service}
 use Rattle.writing.specs.declared.Tag.{Tag}
-use Rattle.writing.specs.declared.Tag.the-variants.{Untagged, Tagged}
 use Rattle.writing.specs.declared.Form.{Form}
 use Rattle.writing.specs.declared.Form.the-variants.{ByLength, ByType}
 
 -- ---- A client frame
 
--- "an optional tag control": 0x8100 and the tag control. Item 1 of document 02 makes this a list of tags with their kinds.
-unfoldable pub tagOctets : Tag → List ℕ
-tagOctets Untagged = []
-tagOctets (Tagged control) = highFirst 0x8100 ++ highFirst control
+-- "Field 0x8100 means tagged"; document 02, item 1: "a 0x88A8 tag outside a 0x8100 one"
+abbrev pub kindField : Kind → ℕ
+kindField Customer = 0x8100
+kindField Service = 0x88A8
 
--- how many tags these are
-unfoldable pub tagsSent : Tag → ℕ
-tagsSent Untagged = 0
-tagsSent (Tagged control) = 1
+-- item 1: "Sending takes up to eight tags with their kinds": those of the array that count
+unfoldable pub tagsSent : Client → List Tag
+tagsSent c = take (c .count) (c .tags)
+
+-- each tag's kind and its tag control: "a run that is one tag followed by a shorter run"
+unfoldable pub tagOctets : List Tag → List ℕ
+tagOctets [] = []
+tagOctets (t ∷ ts) = highFirst (kindField (t .kind)) ++ (highFirst (t .control) ++ tagOctets ts)
 
 -- "In the length form the field is the data's length."
 unfoldable pub fieldSent : Form → List ℕ → ℕ
@@ -38,9 +43,9 @@ fieldSent (ByType t) d = t
 unfoldable pub padded : List ℕ → List ℕ
 padded d = d ++ replicate (46 - length d) 0
 
--- "names a destination, an optional tag control, a form … and data. Source is the own address.": what the FCS covers
+-- "names a destination, … a form … and data. Source is the own address.", with its tags before the field: what the FCS covers
 unfoldable pub clientBody : Settings → Client → List ℕ → List ℕ
-clientBody s c d = c .dest .0 ++ (s .own .0 ++ (tagOctets (c .tag) ++ (highFirst (fieldSent (c .form) d) ++ padded d)))
+clientBody s c d = c .dest .0 ++ (s .own .0 ++ (tagOctets (tagsSent c) ++ (highFirst (fieldSent (c .form) d) ++ padded d)))
 
 -- "one Terminate and eleven Idles". Item 5 of document 02 gives this the place and the deficit count.
 unfoldable pub gap : List Symbol

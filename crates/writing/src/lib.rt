@@ -8,18 +8,24 @@ use station::Settings;
 ghost use mathlib.Core.Path.{_≡_};
 ghost use mathlib.Core.Bool.{cond};
 ghost use mathlib.Core.List.{_++_};
-ghost use Prim.Native.Nat.{_+_, _-_, _%_, _≤_, _<_};
+ghost use Prim.Native.Nat.{_+_, _-_, _*_, _%_, _≤_, _<_};
 ghost use lib.Dec.{eqb};
-ghost use lib.ListN.{length};
+ghost use lib.ListN.{length, take};
 ghost use Rattle.line.specs.Octets.{highFirst};
 ghost use Rattle.splice.specs.Written.{Put};
-ghost use Rattle.writing.specs.Frames.{tagOctets, fieldSent, padded, clientBody, pauseBody, classQuanta, pfcBody, clientSymbols, pauseSymbols, pfcSymbols, idleSymbols};
+ghost use Rattle.writing.specs.Frames.{kindField, tagOctets, fieldSent, padded, clientBody, pauseBody, classQuanta, pfcBody, clientSymbols, pauseSymbols, pfcSymbols, idleSymbols};
 ghost use Rattle.writing.specs.Pieces.{lead, headOf, controlOf, gapOctets, endOf, frameMarks, Laid};
 
-// An optional tag control.
-pub enum Tag {
-    Untagged,
-    Tagged(u16),
+// The kinds of tag: 0x8100, and 0x88A8 of a provider.
+pub enum Kind {
+    Customer,
+    Service,
+}
+
+// A tag: its kind and its tag control.
+pub struct Tag {
+    pub kind: Kind,
+    pub control: u16,
 }
 
 // The field: the data's length, or a type.
@@ -31,7 +37,10 @@ pub enum Form {
 // A client frame but for its data, which is lent beside it as a slice.
 pub struct Client {
     pub dest: Address,
-    pub tag: Tag,
+    // the outermost tag first
+    pub tags: [Tag; 8],
+    // how many of them count, from the front (above 8: refusal 10)
+    pub count: u8,
     pub form: Form,
     pub class: u8,
 }
@@ -69,18 +78,39 @@ fn put_number(octets: &mut [u8], at: usize, n: u16) -> usize
     put(octets, at, &[high, low])
 }
 
-// The tag, if there is one.
-fn put_tag(octets: &mut [u8], at: usize, tag: Tag) -> usize
-    requires { ⌜ at + length (tagOctets tag) ≤ length (now octets) ⌝ }
-    ensures { λ r. ⌜ Put (now (octets .entry)) at (tagOctets tag) r (now (octets .exit)) ⌝ }
+// The field that stands for a kind of tag.
+fn kind_field(kind: Kind) -> u16
+    ensures { λ r. ⌜ r ≡ kindField kind ⌝ }
 {
-    match tag {
-        Tag::Untagged => at,
-        Tag::Tagged(control) => {
-            let a = put_number(octets, at, 0x8100);
-            put_number(octets, a, control)
-        }
+    match kind {
+        Kind::Customer => 0x8100,
+        Kind::Service => 0x88A8,
     }
+}
+
+// A tag: its kind and its tag control.
+fn put_tag(octets: &mut [u8], at: usize, tag: Tag) -> usize
+    requires { ⌜ at + 4 ≤ length (now octets) ⌝ }
+    ensures { λ r. ⌜ Put (now (octets .entry)) at (highFirst (kindField (tag .kind)) ++ highFirst (tag .control)) r (now (octets .exit)) ⌝ }
+{
+    let kind = tag.kind;
+    let a = put_number(octets, at, kind_field(kind));
+    put_number(octets, a, tag.control)
+}
+
+// The first `count` of the tags.
+fn put_tags(octets: &mut [u8], at: usize, tags: [Tag; 8], count: u8) -> usize
+    requires { ⌜ (count ≤ 8) × (at + 4 * count ≤ length (now octets)) ⌝ }
+    ensures { λ r. ⌜ Put (now (octets .entry)) at (tagOctets (take count tags)) r (now (octets .exit)) ⌝ }
+{
+    let n = count as usize;
+    let mut k: usize = 0;
+    while k < n {
+        let tag = tags[k];
+        put_tag(octets, at + 4 * k, tag);
+        k += 1;
+    }
+    at + 4 * k
 }
 
 // The field.
@@ -113,14 +143,14 @@ fn put_data(octets: &mut [u8], at: usize, d: &[u8]) -> usize
 
 // A client frame up to its FCS.
 fn put_client(octets: &mut [u8], s: Settings, client: Client, d: &[u8]) -> usize
-    requires { ⌜ (8 + length (clientBody s client (now d)) ≤ length (now octets)) × (length (now d) < 65536) ⌝ }
+    requires { ⌜ (8 + length (clientBody s client (now d)) ≤ length (now octets)) × (length (now d) < 65536) × (client .count ≤ 8) ⌝ }
     ensures { λ r. ⌜ Put (now (octets .entry)) 0 (lead ++ clientBody s client (now (d .entry))) r (now (octets .exit)) ⌝ }
 {
-    let tag = client.tag;
+    let tags = client.tags;
     let form = client.form;
     let field = field_sent(form, d);
     let a = put_head(octets, client.dest, s.own);
-    let b = put_tag(octets, a, tag);
+    let b = put_tags(octets, a, tags, client.count);
     let c = put_number(octets, b, field);
     put_data(octets, c, d)
 }
@@ -227,7 +257,7 @@ fn finish(octets: &mut [u8], marks: &mut [u8], at: usize) -> usize
 
 fn write_client(octets: &mut [u8], marks: &mut [u8], s: Settings, client: Client, d: &[u8]) -> usize
     requires { ⌜ (length (clientSymbols s client (now d)) ≤ length (now octets))
-        × (length (clientSymbols s client (now d)) ≤ length (now marks)) × (length (now d) < 65536) ⌝ }
+        × (length (clientSymbols s client (now d)) ≤ length (now marks)) × (length (now d) < 65536) × (client .count ≤ 8) ⌝ }
     ensures { λ r. ⌜ Laid (now (octets .entry)) (now (marks .entry)) 0 (clientSymbols s client (now (d .entry))) r
         (now (octets .exit)) (now (marks .exit)) ⌝ }
 {
@@ -271,7 +301,7 @@ pub fn client_at(
     d: &[u8],
 ) -> usize
     requires { ⌜ (place + length (clientSymbols s client (now d)) ≤ length (now octets))
-        × (place + length (clientSymbols s client (now d)) ≤ length (now marks)) × (length (now d) < 65536) ⌝ }
+        × (place + length (clientSymbols s client (now d)) ≤ length (now marks)) × (length (now d) < 65536) × (client .count ≤ 8) ⌝ }
     ensures { λ r. ⌜ Laid (now (octets .entry)) (now (marks .entry)) place (clientSymbols s client (now (d .entry))) r
         (now (octets .exit)) (now (marks .exit)) ⌝ }
 {

@@ -78,7 +78,7 @@ fn holding(bench: &mut Bench, prng: &mut Prng) -> Result<(), Difference> {
     };
     let client = Client {
         dest: s.own,
-        tag: None,
+        tags: Vec::new(),
         form: Form::Length,
         class,
     };

@@ -1,6 +1,6 @@
 //! The reference's values as those of the library's face, and back.
 use fenhamper::{Address, Counted, Refusal};
-use reference::{Answer, Client, Flow, Form, Reading, Sent, Settings, State, Walked};
+use reference::{Answer, Client, Flow, Form, Reading, Sent, Settings, State, Tag, TagKind, Walked};
 
 /// Settings for the library.
 pub fn settings(s: &Settings) -> fenhamper::Settings {
@@ -24,17 +24,23 @@ pub fn state(state: &State) -> fenhamper::State {
     fenhamper::State::with(state.counters, state.timers)
 }
 
+/// A tag for the library.
+fn tag(tag: &Tag) -> fenhamper::Tag {
+    match tag.kind {
+        TagKind::Customer => fenhamper::Tag::customer(tag.control),
+        TagKind::Service => fenhamper::Tag::service(tag.control),
+    }
+}
+
 /// A client frame for the library.
 pub fn frame(client: &Client) -> fenhamper::Frame {
+    let tags: Vec<_> = client.tags.iter().map(tag).collect();
     let frame = fenhamper::Frame::to(Address(client.dest)).class(client.class);
     let frame = match client.form {
         Form::Length => frame.by_length(),
         Form::Type(field) => frame.by_type(field),
     };
-    match client.tag {
-        Some(control) => frame.tag(control),
-        None => frame,
-    }
+    frame.tags(&tags)
 }
 
 /// A counted reading of the library.

@@ -32,13 +32,14 @@ pub enum Fcs {
 /// The frame of a counted Start, behind a right preamble. Its parts are empty where it is too short.
 #[derive(Clone, Copy, Debug)]
 pub struct FrameSeen<'a> {
+    octets: &'a [u8],
     /// From destination to FCS.
     pub size: usize,
     /// The destination.
     pub to: [u8; 6],
-    /// The first field is 0x8100.
-    pub tagged: bool,
-    /// The field behind the tag, if there is one.
+    /// How many tags stand behind the addresses, up to eight.
+    pub tags: usize,
+    /// The field behind the last tag, if there is one.
     pub field: u16,
     /// From after the field to before the FCS.
     pub data: &'a [u8],
@@ -48,12 +49,14 @@ pub struct FrameSeen<'a> {
 
 impl<'a> FrameSeen<'a> {
     fn new(octets: &'a [u8], outcome: u8) -> FrameSeen<'a> {
-        let tagged = number_at(octets, 12) == 0x8100;
-        let field_at = if tagged { 16 } else { 12 };
+        let is_tag = |k: &usize| is_tag_kind(number_at(octets, 12 + 4 * k));
+        let tags = (0..8).take_while(is_tag).count();
+        let field_at = 12 + 4 * tags;
         FrameSeen {
+            octets,
             size: octets.len(),
             to: octets.first_chunk().copied().unwrap_or_default(),
-            tagged,
+            tags,
             field: number_at(octets, field_at),
             data: octets
                 .get(field_at + 2..octets.len().saturating_sub(4))
@@ -65,9 +68,19 @@ impl<'a> FrameSeen<'a> {
         }
     }
 
+    /// The kind of a tag, the outermost of which is tag 0.
+    pub fn tag_kind(&self, k: usize) -> u16 {
+        number_at(self.octets, 12 + 4 * k)
+    }
+
+    /// Eight tags, and what would be a ninth.
+    pub fn nine_tags(&self) -> bool {
+        self.tags == 8 && is_tag_kind(self.field)
+    }
+
     /// A control frame, if it is long enough for one.
     pub fn control(&self) -> bool {
-        !self.tagged && self.field == 0x8808
+        self.tags == 0 && self.field == 0x8808
     }
 
     /// A control frame's opcode.
@@ -98,6 +111,10 @@ impl<'a> FrameSeen<'a> {
             _ => false,
         }
     }
+}
+
+fn is_tag_kind(field: u16) -> bool {
+    field == 0x8100 || field == 0x88A8
 }
 
 fn number_at(octets: &[u8], at: usize) -> u16 {
@@ -383,10 +400,10 @@ impl SendingSeen<'_> {
             (4, Sending::Pause(_)) => self.s.flow != Flow::Pause,
             (4, Sending::Pfc(..)) => self.s.flow != Flow::Pfc,
             (5, Sending::Client(client, _)) => client.class > 7,
-            (6, Sending::Client(client, _)) => matches!(
-                client.form,
-                Form::Type(0..=1535) | Form::Type(0x8100) | Form::Type(0x8808)
-            ),
+            (6, Sending::Client(client, _)) => {
+                matches!(client.form, Form::Type(0..=1535 | 0x8100 | 0x8808 | 0x88A8))
+            }
+            (10, Sending::Client(client, _)) => client.tags.len() > 8,
             (7, Sending::Client(client, data)) => match client.form {
                 Form::Length => data.len() > 1500,
                 Form::Type(_) => data.len() + 18 > usize::from(self.s.limit),
@@ -400,11 +417,11 @@ impl SendingSeen<'_> {
         }
     }
 
-    /// A client frame, tagged or not if that is asked, of which this is true.
-    pub fn client(&self, tagged: Option<bool>, test: impl FnOnce(&Client, &[u8]) -> bool) -> bool {
+    /// A client frame, with so many tags if that is asked, of which this is true.
+    pub fn client(&self, tags: Option<usize>, test: impl FnOnce(&Client, &[u8]) -> bool) -> bool {
         match self.call {
             Sending::Client(client, data) => {
-                tagged.is_none_or(|tagged| client.tag.is_some() == tagged) && test(client, data)
+                tags.is_none_or(|n| client.tags.len() == n) && test(client, data)
             }
             _ => false,
         }

@@ -1,23 +1,24 @@
-//! "Frame": a captured frame taken apart, with the "Length rule".
+//! "Frame": a captured frame taken apart, with the "Length rule"; tags by
+//! "Stacked tags", item 1 of document 02.
 
 use crate::check::{fcs, Check};
-use crate::line::{is_group, BROADCAST, CONTROL_FIELD, FCS_LEN, FIRST_TYPE, LAST_LENGTH};
-use crate::line::{MIN_DATA, TAG};
+use crate::line::{is_group, is_tag, BROADCAST, CONTROL_FIELD, FCS_LEN, FIRST_TYPE, LAST_LENGTH};
+use crate::line::{MAX_TAGS, MIN_DATA, TAG_LEN};
 
 /// Shortest frame that isn't undersized.
 const MIN_FRAME: usize = 64;
-/// Destination, source and field.
-const HEADER: usize = 14;
-/// Tag control and real field after a field of 0x8100.
-const TAG_LEN: usize = 4;
+/// Destination and source.
+const ADDRESSES: usize = 12;
+/// The field behind the addresses or behind the last tag.
+const FIELD: usize = 2;
 
 /// A frame of 64 octets or more, from destination to FCS.
 pub(crate) struct Frame<'a> {
     octets: &'a [u8],
     pub(crate) destination: [u8; 6],
-    /// The first field was 0x8100.
-    pub(crate) tagged: bool,
-    /// The real field: behind the tag, if there is one.
+    /// How many tags stand behind the addresses, up to eight.
+    pub(crate) tags: usize,
+    /// The real field: behind the last tag, if there is one.
     pub(crate) field: u16,
 }
 
@@ -30,6 +31,13 @@ pub(crate) fn number_at(octets: &[u8], at: usize) -> u16 {
     }
 }
 
+/// How many tags stand at the front, up to eight: each is four octets, and
+/// the run ends before the first that doesn't begin with a tag's field.
+fn count_tags(octets: &[u8]) -> usize {
+    let fours = octets.chunks_exact(TAG_LEN).take(MAX_TAGS);
+    fours.take_while(|four| is_tag(number_at(four, 0))).count()
+}
+
 impl<'a> Frame<'a> {
     /// Nothing for an undersized frame; all others have every part.
     pub(crate) fn parse(octets: &'a [u8]) -> Option<Self> {
@@ -37,21 +45,13 @@ impl<'a> Frame<'a> {
             return None;
         }
         let destination = *octets.first_chunk()?;
-        let first = number_at(octets, HEADER - 2);
-        let tagged = first == TAG;
-        // Open point: a real field of 0x8100 behind a tag is a type like any
-        // other, as only the first field is said to mean tagged and bit 32
-        // (stacked) is always 0 for now.
-        let field = if tagged {
-            number_at(octets, HEADER + TAG_LEN - 2)
-        } else {
-            first
-        };
+        // Eight tags, the field and the FCS take 50 octets of the 64.
+        let tags = count_tags(&octets[ADDRESSES..]);
         Some(Frame {
             octets,
             destination,
-            tagged,
-            field,
+            tags,
+            field: number_at(octets, ADDRESSES + tags * TAG_LEN),
         })
     }
 
@@ -62,11 +62,7 @@ impl<'a> Frame<'a> {
 
     /// Where the data begins in the frame.
     pub(crate) fn data_at(&self) -> usize {
-        if self.tagged {
-            HEADER + TAG_LEN
-        } else {
-            HEADER
-        }
+        ADDRESSES + self.tags * TAG_LEN + FIELD
     }
 
     /// From after the field to before the FCS.
@@ -74,10 +70,9 @@ impl<'a> Frame<'a> {
         &self.octets[self.data_at()..self.octets.len() - FCS_LEN]
     }
 
-    /// Over the limit? The tag adds four octets to it, the size doesn't.
+    /// Over the limit? Each tag adds four octets to it, the size doesn't.
     pub(crate) fn is_oversized(&self, limit: u16) -> bool {
-        let limit = usize::from(limit) + if self.tagged { TAG_LEN } else { 0 };
-        self.len() > limit
+        self.len() > usize::from(limit) + self.tags * TAG_LEN
     }
 
     /// Are the last four octets the check of all before them?
@@ -100,9 +95,9 @@ impl<'a> Frame<'a> {
         (data == field.max(MIN_DATA)).then_some(field)
     }
 
-    /// First field 0x8808: a tagged 0x8808 is an ordinary type.
+    /// First field 0x8808: behind any tag it is an ordinary type.
     pub(crate) fn is_control(&self) -> bool {
-        !self.tagged && self.field == CONTROL_FIELD
+        self.tags == 0 && self.field == CONTROL_FIELD
     }
 
     /// "Status word", but for bits 39 and 35, which belong to the outcome.
@@ -116,7 +111,8 @@ impl<'a> Frame<'a> {
         };
         1 << kind
             | u64::from(self.is_control()) << 34
-            | u64::from(self.tagged) << 33
+            | u64::from(self.tags == 1) << 33
+            | u64::from(self.tags > 1) << 32
             | (self.len() as u64 & 0xFFFF) << 16
             | (data_length as u64 & 0xFFFF)
     }

@@ -1,8 +1,8 @@
-//! A reference implementation of document 01: the work of an Ethernet MAC on
-//! line symbols kept in memory.
+//! A reference implementation of document 01, with item 1 of document 02: the
+//! work of an Ethernet MAC on line symbols kept in memory.
 //!
-//! Written from that document alone, to be compared with the proved program.
-//! The words in quotes in the comments are the names of its sections.
+//! Written from those documents alone, to be compared with the proved program.
+//! The words in quotes in the comments are the names of their sections.
 
 #![forbid(unsafe_code)]
 #![warn(missing_docs)]
@@ -19,5 +19,5 @@ mod settings;
 pub use check::{fcs, fcs_update, Check};
 pub use print::print;
 pub use receive::{read, walk, Answer, Reading, Walked};
-pub use send::{fill_idle, send_client, send_pause, send_pfc, Client, Form, Sent};
+pub use send::{fill_idle, send_client, send_pause, send_pfc, Client, Form, Sent, Tag, TagKind};
 pub use settings::{Flow, Settings, State};

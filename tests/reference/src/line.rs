@@ -24,8 +24,13 @@ pub(crate) const FCS_LEN: usize = 4;
 /// Data shorter than this is padded.
 pub(crate) const MIN_DATA: usize = 46;
 
-/// Field that says that a tag follows.
-pub(crate) const TAG: u16 = 0x8100;
+/// Fields that say that a tag follows; each is the first half of its tag.
+pub(crate) const CUSTOMER_TAG: u16 = 0x8100;
+pub(crate) const SERVICE_TAG: u16 = 0x88A8;
+/// Octets of a tag: its kind and its tag control.
+pub(crate) const TAG_LEN: usize = 4;
+/// Most tags that a frame has; a ninth is an ordinary type.
+pub(crate) const MAX_TAGS: usize = 8;
 /// Field of a control frame.
 pub(crate) const CONTROL_FIELD: u16 = 0x8808;
 /// Opcode of a pause frame.
@@ -40,6 +45,11 @@ pub(crate) const LAST_LENGTH: u16 = 1500;
 /// Destination of control frames.
 pub(crate) const RESERVED_GROUP: [u8; 6] = [0x01, 0x80, 0xC2, 0x00, 0x00, 0x01];
 pub(crate) const BROADCAST: [u8; 6] = [0xFF; 6];
+
+/// Does this field say that a tag follows?
+pub(crate) fn is_tag(field: u16) -> bool {
+    field == CUSTOMER_TAG || field == SERVICE_TAG
+}
 
 /// Is the group bit (lowest bit of the first octet) set?
 pub(crate) fn is_group(address: &[u8; 6]) -> bool {

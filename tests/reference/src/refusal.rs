@@ -1,9 +1,9 @@
 //! "Refusals and their order". Each check gives its number as the error, so a
-//! call that makes its checks in rising order, with `?` between them, gives
-//! the lowest.
+//! call that makes its checks in their order, with `?` between them, gives the
+//! first: the order is that of the numbers, but 10 stands between 6 and 7.
 
-use crate::line::{CONTROL_FIELD, FIRST_TYPE, LAST_LENGTH, MAX_SYMBOLS, TAG};
-use crate::send::Form;
+use crate::line::{is_tag, CONTROL_FIELD, FIRST_TYPE, LAST_LENGTH, MAX_SYMBOLS, MAX_TAGS};
+use crate::send::{Form, Tag};
 use crate::settings::{Flow, Settings, State};
 
 pub(crate) type Checked = Result<(), u8>;
@@ -38,20 +38,30 @@ pub(crate) fn class(class: u8) -> Checked {
     refuse(5, class > 7)
 }
 
-/// Refusals 6 and 7.
+/// Refusal 6.
+pub(crate) fn form(form: Form) -> Checked {
+    match form {
+        Form::Length => Ok(()),
+        Form::Type(field) => refuse(
+            6,
+            field < FIRST_TYPE || is_tag(field) || field == CONTROL_FIELD,
+        ),
+    }
+}
+
+/// Refusal 10.
+pub(crate) fn tags(tags: &[Tag]) -> Checked {
+    refuse(10, tags.len() > MAX_TAGS)
+}
+
+/// Refusal 7.
 ///
 /// Open point: a tag doesn't lower the data limit of the type form, as the
 /// table names none and a tag raises the frame's limit by its own four octets.
-pub(crate) fn form(settings: &Settings, form: Form, data: usize) -> Checked {
+pub(crate) fn data(settings: &Settings, form: Form, data: usize) -> Checked {
     let most = match form {
         Form::Length => usize::from(LAST_LENGTH),
-        Form::Type(field) => {
-            refuse(
-                6,
-                field < FIRST_TYPE || [TAG, CONTROL_FIELD].contains(&field),
-            )?;
-            usize::from(settings.limit).saturating_sub(18)
-        }
+        Form::Type(_) => usize::from(settings.limit).saturating_sub(18),
     };
     refuse(7, data > most)
 }

@@ -1,8 +1,9 @@
-//! "Sending".
+//! "Sending"; tags by "Stacked tags", item 1 of document 02.
 
 use crate::check::{fcs, Check};
-use crate::line::{CONTROL, CONTROL_FIELD, DATA, FCS_LEN, GAP, IDLE, MIN_DATA, PAUSE_OPCODE};
-use crate::line::{PFC_OPCODE, PREAMBLE, RESERVED_GROUP, START, TAG, TERMINATE};
+use crate::line::{CONTROL, CONTROL_FIELD, CUSTOMER_TAG, DATA, FCS_LEN, GAP, IDLE, MIN_DATA};
+use crate::line::{PAUSE_OPCODE, PFC_OPCODE, PREAMBLE, RESERVED_GROUP, SERVICE_TAG, START};
+use crate::line::{TAG_LEN, TERMINATE};
 use crate::refusal;
 use crate::settings::{is_named, Flow, Settings, State};
 
@@ -15,13 +16,43 @@ pub enum Form {
     Type(u16),
 }
 
-/// What a client frame names besides its data.
+/// The kinds of tags, by their names in IEEE 802.1Q.
 #[derive(Clone, Copy, Debug, PartialEq, Eq)]
+pub enum TagKind {
+    /// 0x8100.
+    Customer,
+    /// 0x88A8.
+    Service,
+}
+
+/// A tag.
+#[derive(Clone, Copy, Debug, PartialEq, Eq)]
+pub struct Tag {
+    /// Its kind.
+    pub kind: TagKind,
+    /// Its tag control.
+    pub control: u16,
+}
+
+impl Tag {
+    /// As it stands in a frame.
+    fn octets(&self) -> [u8; TAG_LEN] {
+        let kind = match self.kind {
+            TagKind::Customer => CUSTOMER_TAG,
+            TagKind::Service => SERVICE_TAG,
+        };
+        let ([a, b], [c, d]) = (kind.to_be_bytes(), self.control.to_be_bytes());
+        [a, b, c, d]
+    }
+}
+
+/// What a client frame names besides its data.
+#[derive(Clone, Debug, PartialEq, Eq)]
 pub struct Client {
     /// Destination.
     pub dest: [u8; 6],
-    /// Tag control, if tagged.
-    pub tag: Option<u16>,
+    /// Tags, the outermost first; more than eight are refused.
+    pub tags: Vec<Tag>,
     /// Length or type.
     pub form: Form,
     /// Class, 0 to 7; above that is refused.
@@ -77,16 +108,16 @@ struct Outgoing<'a> {
 }
 
 impl<'a> Outgoing<'a> {
-    /// Puts source, tag and padding where they belong.
+    /// Puts source, tags and padding where they belong.
     fn new(
         dest: &'a [u8; 6],
         s: &'a Settings,
-        tag: &'a [u8],
+        tags: &'a [u8],
         field: &'a [u8; 2],
         data: &'a [u8],
     ) -> Self {
         Outgoing {
-            parts: [dest, &s.own, tag, field, data],
+            parts: [dest, &s.own, tags, field, data],
             padding: &ZEROS[data.len().min(MIN_DATA)..],
         }
     }
@@ -168,7 +199,9 @@ fn client_frame(
     refusal::settings(s)?;
     line.check()?;
     refusal::class(client.class)?;
-    refusal::form(s, client.form, data.len())?;
+    refusal::form(client.form)?;
+    refusal::tags(&client.tags)?;
+    refusal::data(s, client.form, data.len())?;
 
     let field = match client.form {
         // At most 1500, by refusal 7.
@@ -176,12 +209,8 @@ fn client_frame(
         Form::Type(field) => field,
     }
     .to_be_bytes();
-    let tag = client.tag.map(|control| {
-        let ([a, b], [c, d]) = (TAG.to_be_bytes(), control.to_be_bytes());
-        [a, b, c, d]
-    });
-    let tag = tag.as_ref().map_or(&[][..], <[u8; 4]>::as_slice);
-    let frame = Outgoing::new(&client.dest, s, tag, &field, data);
+    let tags: Vec<u8> = client.tags.iter().flat_map(Tag::octets).collect();
+    let frame = Outgoing::new(&client.dest, s, &tags, &field, data);
 
     line.has_room(frame.symbols())?;
     refusal::timer(state, client.class)?;

@@ -1,25 +1,26 @@
 -- `fenhamper::tag` meets its contract. Assumes nothing.
-use borrow.Author.Tests.{eq-eqb, ne-eqb}
+use Rattle.fenhamper.specs.Face.{tagAt}
 use borrow.Author.Needs.{needs}
-use mathlib.Core.Path.{ap}
-use Rattle.writing.specs.declared.Tag.the-variants.{Tagged}
-use Rattle.fenhamper.specs.Face.{tagOf}
 use Rattle.fenhamper.proofs.tag.Statement.{statement}
 use Rattle.fenhamper.proofs.tag.Tie as tie
 
-element-copy-out-if1 : tie.Need-element-copy-out-if1
-element-copy-out-if1 c = search needs
+element-copy-out-kind : tie.Need-element-copy-out-kind
+element-copy-out-kind c = search needs
 
-returns : tie.Need-returns
-unfolding tagOf
-returns c = rw (eq-eqb _ _ (c .if1 .taken))
+kind-requires : tie.Need-kind-requires
+kind-requires c κs = search needs
+
+add-high-first : tie.Need-add-high-first
+add-high-first c = search needs
 
 high-first-requires : tie.Need-high-first-requires
 high-first-requires c κs = search needs
 
-returns-2 : tie.Need-returns-2
-unfolding tagOf
-returns-2 c = rw (ne-eqb _ _ (c .before .before .if1 .left)) (ap Tagged (c .high-first .ensures))
+returns : tie.Need-returns
+unfolding tagAt
+returns c = rw (c .before .before .kind .ensures, c .high-first .ensures)
 
 pub tag-spec : {M : Type 1} → statement M
-tag-spec = tie.close (tie.spec element-copy-out-if1 returns high-first-requires returns-2)
+tag-spec =
+    tie.close
+    (tie.spec element-copy-out-kind kind-requires add-high-first high-first-requires returns)

@@ -1,7 +1,7 @@
 -- `send::check_client` meets its contract: each way out passes the rows that did not hold and stops at the one that did. Assumes nothing.
-use Prim.Native.Nat.{ℕ, _≤_}
+use Prim.Native.Nat.{ℕ, _+_, _-_, _*_, _≤_}
 use native.Mathlib.Omega.{arith}
-use mathlib.Core.Path.{_≡_, refl, sym, _∙_}
+use mathlib.Core.Path.{_≡_, refl, sym, ap, _∙_}
 use lib.ListN.{length}
 use denote.Ref.{now}
 use borrow.Author.Needs.{needs}
@@ -9,11 +9,12 @@ use Rattle.line.specs.Table.{Table, first}
 use Rattle.line.proofs.Tables.{first-other}
 use Rattle.station.specs.declared.Checked.{Checked}
 use Rattle.station.specs.declared.Checked.the-variants.{Fine}
-use Rattle.station.specs.declared.Refusal.the-variants.{BadSettings, BadBuffers, BadPlace, BadClass, BadType, LongData, NoRoom, Held}
+use Rattle.station.specs.declared.Refusal.the-variants.{BadSettings, BadBuffers, BadPlace, BadClass, BadType, LongData, NoRoom, Held, ManyTags}
 use Rattle.writing.specs.Frames.{clientSymbols}
 use Rattle.send.specs.Sending.{noRoom, clientRefusals, clientChecked}
-use Rattle.writing.proofs.Sizes.{client-size}
-use Rattle.send.proofs.Refusals.{after, row-holds, row-passed, limit-from, inside, class-to-7, short-data, room-by}
+use Rattle.writing.proofs.Sizes.{length-mapped, client-size}
+use Rattle.writing.proofs.TagLaws.{tags-count}
+use Rattle.send.proofs.Refusals.{after, row-holds, row-passed, limit-from, inside, class-to-7, tags-to-8, short-data, room-by}
 use Rattle.send.proofs.check_client.Statement.{statement}
 use Rattle.send.proofs.check_client.Tie as tie
 
@@ -43,10 +44,13 @@ abbrev at6 : tie.Else6 → tie.Start
 at6 c = at5 (c .before .before)
 
 abbrev at7 : tie.Else7 → tie.Start
-at7 c = at6 (c .before .before .before)
+at7 c = at6 (c .before .before)
 
 abbrev at8 : tie.Else8 → tie.Start
-at8 c = at7 (c .before .before)
+at8 c = at7 (c .before .before .before)
+
+abbrev at9 : tie.Else9 → tie.Start
+at9 c = at8 (c .before .before)
 
 past-1 : (c : tie.Else1) → past 1 (at1 c)
 unfolding clientRefusals
@@ -73,7 +77,11 @@ past-5 c = row-passed BadType _ (past-4 (c .before .before)) (c .before .bad-typ
 
 past-6 : (c : tie.Else6) → past 6 (at6 c)
 unfolding clientRefusals
-past-6 c = row-passed LongData _ (past-5 (c .before .before)) (c .before .long-data .ensures) (c .if6 .left)
+past-6 c = row-passed ManyTags _ (past-5 (c .before .before)) (c .before .many-tags .ensures) (c .if6 .left)
+
+past-7 : (c : tie.Else7) → past 7 (at7 c)
+unfolding clientRefusals
+past-7 c = row-passed LongData _ (past-6 (c .before .before)) (c .before .long-data .ensures) (c .if7 .left)
 
 dest-6 : (c : tie.Start) → length (c .args .client .dest .0) ≡ 6
 dest-6 c = search needs
@@ -81,19 +89,27 @@ dest-6 c = search needs
 own-6 : (c : tie.Start) → length (c .args .s .own .0) ≡ 6
 own-6 c = search needs
 
--- the room that is asked for is that of the frame's symbols
-room : (c : tie.After-no-room) → let a = at6 (c .before .before) .args in c .no-room .result ≡ noRoom (now (a .octets)) (a .place) (clientSymbols (a .s) (a .client) (now (a .d)))
-room c =
-    let a = at6 (c .before .before) .args in
-    c .no-room .ensures ∙ room-by (now (a .octets)) (a .place) _ _ (client-size (a .s) (a .client) (now (a .d)) (dest-6 (at6 (c .before .before))) (own-6 (at6 (c .before .before))) ∙ sym (c .before .client-size .ensures))
+tags-8 : (c : tie.Start) → length (c .args .client .tags) ≡ 8
+tags-8 c = search (length-mapped, needs)
 
-past-7 : (c : tie.Else7) → past 7 (at7 c)
-unfolding clientRefusals
-past-7 c = row-passed NoRoom _ (past-6 (c .before .before .before)) (room (c .before)) (c .if7 .left)
+-- the room that is asked for is that of the frame's symbols
+room : (c : tie.After-no-room) → let a = at7 (c .before .before) .args in c .no-room .result ≡ noRoom (now (a .octets)) (a .place) (clientSymbols (a .s) (a .client) (now (a .d)))
+room c =
+    let s = at7 (c .before .before) in
+    let a = s .args in
+    let p6 = c .before .before .before .before in
+    let few = tags-to-8 (a .client) (sym (p6 .before .many-tags .ensures) ∙ p6 .if6 .left) in
+    let size = client-size (a .s) (a .client) (now (a .d)) (dest-6 s) (own-6 s) in
+    let counted = ap (λ (n : ℕ). 38 + 4 * n + (length (now (a .d)) + (46 - length (now (a .d))))) (tags-count (a .client) (tags-8 s) few) in
+    c .no-room .ensures ∙ room-by (now (a .octets)) (a .place) _ _ (size ∙ counted ∙ sym (c .before .client-size .ensures))
 
 past-8 : (c : tie.Else8) → past 8 (at8 c)
 unfolding clientRefusals
-past-8 c = row-passed Held _ (past-7 (c .before .before)) (c .before .held .ensures) (c .if8 .left)
+past-8 c = row-passed NoRoom _ (past-7 (c .before .before .before)) (room (c .before)) (c .if8 .left)
+
+past-9 : (c : tie.Else9) → past 9 (at9 c)
+unfolding clientRefusals
+past-9 c = row-passed Held _ (past-8 (c .before .before)) (c .before .held .ensures) (c .if9 .left)
 
 bad-settings-requires : tie.Need-bad-settings-requires
 bad-settings-requires c κs = search needs
@@ -130,41 +146,48 @@ returns-5 : tie.Need-returns-5
 unfolding clientChecked clientRefusals
 returns-5 c = row-holds BadType _ (past-4 (c .before .before)) (c .before .bad-type .ensures) (c .if5 .taken)
 
-long-data-requires : tie.Need-long-data-requires
-long-data-requires c κs = valid (c .before .before .before .before .before .before .before .before) .0
+many-tags-requires : tie.Need-many-tags-requires
+many-tags-requires c κs = search needs
 
 returns-6 : tie.Need-returns-6
 unfolding clientChecked clientRefusals
-returns-6 c = row-holds LongData _ (past-5 (c .before .before)) (c .before .long-data .ensures) (c .if6 .taken)
+returns-6 c = row-holds ManyTags _ (past-5 (c .before .before)) (c .before .many-tags .ensures) (c .if6 .taken)
+
+long-data-requires : tie.Need-long-data-requires
+long-data-requires c κs = valid (c .before .before .before .before .before .before .before .before .before .before) .0
+
+returns-7 : tie.Need-returns-7
+unfolding clientChecked clientRefusals
+returns-7 c = row-holds LongData _ (past-6 (c .before .before)) (c .before .long-data .ensures) (c .if7 .taken)
 
 client-size-requires : tie.Need-client-size-requires
 client-size-requires c κs =
-    let a = at6 c .args in
-    let v = valid (c .before .before .before .before .before .before .before .before .before .before) in
-    let n = short-data (a .s .limit) (a .client .form) (now (a .d)) (v .1) (sym (c .before .long-data .ensures) ∙ c .if6 .left) in
+    let a = at7 c .args in
+    let v = valid (c .before .before .before .before .before .before .before .before .before .before .before .before) in
+    let n = short-data (a .s .limit) (a .client .form) (now (a .d)) (v .1) (sym (c .before .long-data .ensures) ∙ c .if7 .left) in
     omega arith
 
 no-room-requires : tie.Need-no-room-requires
 no-room-requires c κs =
-    let p3 = c .before .before .before .before .before .before .before in
+    let p3 = c .before .before .before .before .before .before .before .before .before in
     inside _ _ (sym (p3 .before .bad-place .ensures) ∙ p3 .if3 .left)
-
-returns-7 : tie.Need-returns-7
-unfolding clientChecked clientRefusals
-returns-7 c = row-holds NoRoom _ (past-6 (c .before .before .before)) (room (c .before)) (c .if7 .taken)
-
-held-requires : tie.Need-held-requires
-held-requires c κs =
-    let p4 = c .before .before .before .before .before .before .before in
-    class-to-7 _ (sym (p4 .before .bad-class .ensures) ∙ p4 .if4 .left)
 
 returns-8 : tie.Need-returns-8
 unfolding clientChecked clientRefusals
-returns-8 c = row-holds Held _ (past-7 (c .before .before)) (c .before .held .ensures) (c .if8 .taken)
+returns-8 c = row-holds NoRoom _ (past-7 (c .before .before .before)) (room (c .before)) (c .if8 .taken)
+
+held-requires : tie.Need-held-requires
+held-requires c κs =
+    let p4 = c .before .before .before .before .before .before .before .before .before in
+    class-to-7 _ (sym (p4 .before .bad-class .ensures) ∙ p4 .if4 .left)
 
 returns-9 : tie.Need-returns-9
 unfolding clientChecked clientRefusals
-returns-9 c = sym (past-8 c ∙ first-other Fine)
+returns-9 c = row-holds Held _ (past-8 (c .before .before)) (c .before .held .ensures) (c .if9 .taken)
+
+returns-10 : tie.Need-returns-10
+unfolding clientChecked clientRefusals
+returns-10 c = sym (past-9 c ∙ first-other Fine)
 
 pub check-client-spec : {M : Type 1} → statement M
 check-client-spec =
@@ -180,11 +203,13 @@ check-client-spec =
     returns-4
     bad-type-requires
     returns-5
-    long-data-requires
+    many-tags-requires
     returns-6
+    long-data-requires
+    returns-7
     client-size-requires
     no-room-requires
-    returns-7
-    held-requires
     returns-8
-    returns-9)
+    held-requires
+    returns-9
+    returns-10)

@@ -4,9 +4,6 @@ use native.Mathlib.Omega.{arith}
 use Rattle.send.proofs.client_size.Statement.{statement}
 use Rattle.send.proofs.client_size.Tie as tie
 
-tags-sent-requires : tie.Need-tags-sent-requires
-tags-sent-requires c κs = search needs
-
 mul-result : tie.Need-mul-result
 mul-result c = omega arith
 
@@ -29,4 +26,4 @@ returns-2 : tie.Need-returns-2
 returns-2 c = omega arith
 
 pub client-size-spec : {M : Type 1} → statement M
-client-size-spec = tie.close (tie.spec tags-sent-requires mul-result add-result returns mul-result-2 add-result-2 add-result-3 returns-2)
+client-size-spec = tie.close (tie.spec mul-result add-result returns mul-result-2 add-result-2 add-result-3 returns-2)

@@ -41,7 +41,7 @@ client-at-requires c κs =
     let e = k .even in
     let r = k .room in
     let s = k .data-small in
-    (omega arith, omega arith, omega arith)
+    (omega arith, omega arith, omega arith, k .tags)
 
 wrote-requires : tie.Need-wrote-requires
 wrote-requires c κs = search needs

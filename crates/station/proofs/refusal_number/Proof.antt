@@ -31,6 +31,9 @@ enum-told-8 c = search needs
 enum-told-9 : tie.Need-enum-told-9
 enum-told-9 c = search needs
 
+enum-told-10 : tie.Need-enum-told-10
+enum-told-10 c = search needs
+
 returns : tie.Need-returns
 returns c = rw (c .enum-told .given .1) refl
 
@@ -58,6 +61,9 @@ returns-8 c = rw (c .enum-told8 .given .1) refl
 returns-9 : tie.Need-returns-9
 returns-9 c = rw (c .enum-told9 .given .1) refl
 
+returns-10 : tie.Need-returns-10
+returns-10 c = rw (c .enum-told10 .given .1) refl
+
 pub refusal-number-spec : {M : Type 1} → statement M
 refusal-number-spec =
     tie.close
@@ -71,6 +77,7 @@ refusal-number-spec =
     enum-told-7
     enum-told-8
     enum-told-9
+    enum-told-10
     returns
     returns-2
     returns-3
@@ -79,4 +86,5 @@ refusal-number-spec =
     returns-6
     returns-7
     returns-8
-    returns-9)
+    returns-9
+    returns-10)

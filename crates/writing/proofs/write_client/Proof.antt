@@ -15,7 +15,7 @@ unfolding clientSymbols
 put-client-requires c κs =
     let a = c .before .before .before .before .args in
     let n = line-size (clientBody (a .s) (a .client) (now (a .d))) in
-    (omega arith, search needs)
+    (omega arith, search needs, search needs)
 
 finish-requires : tie.Need-finish-requires
 unfolding clientSymbols

@@ -1,20 +1,24 @@
-//! Frames from destination to FCS, at the limits of document 01 more often than not.
+//! Frames from destination to FCS, at the limits of the rules more often than not.
 use super::settings::{control_destination, destination, station};
-use super::{IDLE, START, TERMINATE};
+use super::tags::{tag_control, tag_count, TAG_KINDS};
+use super::{IDLE, MOST_TAGS, START, TERMINATE};
 use crate::prng::Prng;
 use reference::{fcs, Check, Settings};
 
 /// Fields that are types, next to those that mean something else.
-const TYPES: [u16; 11] = [
-    1536, 1537, 0x0800, 0x80FF, 0x8100, 0x8101, 0x8807, 0x8808, 0x8809, 0x88A8, 0xFFFF,
+const TYPES: [u16; 13] = [
+    1536, 1537, 0x0800, 0x80FF, 0x8100, 0x8101, 0x8807, 0x8808, 0x8809, 0x88A7, 0x88A8, 0x88A9,
+    0xFFFF,
 ];
+/// Numbers of tags that are more than a frame has: the ninth is a type.
+const TOO_MANY: [usize; 3] = [9, 10, 12];
 
 /// A frame with the right FCS.
 pub fn frame(prng: &mut Prng, s: &Settings) -> Vec<u8> {
     match prng.below(24) {
         0..=8 => by_length(prng, s),
         9..=12 => by_type(prng, s),
-        13..=20 => control(prng, s),
+        13..=19 => control(prng, s),
         _ => sized(prng, s),
     }
 }
@@ -38,14 +42,14 @@ fn data(prng: &mut Prng, length: usize) -> Vec<u8> {
     data
 }
 
-/// A frame of these parts; a third has a tag.
-fn build(prng: &mut Prng, to: [u8; 6], field: u16, data: &[u8]) -> Vec<u8> {
-    let tag = prng.one_in(3);
-    let mut octets = Vec::with_capacity(data.len() + 22);
+/// A frame of these parts, with so many tags of any kinds.
+fn build(prng: &mut Prng, to: [u8; 6], tags: usize, field: u16, data: &[u8]) -> Vec<u8> {
+    let mut octets = Vec::with_capacity(data.len() + 18 + 4 * tags);
     octets.extend(to);
     octets.extend(station(prng));
-    if tag {
-        octets.extend([0x81, 0x00, prng.octet(), prng.octet()]);
+    for _ in 0..tags {
+        octets.extend(prng.pick(&TAG_KINDS).to_be_bytes());
+        octets.extend(tag_control(prng).to_be_bytes());
     }
     octets.extend(field.to_be_bytes());
     octets.extend(data);
@@ -60,17 +64,20 @@ fn by_length(prng: &mut Prng, s: &Settings) -> Vec<u8> {
         13 => prng.pick(&[1501, 1535]),
         _ => prng.pick(&[1499, 1500, 1501, 1535]),
     };
+    let tags = tag_count(prng, &TOO_MANY);
     let right = field.max(46);
     let length = match prng.below(12) {
         0 | 1 => right + 1,
         2 | 3 => right - 1,
         4 => field,
-        5..=8 if field > 1500 => 46,
+        // padded to 64 octets with the tags
+        5 => 46_usize.saturating_sub(4 * tags),
+        6..=8 if field > 1500 => 46,
         _ => right,
     };
     let to = destination(prng, s);
     let data = data(prng, length);
-    build(prng, to, field as u16, &data)
+    build(prng, to, tags, field as u16, &data)
 }
 
 /// The field is a type, a tag's or a control frame's.
@@ -82,8 +89,9 @@ fn by_type(prng: &mut Prng, s: &Settings) -> Vec<u8> {
         _ => prng.between(46, 160),
     };
     let to = destination(prng, s);
+    let tags = tag_count(prng, &TOO_MANY);
     let data = data(prng, length);
-    build(prng, to, field, &data)
+    build(prng, to, tags, field, &data)
 }
 
 /// Quanta at their limits.
@@ -125,16 +133,26 @@ fn control(prng: &mut Prng, s: &Settings) -> Vec<u8> {
         data.resize(length, 0);
     }
     let to = control_destination(prng, s);
-    build(prng, to, 0x8808, &data)
+    // three in four have none: behind a tag it is no control frame
+    let tags = if prng.coin() {
+        0
+    } else {
+        tag_count(prng, &TOO_MANY)
+    };
+    build(prng, to, tags, 0x8808, &data)
 }
 
 /// A frame of a size at the limits, down to nothing.
 fn sized(prng: &mut Prng, s: &Settings) -> Vec<u8> {
+    let tags = tag_count(prng, &TOO_MANY);
     let limit = usize::from(s.limit).clamp(1518, 9618);
+    // of a frame with so many tags
+    let most = limit + 4 * tags.min(MOST_TAGS);
     let size = match prng.below(8) {
         0..=3 => prng.pick(&[62, 63, 63, 64, 64, 65]),
         4 => prng.below(64),
-        _ => prng.pick(&[limit - 1, limit, limit + 1, limit + 3, limit + 4, limit + 5]),
+        5 => prng.pick(&[limit, limit + 1, limit + 4, limit + 5]),
+        _ => prng.pick(&[most - 1, most, most, most + 1, most + 1, most + 4, most + 4]),
     };
     if size < 4 {
         return prng.octets(size);
@@ -142,7 +160,7 @@ fn sized(prng: &mut Prng, s: &Settings) -> Vec<u8> {
     let to = destination(prng, s);
     let field = prng.pick(&[0, 46, 0x0800, 0x0800, 0x0800, 0x8808]);
     let data = data(prng, size);
-    let mut octets = build(prng, to, field, &data);
+    let mut octets = build(prng, to, tags, field, &data);
     octets.truncate(size - 4);
     checked(octets)
 }

@@ -4,6 +4,7 @@ mod captures;
 mod frames;
 mod sendings;
 mod settings;
+mod tags;
 
 pub use captures::{capture, place, Symbols};
 pub use sendings::{blank_line, sending, sending_place, timed, Sending};
@@ -11,7 +12,11 @@ pub use settings::{settings, state, valid_settings, BROADCAST, PRINTED, RESERVED
 
 /// The most symbols that a call takes.
 pub const SYMBOLS: usize = 65_536;
+/// The most tags that a frame has.
+pub const MOST_TAGS: usize = 8;
 
+/// A number of tags that is 8 if its high bits are lost.
+pub const BEYOND_8_BITS: usize = (1 << 8) + 8;
 /// A number of octets that is 46 if its high bits are lost.
 pub const BEYOND_16_BITS: usize = (1 << 16) + 46;
 /// A place or a number that is 0 if its high bits are lost.

@@ -2,6 +2,7 @@
 use super::captures::{unequal, Symbols};
 use super::frames::quanta;
 use super::settings::{destination, state};
+use super::tags::tags;
 use super::{BEYOND_16_BITS, BEYOND_32_BITS, SYMBOLS};
 use crate::prng::Prng;
 use reference::{Client, Flow, Form, Settings, State};
@@ -34,8 +35,7 @@ impl Sending {
     pub fn symbols(&self) -> usize {
         match self {
             Sending::Client(client, data) => {
-                let tag = if client.tag.is_some() { 4 } else { 0 };
-                1 + 7 + 12 + tag + 2 + data.len().max(46) + 4 + 1 + 11
+                1 + 7 + 12 + 4 * client.tags.len() + 2 + data.len().max(46) + 4 + 1 + 11
             }
             Sending::Pause(_) | Sending::Pfc(..) => 84,
             Sending::Idle(n) => *n,
@@ -48,9 +48,9 @@ pub fn blank_line(prng: &mut Prng, s: &Settings) -> Symbols {
     let n = match prng.below(400) {
         0..=3 => SYMBOLS,
         4..=5 => prng.pick(&[SYMBOLS + 1, SYMBOLS + 1, 70_000]),
-        6..=44 if s.limit > 9_000 => prng.between(9_640, 9_800),
-        6..=44 => prng.between(1_540, 2_000),
-        45..=69 => prng.below(100),
+        6..=84 if s.limit > 9_000 => prng.between(9_680, 9_800),
+        6..=54 => prng.between(1_580, 2_000),
+        55..=79 => prng.below(100),
         _ => prng.between(84, 500),
     };
     let mut symbols = Symbols {
@@ -97,15 +97,22 @@ fn client(prng: &mut Prng, s: &Settings, room: usize) -> Sending {
     let form = match prng.below(16) {
         0..=7 => Form::Length,
         8 => Form::Type(prng.pick(&[0, 46, 1500, 1535])),
-        9 => Form::Type(prng.pick(&[0x8100, 0x8808])),
-        10..=11 => Form::Type(prng.pick(&[1536, 0x80FF, 0x8101, 0x8807, 0x8809, 0x88A8, 0xFFFF])),
+        9 => Form::Type(prng.pick(&[0x8100, 0x8808, 0x88A8])),
+        10..=11 => {
+            Form::Type(prng.pick(&[1536, 0x80FF, 0x8101, 0x8807, 0x8809, 0x88A7, 0x88A9, 0xFFFF]))
+        }
         _ => Form::Type(0x0800),
     };
     let class = match prng.below(16) {
         0 => prng.pick(&[8, 9, 255]),
         _ => prng.below(8) as u8,
     };
-    let long = if room >= 1_500 { 2 } else { 40 };
+    // in so many frames one is long
+    let long = match room {
+        9_000.. => 1,
+        1_500.. => 2,
+        _ => 40,
+    };
     let length = if prng.one_in(long) {
         let most = usize::from(s.limit).saturating_sub(18);
         prng.pick(&[
@@ -114,6 +121,8 @@ fn client(prng: &mut Prng, s: &Settings, room: usize) -> Sending {
             1501,
             most.saturating_sub(1),
             most,
+            most,
+            most + 1,
             most + 1,
             most + 4,
             BEYOND_16_BITS,
@@ -124,7 +133,7 @@ fn client(prng: &mut Prng, s: &Settings, room: usize) -> Sending {
     };
     let client = Client {
         dest: destination(prng, s),
-        tag: prng.one_in(3).then(|| prng.number() as u16),
+        tags: tags(prng),
         form,
         class,
     };

@@ -1,5 +1,5 @@
 //! Control frames, timers set, status words and counters.
-use super::Table;
+use super::{tags, Table};
 use crate::generate::{BROADCAST, RESERVED_GROUP};
 use crate::seen::FrameSeen;
 use reference::Flow;
@@ -17,7 +17,7 @@ const FLOWS: [(&str, Flow); 3] = [
 pub fn rows(t: &mut Table) {
     to_us(t);
     to_others(t);
-    tagged(t);
+    behind_tags(t);
     pause_quanta(t);
     class_quanta(t);
     statuses(t);
@@ -102,16 +102,26 @@ fn to_others(t: &mut Table) {
     }
 }
 
-/// A tagged 0x8808 is an ordinary type.
-fn tagged(t: &mut Table) {
-    for (control, opcode, flow) in [("pause", PAUSE, Flow::Pause), ("PFC", PFC, Flow::Pfc)] {
-        for outcome in [7, 11] {
-            let name = format!("tagged {control} to the reserved group: {outcome}");
+/// Behind a tag 0x8808 is an ordinary type.
+fn behind_tags(t: &mut Table) {
+    for n in [1, 2, 8] {
+        let tags = tags(n);
+        for (control, opcode, flow) in [("pause", PAUSE, Flow::Pause), ("PFC", PFC, Flow::Pfc)] {
+            let alike =
+                move |f: &FrameSeen| f.tags == n && f.field == 0x8808 && f.opcode() == opcode;
+            for outcome in [7, 11] {
+                let name = format!("{control} behind {tags} to the reserved group: {outcome}");
+                t.reading(name, move |r| {
+                    r.s.flow == flow
+                        && !r.s.pass_control
+                        && r.is(outcome, |f| alike(f) && f.to == RESERVED_GROUP)
+                });
+            }
+            let name = format!("{control} behind {tags} to own: 11, no timer set");
             t.reading(name, move |r| {
-                let alike = |f: &FrameSeen| {
-                    f.tagged && f.field == 0x8808 && f.opcode() == opcode && f.to == RESERVED_GROUP
-                };
-                r.s.flow == flow && !r.s.pass_control && r.is(outcome, alike)
+                r.s.flow == flow
+                    && r.before.timers == r.after.timers
+                    && r.is(11, |f| alike(f) && f.to == r.s.own)
             });
         }
     }
@@ -187,7 +197,8 @@ fn statuses(t: &mut Table) {
         (36, "broadcast"),
         (35, "pause taken"),
         (34, "control"),
-        (33, "tagged"),
+        (33, "exactly one tag"),
+        (32, "two tags or more"),
     ] {
         t.reading(format!("status bit {bit}, {name}"), move |r| {
             r.status >> bit & 1 == 1

@@ -1,5 +1,5 @@
 //! Rules 3 to 7 and 11: size, FCS, length and address.
-use super::Table;
+use super::{tags, with_tags, Table};
 use crate::generate::{BROADCAST, RESERVED_GROUP};
 use crate::seen::{only_octet, Fcs, ReadingSeen};
 
@@ -21,23 +21,31 @@ fn sizes(t: &mut Table) {
         r.is(3, |f| f.size == 63 && f.fcs != Fcs::Right)
     });
     t.reading("64 octets: not 3", |r| r.framed(4, |f| f.size == 64));
-    t.reading("64 octets, tagged: not 3", |r| {
-        r.framed(4, |f| f.size == 64 && f.tagged)
-    });
+    for n in [1, 2, 8] {
+        t.reading(format!("64 octets, {}: not 3", tags(n)), move |r| {
+            r.framed(4, |f| f.size == 64 && f.tags == n)
+        });
+    }
     for limit in [1518, 1519, 9618] {
-        for (name, more, tagged, over) in [
-            ("M, untagged: not 4", 0, false, false),
-            ("M + 1, untagged: 4", 1, false, true),
-            ("M + 4, untagged: 4", 4, false, true),
-            ("M + 1, tagged: not 4", 1, true, false),
-            ("M + 4, tagged: not 4", 4, true, false),
-            ("M + 5, tagged: 4", 5, true, true),
+        for (more, n, over) in [
+            (0, 0, false),
+            (1, 0, true),
+            (4, 0, true),
+            (1, 1, false),
+            (4, 1, false),
+            (5, 1, true),
+            (8, 2, false),
+            (9, 2, true),
+            (32, 8, false),
+            (33, 8, true),
         ] {
-            t.reading(format!("M {limit}: {name}"), move |r| {
+            let answer = if over { "4" } else { "not 4" };
+            let name = format!("M {limit}: M + {more}, {}: {answer}", tags(n));
+            t.reading(name, move |r| {
                 let size = usize::from(limit) + more;
                 r.s.limit == limit
                     && (r.outcome == 4) == over
-                    && r.framed(4, |f| f.size == size && f.tagged == tagged)
+                    && r.framed(4, |f| f.size == size && f.tags == n)
             });
         }
     }
@@ -88,26 +96,28 @@ fn lengths(t: &mut Table) {
         (1535, 46, false),
         (1535, 1535, false),
     ];
-    // without a tag these are undersized
-    let tagged_only = [
-        (0, 45, false),
-        (44, 44, false),
-        (45, 45, false),
-        (46, 45, false),
-    ];
-    let untagged = both.map(|row| (row, false)).into_iter();
-    let tagged = both.into_iter().chain(tagged_only).map(|row| (row, true));
-    for ((field, length, kept), tagged) in untagged.chain(tagged) {
-        let tag = if tagged { ", tagged" } else { "" };
-        let rule = if kept { "kept" } else { "6" };
-        let name = format!("length {field}, {length} octets{tag}: {rule}");
-        t.reading(name, move |r| {
-            r.s.checking
-                && (r.outcome == 6) != kept
-                && r.framed(6, |f| {
-                    f.field == field && f.data.len() == length && f.tagged == tagged
-                })
-        });
+    for n in [0, 1, 2, 8] {
+        // without a tag these are undersized; the last fills 64 octets
+        let tagged_only = [
+            (0, 45, false),
+            (44, 44, false),
+            (45, 45, false),
+            (46, 45, false),
+            (0, 46 - 4 * n, false),
+        ];
+        let tagged_only = tagged_only.into_iter().filter(|_| n > 0);
+        for (field, length, kept) in both.into_iter().chain(tagged_only) {
+            let tags = with_tags(n);
+            let rule = if kept { "kept" } else { "6" };
+            let name = format!("length {field}, {length} octets{tags}: {rule}");
+            t.reading(name, move |r| {
+                r.s.checking
+                    && (r.outcome == 6) != kept
+                    && r.framed(6, |f| {
+                        f.field == field && f.data.len() == length && f.tags == n
+                    })
+            });
+        }
     }
     t.reading("length rule broken, address refused: 6", |r| {
         r.is(6, |f| !r.accepts(&f.to))
@@ -137,18 +147,21 @@ fn handed_out(t: &mut Table) {
                 && r.is(11, |f| f.field == field && f.data.len() == length)
         });
     }
-    let types = [1536, 0x0800, 0x80FF, 0x8101, 0x8807, 0x8809, 0x88A8, 0xFFFF];
-    let untagged = types.map(|field| (field, false)).into_iter();
-    let tagged = [1536, 0x8100, 0x8808].map(|field| (field, true));
-    for (field, tagged) in untagged.chain(tagged) {
-        let behind = if tagged { " behind a tag" } else { "" };
-        let name = format!("type {field:#06X}{behind}: all handed out");
-        t.reading(name, move |r| {
-            r.s.checking
-                && r.is(11, |f| {
-                    f.field == field && f.tagged == tagged && f.data.len() == r.handed
-                })
-        });
+    let types = [
+        1536, 0x0800, 0x80FF, 0x8101, 0x8807, 0x8809, 0x88A7, 0x88A9, 0xFFFF,
+    ];
+    for n in [0, 1, 2, 8] {
+        let tagged_only = [0x8808].into_iter().filter(|_| n > 0);
+        let ninth = [0x8100, 0x88A8].into_iter().filter(|_| n == 8);
+        for field in types.into_iter().chain(tagged_only).chain(ninth) {
+            let name = format!("type {field:#06X}{}: all handed out", with_tags(n));
+            t.reading(name, move |r| {
+                r.s.checking
+                    && r.is(11, |f| {
+                        f.field == field && f.tags == n && f.data.len() == r.handed
+                    })
+            });
+        }
     }
 }
 

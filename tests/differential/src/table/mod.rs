@@ -4,6 +4,7 @@ mod control;
 mod frames;
 mod reading;
 mod sending;
+mod tags;
 
 use crate::coverage::{Row, When};
 use crate::seen::{FcsSeen, ReadingSeen, SendingSeen, WalkSeen};
@@ -14,12 +15,30 @@ pub(crate) fn rows() -> Vec<Row> {
     let mut table = Table(Vec::new());
     reading::rows(&mut table);
     frames::rows(&mut table);
+    tags::rows(&mut table);
     control::rows(&mut table);
     sending::rows(&mut table);
     fcs_rows(&mut table);
     let names: BTreeSet<_> = table.0.iter().map(|row| &row.name).collect();
     assert_eq!(names.len(), table.0.len(), "two rows have one name");
     table.0
+}
+
+/// A number of tags, for a row's name.
+fn tags(n: usize) -> String {
+    match n {
+        0 => "untagged".to_string(),
+        1 => "1 tag".to_string(),
+        _ => format!("{n} tags"),
+    }
+}
+
+/// The same behind a comma, or nothing where there are none.
+fn with_tags(n: usize) -> String {
+    match n {
+        0 => String::new(),
+        _ => format!(", {}", tags(n)),
+    }
 }
 
 /// The table while it is made.

@@ -1,12 +1,12 @@
 //! Sending: answers, buffers, places, room, timers; client, pause and PFC frames, Idles.
-use super::Table;
-use crate::generate::{Sending, BEYOND_16_BITS, BEYOND_32_BITS, SYMBOLS};
+use super::{tags, with_tags, Table};
+use crate::generate::{Sending, BEYOND_16_BITS, BEYOND_32_BITS, BEYOND_8_BITS, SYMBOLS};
 use crate::seen::{Kind, SendingSeen};
-use reference::{Flow, Form};
+use reference::{Flow, Form, TagKind};
 
-/// The sending calls and the refusals that each can give.
+/// The sending calls and the refusals that each can give, in the order of their tests.
 const KINDS: [(Kind, &str, &[u8]); 4] = [
-    (Kind::Client, "client", &[1, 2, 3, 5, 6, 7, 8, 9]),
+    (Kind::Client, "client", &[1, 2, 3, 5, 6, 10, 7, 8, 9]),
     (Kind::Pause, "pause", &[1, 2, 3, 4, 8]),
     (Kind::Pfc, "PFC", &[1, 2, 3, 4, 8]),
     (Kind::Idle, "idle", &[2, 3, 8]),
@@ -18,10 +18,12 @@ pub fn rows(t: &mut Table) {
         buffers(t, kind, call);
         timers(t, kind, call);
     }
-    for (tagged, tag) in [(false, ""), (true, ", tagged")] {
-        types(t, tagged, tag);
-        data(t, tagged, tag);
+    for n in [0, 1, 2, 8] {
+        types(t, n);
+        data(t, n);
     }
+    tag_kinds(t);
+    too_many_tags(t);
     classes(t);
     flow_frames(t);
     idles(t);
@@ -112,27 +114,74 @@ fn timers(t: &mut Table, kind: Kind, call: &str) {
     });
 }
 
-/// The types of client frames.
-fn types(t: &mut Table, tagged: bool, tag: &'static str) {
-    for field in [0, 1535, 0x8100, 0x8808] {
-        let name = format!("client: type {field:#06X}{tag}: refusal 6");
+/// The types of client frames with so many tags.
+fn types(t: &mut Table, n: usize) {
+    let tags = with_tags(n);
+    for field in [0, 1535, 0x8100, 0x8808, 0x88A8] {
+        let name = format!("client: type {field:#06X}{tags}: refusal 6");
         t.sending(name, move |w| {
-            w.refusal() == 6 && w.client(Some(tagged), |c, _| c.form == Form::Type(field))
+            w.refusal() == 6 && w.client(Some(n), |c, _| c.form == Form::Type(field))
         });
     }
-    for field in [1536, 0x80FF, 0x8101, 0x8807, 0x8809, 0x88A8, 0xFFFF] {
-        let name = format!("client: type {field:#06X}{tag}: written");
+    for field in [1536, 0x80FF, 0x8101, 0x8807, 0x8809, 0x88A7, 0x88A9, 0xFFFF] {
+        let name = format!("client: type {field:#06X}{tags}: written");
         t.sending(name, move |w| {
-            w.wrote().is_some() && w.client(Some(tagged), |c, _| c.form == Form::Type(field))
+            w.wrote().is_some() && w.client(Some(n), |c, _| c.form == Form::Type(field))
         });
     }
 }
 
-/// The data of client frames, and the room that it takes.
-fn data(t: &mut Table, tagged: bool, tag: &'static str) {
+/// The kinds of the tags of client frames, from outside.
+fn tag_kinds(t: &mut Table) {
+    let kinds = [("0x8100", TagKind::Customer), ("0x88A8", TagKind::Service)];
+    for (outer, outer_kind) in kinds {
+        for n in [1, 2, 8] {
+            let name = format!("client: {}, {outer} outermost: written", tags(n));
+            t.sending(name, move |w| {
+                w.wrote().is_some() && w.client(Some(n), |c, _| c.tags[0].kind == outer_kind)
+            });
+        }
+        for (inner, inner_kind) in kinds {
+            let name = format!("client: 2 tags, {outer} outside {inner}: written");
+            t.sending(name, move |w| {
+                let kinds = [outer_kind, inner_kind];
+                w.wrote().is_some()
+                    && w.client(Some(2), |c, _| c.tags.iter().map(|tag| tag.kind).eq(kinds))
+            });
+        }
+    }
+    for n in 3..=7 {
+        t.sending(format!("client: {}: written", tags(n)), move |w| {
+            w.wrote().is_some() && w.client(Some(n), |_, _| true)
+        });
+    }
+}
+
+/// More tags than a frame has, by themselves and with a type that is refused.
+fn too_many_tags(t: &mut Table) {
+    for n in [9, 255, BEYOND_8_BITS] {
+        t.sending(format!("client: {}: refusal 10", tags(n)), move |w| {
+            w.refusal() == 10 && w.client(Some(n), |_, _| !w.holds(7) && !w.holds(8))
+        });
+    }
+    for field in [0x8100, 0x8808, 0x88A8] {
+        let name = format!("client: type {field:#06X}, 9 tags: refusal 6");
+        t.sending(name, move |w| {
+            w.refusal() == 6 && w.client(Some(9), |c, _| c.form == Form::Type(field))
+        });
+    }
+    for later in [8, 9] {
+        let name = format!("client: 10 and {later} hold: refusal 10");
+        t.sending(name, move |w| w.refusal() == 10 && w.holds(later));
+    }
+}
+
+/// The data of client frames with so many tags, and the room that it takes.
+fn data(t: &mut Table, n: usize) {
+    let tag = with_tags(n);
     for (form, by_length) in [("length", true), ("type", false)] {
         let is = move |w: &SendingSeen, length: usize| {
-            w.client(Some(tagged), |c, data| {
+            w.client(Some(n), |c, data| {
                 (c.form == Form::Length) == by_length && data.len() == length
             })
         };
@@ -145,7 +194,7 @@ fn data(t: &mut Table, tagged: bool, tag: &'static str) {
             (1499, 1537),
             (1500, 1538),
         ] {
-            let symbols = untagged + if tagged { 4 } else { 0 };
+            let symbols = untagged + 4 * n;
             let name = format!("client: {form} form{tag}, {length} octets: {symbols} symbols");
             t.sending(name, move |w| w.wrote() == Some(symbols) && is(w, length));
         }
@@ -168,14 +217,13 @@ fn data(t: &mut Table, tagged: bool, tag: &'static str) {
             }
         }
     }
-    let tag = if tagged { "tagged" } else { "untagged" };
-    let name = format!("client, {tag}: room exactly enough: written");
+    let name = format!("client, {}: room exactly enough: written", tags(n));
     t.sending(name, move |w| {
-        w.client(Some(tagged), |_, _| w.wrote() == Some(w.room()))
+        w.client(Some(n), |_, _| w.wrote() == Some(w.room()))
     });
-    let name = format!("client, {tag}: one symbol short: refusal 8");
+    let name = format!("client, {}: one symbol short: refusal 8", tags(n));
     t.sending(name, move |w| {
-        w.refusal() == 8 && w.client(Some(tagged), |_, _| w.room() + 1 == w.call.symbols())
+        w.refusal() == 8 && w.client(Some(n), |_, _| w.room() + 1 == w.call.symbols())
     });
 }
 

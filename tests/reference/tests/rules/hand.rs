@@ -1,6 +1,6 @@
 //! Captures put together by hand, without the sender under test.
 
-use reference::{read, walk, Answer, Check, Flow, Reading, Settings, State, Walked};
+use reference::{read, walk, Answer, Check, Flow, Reading, Settings, State, Tag, TagKind, Walked};
 
 pub const KINDS: [Check; 3] = [Check::Bitwise, Check::ByteTable, Check::Slicing16];
 
@@ -60,6 +60,34 @@ pub fn frame(dest: [u8; 6], header: &[u16], data: &[u8]) -> Vec<u8> {
     octets.extend(data);
     octets.extend(clause_3(&octets));
     octets
+}
+
+/// Tag k of those below: the kinds in turn, no two alike.
+fn tag(k: u16) -> Tag {
+    let kind = match k % 2 {
+        0 => TagKind::Service,
+        _ => TagKind::Customer,
+    };
+    let control = 0xA001 + 0x11 * k;
+    Tag { kind, control }
+}
+
+/// So many tags.
+pub fn tags(n: usize) -> Vec<Tag> {
+    (0..).map(tag).take(n).collect()
+}
+
+/// The same tags as numbers, with a field behind them.
+pub fn tagged(n: usize, field: u16) -> Vec<u16> {
+    let numbers = |tag: Tag| {
+        let kind = match tag.kind {
+            TagKind::Service => 0x88A8,
+            TagKind::Customer => 0x8100,
+        };
+        [kind, tag.control]
+    };
+    let tags = tags(n).into_iter().flat_map(numbers);
+    tags.chain([field]).collect()
 }
 
 /// Data in which neighbouring octets differ.

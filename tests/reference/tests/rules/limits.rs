@@ -2,13 +2,13 @@
 
 use reference::{send_client, Check, Client, Form, Sent, Settings, State};
 
-use crate::hand::{frame, outcome, ramp, see, see_with, Capture, Seen, KINDS};
+use crate::hand::{frame, outcome, ramp, see, see_with, tags, Capture, Seen, KINDS};
 use crate::hand::{OTHER, OWN, PAUSE, PFC, PLAIN, RESERVED, START, TERMINATE};
 
-fn symbols(data: usize, tag: Option<u16>) -> usize {
+fn symbols(data: usize, n: usize) -> usize {
     let client = Client {
         dest: OTHER,
-        tag,
+        tags: tags(n),
         form: Form::Length,
         class: 0,
     };
@@ -34,11 +34,11 @@ fn symbols(data: usize, tag: Option<u16>) -> usize {
 
 #[test]
 fn symbols_of_the_length_form() {
-    assert_eq!(symbols(0, None), 84);
-    assert_eq!(symbols(46, None), 84);
-    assert_eq!(symbols(47, None), 85);
-    assert_eq!(symbols(1500, None), 1538);
-    assert_eq!(symbols(0, Some(5)), 88);
+    assert_eq!(symbols(0, 0), 84);
+    assert_eq!(symbols(46, 0), 84);
+    assert_eq!(symbols(47, 0), 85);
+    assert_eq!(symbols(1500, 0), 1538);
+    assert_eq!(symbols(0, 1), 88);
 }
 
 #[test]

@@ -1,4 +1,5 @@
-//! The rules of document 01, one module for each part.
+//! The rules of document 01 and of item 1 of document 02, one module for each
+//! part.
 
 mod bench;
 mod fcs;
@@ -10,4 +11,5 @@ mod refusals;
 mod robust;
 mod round_trip;
 mod sending;
+mod tags;
 mod timers;

@@ -341,25 +341,6 @@ fn control_to_others_meets_the_address_rule() {
 }
 
 #[test]
-fn tagged_control_field_is_a_type() {
-    let mut data = vec![0, 1, 0, 9];
-    data.resize(46, 0);
-    let to = |dest| frame(dest, &[0x8100, 0, 0x8808], &data);
-    let seen = see(&PAUSE, &to(OWN));
-    assert_eq!((seen.outcome, seen.status), (11, 0x42_0044_002E));
-    assert_eq!(seen.data, data);
-    assert_eq!(outcome(&PAUSE, &to(RESERVED)), 7);
-}
-
-#[test]
-fn second_tag_is_a_type() {
-    let octets = frame(OWN, &[0x8100, 1, 0x8100, 2, 3], &ramp(46));
-    let seen = see(&PLAIN, &octets);
-    assert_eq!((seen.outcome, seen.status), (11, 0x42_0048_0032));
-    assert_eq!(seen.data, &octets[18..68]);
-}
-
-#[test]
 fn outcome_11_status_words() {
     let all = Settings {
         promiscuous: true,

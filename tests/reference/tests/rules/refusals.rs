@@ -1,15 +1,15 @@
 //! "Refusals and their order". In each ladder all refusals of a call hold at
-//! first; then one after the other is mended, the lowest first, so every
-//! number is seen with all higher ones behind it. The single causes follow.
+//! first; then one after the other is mended, the first first, so every number
+//! is seen with all later ones behind it. The single causes follow.
 
 use reference::{Answer, Client, Flow, Form, Sent, Settings, Walked};
 
 use crate::bench::Bench;
-use crate::hand::{ramp, OTHER, PLAIN};
+use crate::hand::{ramp, tags, OTHER, PLAIN};
 
 const CLIENT: Client = Client {
     dest: OTHER,
-    tag: None,
+    tags: Vec::new(),
     form: Form::Length,
     class: 0,
 };
@@ -67,6 +67,7 @@ fn ladder_of_client_sending() {
     for limit in [1518, 9618] {
         let mut bench = broken();
         let mut client = Client {
+            tags: tags(9),
             form: Form::Type(0x8808),
             class: 255,
             ..CLIENT
@@ -85,14 +86,16 @@ fn ladder_of_client_sending() {
         client.class = 7;
         assert_eq!(bench.client(&client, &data), Sent::Refused(6));
         client.form = Form::Type(1536);
+        assert_eq!(bench.client(&client, &data), Sent::Refused(10));
+        client.tags.pop();
         assert_eq!(bench.client(&client, &data), Sent::Refused(7));
         data.truncate(most);
         assert_eq!(bench.client(&client, &data), Sent::Refused(8));
-        bench.octets.resize(10 + 38 + most, 0);
-        bench.marks.resize(10 + 38 + most, 0);
+        bench.octets.resize(10 + 38 + 32 + most, 0);
+        bench.marks.resize(10 + 38 + 32 + most, 0);
         assert_eq!(bench.client(&client, &data), Sent::Refused(9));
         bench.state.timers[7] = 0;
-        assert_eq!(bench.client(&client, &data), Sent::Wrote(48 + most));
+        assert_eq!(bench.client(&client, &data), Sent::Wrote(80 + most));
     }
 }
 
@@ -271,11 +274,12 @@ fn refusal_5() {
 #[test]
 fn refusal_6() {
     for field in 0..=u16::MAX {
-        let edge = [1535, 1536, 0x80FF, 0x8100, 0x8101, 0x8807, 0x8808, 0x8809];
-        if field % 97 != 0 && !edge.contains(&field) {
+        let wrong_types = [0x8100, 0x8808, 0x88A8];
+        let is_edge = |edge: u16| edge.abs_diff(field) <= 1;
+        if field % 97 != 0 && !is_edge(1536) && !wrong_types.into_iter().any(is_edge) {
             continue;
         }
-        let wrong = field < 1536 || field == 0x8100 || field == 0x8808;
+        let wrong = field < 1536 || wrong_types.contains(&field);
         let expected = if wrong {
             Sent::Refused(6)
         } else {
@@ -292,14 +296,14 @@ fn refusal_6() {
 #[test]
 fn refusal_7() {
     for limit in [1518, 1519, 9618] {
-        for tag in [None, Some(1)] {
+        for n in [0, 1, 2, 8] {
             for (form, most) in [
                 (Form::Length, 1500),
                 (Form::Type(0x0800), usize::from(limit) - 18),
             ] {
                 let client = Client {
                     form,
-                    tag,
+                    tags: tags(n),
                     ..CLIENT
                 };
                 let mut bench = Bench::new(10_000);
@@ -317,9 +321,12 @@ fn refusal_7() {
 #[test]
 fn refusal_8_for_each_length() {
     for len in [0, 45, 46, 47, 1500] {
-        for tag in [None, Some(1)] {
-            let client = Client { tag, ..CLIENT };
-            let needed = 38 + len.max(46) + if tag.is_some() { 4 } else { 0 };
+        for n in 0..=8 {
+            let client = Client {
+                tags: tags(n),
+                ..CLIENT
+            };
+            let needed = 38 + len.max(46) + 4 * n;
             let data = ramp(len);
             assert_eq!(
                 Bench::new(needed - 1).client(&client, &data),
@@ -347,5 +354,21 @@ fn refusal_9_in_every_flow_mode() {
             bench.state.timers[usize::from(class)] = 0;
             assert_eq!(bench.client(&client, &[]), Sent::Wrote(84));
         }
+    }
+}
+
+#[test]
+fn refusal_10() {
+    for n in (0..=20).chain([255, 256, 257, 264, 300]) {
+        let expected = if n > 8 {
+            Sent::Refused(10)
+        } else {
+            Sent::Wrote(84 + 4 * n)
+        };
+        let client = Client {
+            tags: tags(n),
+            ..CLIENT
+        };
+        assert_eq!(Bench::new(2_000).client(&client, &[]), expected, "{n}");
     }
 }

@@ -4,8 +4,8 @@
 use reference::{print, read, walk, Answer, Check, Client, Flow, Form, Settings, State, Walked};
 
 use crate::bench::Bench;
-use crate::hand::{frame, ramp, Capture, BROADCAST, KINDS, MULTICAST, OTHER, OWN, PLAIN};
-use crate::hand::{RESERVED, START};
+use crate::hand::{frame, ramp, tagged, tags, Capture, BROADCAST, KINDS, MULTICAST, OTHER, OWN};
+use crate::hand::{PLAIN, RESERVED, START};
 
 /// A small generator of numbers that look random and are the same each time.
 pub struct Dice(u64);
@@ -71,14 +71,14 @@ impl Dice {
             }
             return capture;
         }
-        let field = self.pick(&[0, 45, 46, 60, 1501, 0x0800, 0x8100, 0x8808, 0x8808]);
-        let tag = [0x8100, 0x1234, field];
-        let header = if self.roll(3) == 0 { &tag } else { &tag[2..] };
+        let field = self.pick(&[0, 45, 46, 60, 1501, 0x0800, 0x8100, 0x88A8, 0x8808, 0x8808]);
+        let n = self.pick(&[0, 0, 0, 0, 0, 0, 1, 2, 8, 9]);
+        let header = tagged(n, field);
         let opcode = self.pick(&[0x0001u16, 0x0101, 0x0002]).to_be_bytes();
         let mut data = opcode.to_vec();
         let len = self.pick(&[42, 45, 46, 46, 46, 60, 200]);
         data.resize_with(len, || self.roll(256) as u8);
-        let mut octets = frame(self.address(), header, &data);
+        let mut octets = frame(self.address(), &header, &data);
         if self.roll(5) == 0 {
             let at = self.roll(octets.len());
             octets[at] ^= 1;
@@ -165,7 +165,7 @@ fn captures_of_all_sorts() {
 #[test]
 fn calls_of_all_sorts() {
     let mut dice = Dice::new(2);
-    let mut answers = [0; 10];
+    let mut answers = [0; 11];
     for _ in 0..4_000 {
         let mut bench = Bench::new(dice.pick(&[0, 83, 84, 88, 200, 1_538, 1_700]));
         bench.s = dice.settings();
@@ -178,7 +178,7 @@ fn calls_of_all_sorts() {
         }
         let client = Client {
             dest: dice.address(),
-            tag: dice.coin().then_some(0xFFFF),
+            tags: tags(dice.pick(&[0, 0, 0, 1, 2, 8, 9])),
             form: dice.pick(&[
                 Form::Length,
                 Form::Length,

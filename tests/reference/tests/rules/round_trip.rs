@@ -3,7 +3,7 @@
 use reference::{read, Answer, Check, Client, Flow, Form, Sent, Settings, State, Walked};
 
 use crate::bench::Bench;
-use crate::hand::{frame, ramp, MULTICAST, OTHER, OWN, PAUSE, PFC, PLAIN};
+use crate::hand::{frame, ramp, tags, MULTICAST, OTHER, OWN, PAUSE, PFC, PLAIN};
 use crate::robust::Dice;
 
 /// The sender has another address than the receiver.
@@ -16,12 +16,12 @@ fn sender(len: usize) -> Bench {
 fn clients() -> Vec<(Client, Vec<u8>)> {
     let mut all = Vec::new();
     for len in [0, 1, 45, 46, 47, 99, 1500] {
-        for tag in [None, Some(0xE123)] {
+        for n in [0, 1, 2, 8] {
             for form in [Form::Length, Form::Type(0x0800), Form::Type(0xFFFF)] {
                 for dest in [OWN, MULTICAST, [0xFF; 6]] {
                     let client = Client {
                         dest,
-                        tag,
+                        tags: tags(n),
                         form,
                         class: 0,
                     };
@@ -125,21 +125,21 @@ fn frames_behind_damage() {
         damages.push((0..len).map(|_| dice.symbol()).collect());
     }
     for damage in damages {
-        let mut bench = sender(damage.len() + 3 * 88);
+        let mut bench = sender(damage.len() + 3 * 84 + 4 * (1 + 2 + 8));
         for (at, &(mark, octet)) in damage.iter().enumerate() {
             bench.marks[at] = mark;
             bench.octets[at] = octet;
         }
         bench.place = damage.len();
         let mut expected = Vec::new();
-        for (form, tag) in [
-            (Form::Length, Some(3)),
-            (Form::Type(0x0800), Some(0)),
-            (Form::Length, Some(0xFFFF)),
+        for (form, n) in [
+            (Form::Length, 1),
+            (Form::Type(0x0800), 2),
+            (Form::Length, 8),
         ] {
             let client = Client {
                 dest: OWN,
-                tag,
+                tags: tags(n),
                 form,
                 class: 1,
             };

@@ -1,10 +1,11 @@
-//! "Sending": the very symbols. The four FCS values below come from another
+//! "Sending": the very symbols. The five FCS values below come from another
 //! program.
 
-use reference::{Client, Flow, Form, Sent, Settings};
+use reference::{Client, Flow, Form, Sent, Settings, Tag, TagKind};
 
 use crate::bench::Bench;
-use crate::hand::{clause_3, ramp, BROADCAST, IDLE, OTHER, OWN, RESERVED, START, TERMINATE};
+use crate::hand::{clause_3, ramp, tagged, tags};
+use crate::hand::{BROADCAST, IDLE, OTHER, OWN, RESERVED, START, TERMINATE};
 
 /// Checks that a frame of these octets, but for its FCS, stands alone at the
 /// place, and gives its FCS.
@@ -38,7 +39,7 @@ fn client_frames() {
     bench.place = 5;
     let client = Client {
         dest: BROADCAST,
-        tag: None,
+        tags: vec![],
         form: Form::Type(0x0800),
         class: 7,
     };
@@ -46,10 +47,18 @@ fn client_frames() {
     let parts: [&[u8]; 5] = [&BROADCAST, &OWN, &[8, 0], b"hello", &[0; 41]];
     assert_eq!(expect(&bench, 5, &parts), [0xF1, 0x79, 0xDD, 0x32]);
 
+    let customer = Tag {
+        kind: TagKind::Customer,
+        control: 0x2005,
+    };
+    let service = Tag {
+        kind: TagKind::Service,
+        control: 0x2064,
+    };
     let mut bench = Bench::new(2000);
-    let client = Client {
+    let mut client = Client {
         dest: OTHER,
-        tag: Some(0x2005),
+        tags: vec![customer],
         form: Form::Length,
         class: 0,
     };
@@ -58,14 +67,21 @@ fn client_frames() {
     let parts: [&[u8]; 5] = [&OTHER, &OWN, &header, b"hello", &[0; 41]];
     assert_eq!(expect(&bench, 0, &parts), [0x9A, 0xB0, 0xDD, 0x36]);
 
+    let mut bench = Bench::new(2000);
+    client.tags = vec![service, customer];
+    assert_eq!(bench.client(&client, b"hello"), Sent::Wrote(92));
+    let header = [&[0x88, 0xA8, 0x20, 0x64], &header[..]].concat();
+    let parts: [&[u8]; 5] = [&OTHER, &OWN, &header, b"hello", &[0; 41]];
+    assert_eq!(expect(&bench, 0, &parts), [0x05, 0x7C, 0x02, 0x65]);
+
     for len in [0, 1, 45, 46, 47, 300, 1499, 1500] {
-        for tag in [None, Some(0xABCD)] {
+        for n in [0, 1, 2, 8] {
             for form in [Form::Length, Form::Type(1536), Form::Type(0xFFFF)] {
                 let mut bench = Bench::new(2000);
                 bench.place = 100;
                 let client = Client {
                     dest: OTHER,
-                    tag,
+                    tags: tags(n),
                     form,
                     class: 3,
                 };
@@ -73,11 +89,8 @@ fn client_frames() {
                     Form::Length => len as u16,
                     Form::Type(field) => field,
                 };
-                let mut header = Vec::new();
-                if tag.is_some() {
-                    header.extend([0x81, 0x00, 0xAB, 0xCD]);
-                }
-                header.extend(field.to_be_bytes());
+                let header = tagged(n, field).into_iter().flat_map(u16::to_be_bytes);
+                let header: Vec<u8> = header.collect();
                 let mut data = ramp(len);
                 assert!(matches!(bench.client(&client, &data), Sent::Wrote(_)));
                 data.resize(len.max(46), 0);
@@ -89,15 +102,22 @@ fn client_frames() {
 
 #[test]
 fn longest_client_frame() {
-    for (limit, tag) in [(1518, None), (1518, Some(0)), (9618, None), (9618, Some(0))] {
+    for (limit, n) in [
+        (1518, 0),
+        (1518, 1),
+        (1518, 8),
+        (9618, 0),
+        (9618, 1),
+        (9618, 8),
+    ] {
         let client = Client {
             dest: OTHER,
-            tag,
+            tags: tags(n),
             form: Form::Type(0x0800),
             class: 0,
         };
         let most = usize::from(limit) - 18;
-        let symbols = 38 + most + if tag.is_some() { 4 } else { 0 };
+        let symbols = 38 + most + 4 * n;
         let mut bench = Bench::new(symbols);
         bench.s.limit = limit;
         assert_eq!(bench.client(&client, &ramp(most + 1)), Sent::Refused(7));
@@ -160,7 +180,7 @@ fn idle_fill() {
 fn frames_that_just_fit() {
     let client = Client {
         dest: OTHER,
-        tag: None,
+        tags: vec![],
         form: Form::Length,
         class: 0,
     };

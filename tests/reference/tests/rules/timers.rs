@@ -9,7 +9,7 @@ use crate::hand::{frame, Capture, OTHER, RESERVED};
 fn client(class: u8) -> Client {
     Client {
         dest: OTHER,
-        tag: None,
+        tags: vec![],
         form: Form::Length,
         class,
     }

@@ -1,0 +1,62 @@
+//! Tags of client frames.
+use crate::sys;
+
+/// The kind of a tag: the two octets on the line that say that a tag control follows. The names are
+/// those of IEEE 802.1Q.
+#[derive(Clone, Copy, Debug, PartialEq, Eq, PartialOrd, Ord, Hash)]
+pub enum TagKind {
+    /// 0x8100.
+    Customer,
+    /// 0x88A8, which providers put outside the others.
+    Service,
+}
+
+/// A tag: its kind and its tag control.
+///
+/// ```
+/// use fenhamper::{Tag, TagKind};
+///
+/// // priority 7, VLAN 5
+/// let tag = Tag::customer(7 << 13 | 5);
+/// assert_eq!((tag.kind, tag.control), (TagKind::Customer, 0xE005));
+/// assert_eq!(Tag::service(100).kind, TagKind::Service);
+/// ```
+#[derive(Clone, Copy, Debug, PartialEq, Eq, PartialOrd, Ord, Hash)]
+pub struct Tag {
+    /// Its kind.
+    pub kind: TagKind,
+    /// Its tag control: priority, drop eligibility and VLAN, of which nothing is looked at.
+    pub control: u16,
+}
+
+impl Tag {
+    // Stands where a frame has no tag.
+    pub(crate) const NONE: Tag = Tag::customer(0);
+
+    /// A tag of kind 0x8100 with this tag control.
+    pub const fn customer(control: u16) -> Tag {
+        Tag {
+            kind: TagKind::Customer,
+            control,
+        }
+    }
+
+    /// A tag of kind 0x88A8 with this tag control.
+    pub const fn service(control: u16) -> Tag {
+        Tag {
+            kind: TagKind::Service,
+            control,
+        }
+    }
+
+    // As the header lays it out.
+    pub(crate) fn octets(self) -> [u8; sys::TAG] {
+        let mut octets = [0; sys::TAG];
+        octets[sys::TAG_KIND] = match self.kind {
+            TagKind::Customer => sys::TAG_CUSTOMER,
+            TagKind::Service => sys::TAG_SERVICE,
+        };
+        octets[sys::TAG_CONTROL..][..2].copy_from_slice(&self.control.to_be_bytes());
+        octets
+    }
+}
