@@ -152,7 +152,8 @@ class Frame:
             return True
         if self.field >= 46:  # "Field 46 to 1500: data must be exactly that long."
             return len(self.data) != self.field
-        return len(self.data) != 46  # "Field under 46: data must be exactly 46, tagged or not"
+        # "Field under 46: data must be exactly 46, tagged or not"; item 2: "the larger of the field and 46 - 4 × n, or the 46 of before; nothing else"
+        return len(self.data) not in (46, max(self.field, 46 - 4 * len(self.tags)))
 
     def handed(self, s: Settings) -> List[int]:
         """"only the first `field` octets are handed out"; "With checking off, … all data is handed out." """

@@ -156,6 +156,10 @@ def tag_cases():
     for n in (2, 8):
         for field, octets in [(45, 46), (45, 47), (46, 46), (46, 47), (100, 100)]:
             case(f"{n} tags, field {field} with {octets}", s, frame(field=field, n=octets, tags=[p] * n))
+    for n, field, lengths in [(0, 10, (46, 47)), (1, 10, (42, 43, 45, 46)), (1, 43, (42, 43, 44)), (2, 10, (38, 39, 46)), (2, 39, (38, 39, 40)), (8, 10, (14, 15, 46)),
+                              (8, 14, (14, 15)), (8, 15, (14, 15, 16))]:
+        for octets in lengths:
+            case(f"{n} tags, field {field} with {octets}", s, frame(field=field, n=octets, tags=[c] * n))
     for tags in [[p], [p, c]]:
         case(f"pause behind {len(tags)} of 0x88A8 and 0x8100", settings(flow="pause"), frame(RESERVED_GROUP, 0x8808, 42, [0, 1, 0, 5], tags=tags))
 

@@ -2,7 +2,7 @@
 use Prim.Native.Nat.{ℕ, _+_, _-_, _*_, _≤_, _<_}
 use native.Mathlib.Omega.{arith}
 use mathlib.Core.Path.{_≡_, refl, sym, ap, ap₂, _∙_}
-use mathlib.Core.Bool.{true, false, not}
+use mathlib.Core.Bool.{Bool, true, false, not, _||_}
 use mathlib.Core.List.{List, _++_, append-assoc}
 use lib.ListN.{length, length-append}
 use lib.Seq.{drop-at, take-at}
@@ -16,7 +16,7 @@ use Rattle.fcs.proofs.Laws.{fcs-four}
 use Rattle.fields.specs.Tags.{tagCount}
 use Rattle.fields.specs.Fields.{fieldPlace, field, dataPlace}
 use Rattle.frame.specs.Frame.{frameData, covered, lastFour, wrongFcs}
-use Rattle.frame.specs.Length.{kept}
+use Rattle.frame.specs.Length.{shortest, kept}
 
 -- ---- the FCS
 
@@ -48,18 +48,18 @@ module _ (h : List ℕ) (n : ℕ) (p q : List ℕ) (t : ℕ) (ht : tagCount (h +
 
 -- ---- the length rule
 
-pub kept-type : (n k : ℕ) → 1536 ≤ n → kept n k ≡ true
+pub kept-type : (t n k : ℕ) → 1536 ≤ n → kept t n k ≡ true
 unfolding kept
-kept-type n k h = first-here true _ (le-leb _ n (omega arith))
+kept-type t n k h = first-here true _ (le-leb _ n (omega arith))
 
-pub kept-long : (n : ℕ) → 46 ≤ n → n ≤ 1500 → kept n n ≡ true
+pub kept-long : (t n : ℕ) → 46 ≤ n → n ≤ 1500 → kept t n n ≡ true
 unfolding kept
-kept-long n h g =
+kept-long t n h g =
     first-next true _ (lt-leb _ n (omega arith)) ∙ first-next false _ (lt-leb _ n (omega arith)) ∙ first-here (eqb n n) _ (le-leb _ n (omega arith))
     ∙ eq-eqb n n refl
 
-pub kept-short : (n k : ℕ) → n < 46 → k ≡ 46 → kept n k ≡ true
+pub kept-short : (t n k : ℕ) → n < 46 → k ≡ 46 → kept t n k ≡ true
 unfolding kept
-kept-short n k h e =
+kept-short t n k h e =
     first-next true _ (lt-leb _ n (omega arith)) ∙ first-next false _ (lt-leb _ n (omega arith)) ∙ first-next (eqb k n) _ (lt-leb _ n (omega arith))
-    ∙ first-other (eqb k 46) ∙ eq-eqb k 46 e
+    ∙ first-other (eqb k 46 || eqb k (shortest t n)) ∙ ap (λ (b : Bool). b || eqb k (shortest t n)) (eq-eqb k 46 e)

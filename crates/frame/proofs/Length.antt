@@ -2,16 +2,17 @@
 use Prim.Native.Nat.{ℕ, _-_, _≤_, _<_, min}
 use native.Mathlib.Omega.{arith}
 use mathlib.Core.Path.{_≡_, refl, _∙_}
-use mathlib.Core.Bool.{Bool, true, false, not, _&&_, cond}
+use mathlib.Core.Bool.{Bool, true, false, not, _&&_, _||_, cond}
 use mathlib.Core.List.{List, []}
 use lib.ListN.{length, take, length-take, length-drop}
 use lib.Dec.{eqb, ltb}
 use borrow.Author.Tests.{lt-ltb, le-ltb, le-leb, lt-leb}
 use Rattle.line.specs.Octets.{between}
 use Rattle.line.proofs.Tables.{first-here, first-next, first-other}
+use Rattle.fields.specs.Tags.{tagCount}
 use Rattle.fields.specs.Fields.{field, dataPlace}
 use Rattle.frame.specs.Frame.{frameData}
-use Rattle.frame.specs.Length.{kept, wrongLength, clientData, handedLength}
+use Rattle.frame.specs.Length.{shortest, kept, wrongLength, clientData, handedLength}
 
 -- ---- how much data there is
 
@@ -25,22 +26,22 @@ unfolding frameData between
 frameData-none f h = let z : length f - 4 - dataPlace f ≡ 0 = omega arith in rw z
 
 -- ---- the rule, row by row; its first row is `kept-type` of FrameLaws
-module _ (field octets : ℕ) where
-  pub kept-gap : field < 1536 → 1501 ≤ field → kept field octets ≡ false
+module _ (tags field octets : ℕ) where
+  pub kept-gap : field < 1536 → 1501 ≤ field → kept tags field octets ≡ false
   unfolding kept
   kept-gap h g = first-next true _ (lt-leb _ field (omega arith)) ∙ first-here false _ (le-leb _ field (omega arith))
 
-  pub kept-exact : field < 1501 → 46 ≤ field → kept field octets ≡ eqb octets field
+  pub kept-exact : field < 1501 → 46 ≤ field → kept tags field octets ≡ eqb octets field
   unfolding kept
   kept-exact h g =
       first-next true _ (lt-leb _ field (omega arith)) ∙ first-next false _ (lt-leb _ field (omega arith))
       ∙ first-here (eqb octets field) _ (le-leb _ field (omega arith))
 
-  pub kept-padded : field < 46 → kept field octets ≡ eqb octets 46
+  pub kept-padded : field < 46 → kept tags field octets ≡ (eqb octets 46 || eqb octets (shortest tags field))
   unfolding kept
   kept-padded h =
       first-next true _ (lt-leb _ field (omega arith)) ∙ first-next false _ (lt-leb _ field (omega arith))
-      ∙ first-next (eqb octets field) _ (lt-leb _ field (omega arith)) ∙ first-other (eqb octets 46)
+      ∙ first-next (eqb octets field) _ (lt-leb _ field (omega arith)) ∙ first-other (eqb octets 46 || eqb octets (shortest tags field))
 
 front-le : (b : Bool) (n : ℕ) (l : List ℕ) → length (cond b (take n l) l) ≤ length l
 front-le true n l = omega (arith, length-take n l)
@@ -52,7 +53,7 @@ module _ (f : List ℕ) where
   unfolding wrongLength
   length-unchecked = refl
 
-  pub length-checked : wrongLength true f ≡ not (kept (field f) (length (frameData f)))
+  pub length-checked : wrongLength true f ≡ not (kept (tagCount f) (field f) (length (frameData f)))
   unfolding wrongLength
   length-checked = refl
 

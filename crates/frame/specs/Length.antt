@@ -1,25 +1,30 @@
--- Document 01, "Length rule": rule 6, and what is handed out. Item 2 of document 02 changes `kept`, which then takes the number of tags too.
-use Prim.Native.Nat.{ℕ}
-use mathlib.Core.Bool.{Bool, true, false, not, _&&_, cond}
+-- Document 01, "Length rule", and document 02, item 2: rule 6, and what is handed out.
+use Prim.Native.Nat.{ℕ, _-_, _*_, max}
+use mathlib.Core.Bool.{Bool, true, false, not, _&&_, _||_, cond}
 use mathlib.Core.List.{List}
 use lib.ListN.{length, take}
 use lib.Dec.{eqb, ltb, leb}
 use Rattle.line.specs.Table.{_⇒_, _∣_, otherwise, first}
+use Rattle.fields.specs.Tags.{tagCount}
 use Rattle.fields.specs.Fields.{field}
 use Rattle.frame.specs.Frame.{frameData}
 
--- the rule, of a field and the number of data octets
-unfoldable pub kept : ℕ → ℕ → Bool
-kept field octets =
+-- the shortest data that a bridge leaves behind n tags: item 2's "the larger of the field and 46 - 4 × n"
+unfoldable pub shortest : ℕ → ℕ → ℕ
+shortest tags field = max field (46 - 4 * tags)
+
+-- the rule, of the number of tags, a field and the number of data octets
+unfoldable pub kept : ℕ → ℕ → ℕ → Bool
+kept tags field octets =
     first
     (leb 1536 field ⇒ true  -- "1536 or more is a type"
     ∣ leb 1501 field ⇒ false  -- "1501 to 1535: always wrong length"
     ∣ leb 46 field ⇒ eqb octets field  -- "46 to 1500: data must be exactly that long"
-    ∣ otherwise (eqb octets 46))  -- "under 46: data must be exactly 46, tagged or not"
+    ∣ otherwise (eqb octets 46 || eqb octets (shortest tags field)))  -- "under 46: data must be exactly 46, tagged or not", or, by item 2, shorter
 
 -- rule 6: "length rule broken, checking on"; "With checking off, no test is made"
 unfoldable pub wrongLength : Bool → List ℕ → Bool
-wrongLength checking f = checking && not (kept (field f) (length (frameData f)))
+wrongLength checking f = checking && not (kept (tagCount f) (field f) (length (frameData f)))
 
 -- "only the first `field` octets are handed out"; "With checking off, … all data is handed out"
 unfoldable pub clientData : Bool → List ℕ → List ℕ

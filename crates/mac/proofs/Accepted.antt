@@ -55,11 +55,11 @@ module _ (s : Settings) (f dst : List ℕ) (n : ℕ) (p : List ℕ) (t : ℕ) (x
   unfolding undersized
   not-undersized h = le-ltb (length f) 64 (let k = x .size in omega arith)
 
-  not-wrong-length : kept n (length p) ≡ true → wrongLength (s .checking) f ≡ false
+  not-wrong-length : kept t n (length p) ≡ true → wrongLength (s .checking) f ≡ false
   unfolding wrongLength
-  not-wrong-length h = go (s .checking) (ap₂ (λ (a : ℕ) (b : List ℕ). kept a (length b)) (x .field-is) (x .data-is) ∙ h)
+  not-wrong-length h = go (s .checking) (ap (λ (k : ℕ). kept k (field f) (length (frameData f))) (x .tag) ∙ ap₂ (λ (a : ℕ) (b : List ℕ). kept t a (length b)) (x .field-is) (x .data-is) ∙ h)
     where
-      go : (c : Bool) → kept (field f) (length (frameData f)) ≡ true → (c && not (kept (field f) (length (frameData f)))) ≡ false
+      go : (c : Bool) → kept (tagCount f) (field f) (length (frameData f)) ≡ true → (c && not (kept (tagCount f) (field f) (length (frameData f)))) ≡ false
       go true e = ap not e
       go false e = refl
 
@@ -79,7 +79,7 @@ module _ (s : Settings) (f dst : List ℕ) (n : ℕ) (p : List ℕ) (t : ℕ) (x
   unfolding dropsControl
   not-dropped = rw (x .plain)
 
-  handed-out : 46 ≤ length p → oversized (s .limit) f ≡ false → kept n (length p) ≡ true → accepts s dst ≡ true
+  handed-out : 46 ≤ length p → oversized (s .limit) f ≡ false → kept t n (length p) ≡ true → accepts s dst ≡ true
       → outcome s (preamble ++ f) terminate ≡ HandedOut
   unfolding outcome outcomes
   handed-out long allowed keep heard =
@@ -181,15 +181,15 @@ unfolding longData fieldSent Bits16
 field-bits ByLength d m b h = let k : length d ≤ 1500 = ltb-false 1500 (length d) h in omega arith
 field-bits (ByType t) d m b h = b
 
-keeps : (g : Form) (d : List ℕ) (m : ℕ) → badType g ≡ false → longData m g d ≡ false → kept (fieldSent g d) (length (padded d)) ≡ true
+keeps : (t : ℕ) (g : Form) (d : List ℕ) (m : ℕ) → badType g ≡ false → longData m g d ≡ false → kept t (fieldSent g d) (length (padded d)) ≡ true
 unfolding longData fieldSent
-keeps ByLength d m h g =
+keeps t ByLength d m h g =
     let k : length d ≤ 1500 = ltb-false 1500 (length d) g in
     let j = padded-length d in
     by-test (ltb (length d) 46)
-    (λ e. kept-short (length d) (length (padded d)) (ltb-true (length d) 46 e) (let i = ltb-true (length d) 46 e in omega arith))
-    (λ e. let i = ltb-false (length d) 46 e in ap (λ (l : List ℕ). kept (length d) (length l)) (padded-long d i) ∙ kept-long (length d) i k)
-keeps (ByType t) d m h g = kept-type t (length (padded d)) (type-tests t h .0)
+    (λ e. kept-short t (length d) (length (padded d)) (ltb-true (length d) 46 e) (let i = ltb-true (length d) 46 e in omega arith))
+    (λ e. let i = ltb-false (length d) 46 e in ap (λ (l : List ℕ). kept t (length d) (length l)) (padded-long d i) ∙ kept-long t (length d) i k)
+keeps t (ByType n) d m h g = kept-type t n (length (padded d)) (type-tests n h .0)
 
 -- what is taken of the padded data, with lengths checked
 taken : (g : Form) (d : List ℕ) → badType g ≡ false → cond (ltb (fieldSent g d) 46) (take (fieldSent g d) (padded d)) (padded d) ≡ delivered g d
@@ -230,7 +230,7 @@ module _ (tx rx : Settings) (fr : Frame) (w : Carried tx rx fr) where
       handed-out rx (body ++ fcs body) dst n p (length (tagsSent (fr .client))) facts
       (let j = padded-length (fr .octets) in omega arith)
       (w .welcome .allowed)
-      (keeps (fr .client .form) (fr .octets) (tx .limit) (w .form) (w .short))
+      (keeps (length (tagsSent (fr .client))) (fr .client .form) (fr .octets) (tx .limit) (w .form) (w .short))
       (w .welcome .heard)
 
   pub read-back : clientData true (body ++ fcs body) ≡ delivered (fr .client .form) (fr .octets)

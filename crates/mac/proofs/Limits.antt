@@ -2,8 +2,8 @@
 use lib.Dec.{T}
 use Rattle.receive.specs.Computed as receive
 use Rattle.send.specs.Computed as send
-use Rattle.mac.specs.Limits.{station, settings, client, symbolsSent, runWith, bodyWith, taggedWith, unchecked, told, reads, readsTagged, outcomeRead, outcomesRead, starred, allTrue}
+use Rattle.mac.specs.Limits.{station, settings, client, symbolsSent, runWith, bodyWith, taggedWith, unchecked, told, reads, readsTagged, outcomeRead, outcomesRead, takes, starred, allTrue}
 
 pub limits : T (allTrue starred)
-unfolding receive.computed send.computed station settings client symbolsSent runWith bodyWith taggedWith unchecked told reads readsTagged outcomeRead outcomesRead starred allTrue
+unfolding receive.computed send.computed station settings client symbolsSent runWith bodyWith taggedWith unchecked told reads readsTagged outcomeRead outcomesRead takes starred allTrue
 limits = tt

@@ -1,5 +1,5 @@
 -- Document 01, "Both sides of the limits": the cases with a star, as one list of tests of the definitions. The statement is proofs/Limits.antt.
-use Prim.Native.Nat.{ℕ, zero, suc, _+_}
+use Prim.Native.Nat.{ℕ, zero, suc, _+_, _-_}
 use mathlib.Core.Bool.{Bool, true, false, not, _&&_}
 use mathlib.Core.List.{List, [], _∷_, _++_, map}
 use lib.ListN.{length, replicate}
@@ -98,6 +98,11 @@ outcomeRead c = answerOutcome (reading (settings Off) fresh (octetsOf c) (marksO
 unfoldable pub outcomesRead : List Symbol → List ℕ
 outcomesRead c = map (λ (r : Reading). answerOutcome (r .answer)) (walk (settings Off) fresh (octetsOf c) (marksOf c))
 
+-- behind a number of tags, with a field: of data the rule takes n octets and the 46 of before, and none of their neighbours
+unfoldable pub takes : ℕ → ℕ → ℕ → Bool
+takes tags field n =
+    kept tags field n && not (kept tags field (n - 1)) && not (kept tags field (n + 1)) && kept tags field 46 && not (kept tags field 47)
+
 -- ---- the cases, in the order of the document
 
 unfoldable pub starred : List Bool
@@ -109,17 +114,17 @@ starred =
     ∷ eqb (symbolsSent 0 1500) 1538
     ∷ eqb (symbolsSent 1 0) 88
     -- "field 45 with 46 octets: rule kept, 45 handed out; field 45 with 47: broken"
-    ∷ kept 45 46
+    ∷ kept 0 45 46
     ∷ sameOctets (reads Off (onLine (bodyWith 45 46))) (11 ∷ 0x400040002D ∷ 45 ∷ [])
-    ∷ not (kept 45 47)
+    ∷ not (kept 0 45 47)
     ∷ eqb (outcomeRead (onLine (bodyWith 45 47))) 6
     -- "field 1500 with 1500: kept; field 1501 with 1501: broken"
-    ∷ kept 1500 1500
-    ∷ not (kept 1501 1501)
+    ∷ kept 0 1500 1500
+    ∷ not (kept 0 1501 1501)
     -- "field 1535: wrong length; 1536: a type"
-    ∷ not (kept 1535 1535)
+    ∷ not (kept 0 1535 1535)
     ∷ eqb (outcomeRead (onLine (bodyWith 1535 46))) 6
-    ∷ kept 1536 46
+    ∷ kept 0 1536 46
     ∷ eqb (outcomeRead (onLine (bodyWith 1536 46))) 11
     -- "Start, Start, Terminate: 1, then 2"
     ∷ sameOctets (outcomesRead (asControl start ∷ asControl start ∷ asControl terminate ∷ [])) (1 ∷ 2 ∷ 0 ∷ [])
@@ -148,6 +153,17 @@ starred =
     ∷ eqb (outcomeRead (unchecked (taggedWith 2 1501))) 4
     ∷ eqb (outcomeRead (unchecked (taggedWith 9 1496))) 5
     ∷ eqb (outcomeRead (unchecked (taggedWith 9 1497))) 4
+    -- document 02, item 2: "the larger of the field and 46 - 4 × n, or the 46 of before; nothing else", with no, one, two and eight tags
+    ∷ takes 0 10 46
+    ∷ takes 0 45 46
+    ∷ takes 1 10 42
+    ∷ takes 1 42 42
+    ∷ takes 1 43 43
+    ∷ takes 2 10 38
+    ∷ takes 2 39 39
+    ∷ takes 8 10 14
+    ∷ takes 8 14 14
+    ∷ takes 8 15 15
     ∷ []
 
 unfoldable pub allTrue : List Bool → Bool

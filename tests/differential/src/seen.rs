@@ -103,10 +103,16 @@ impl<'a> FrameSeen<'a> {
         self.data.get(3).copied().unwrap_or(0)
     }
 
+    /// The data that a bridge leaves behind this many tags.
+    fn shortest(&self) -> usize {
+        usize::from(self.field).max(46 - 4 * self.tags)
+    }
+
     /// Whether the length rule is broken, if it is asked.
     pub fn length_broken(&self) -> bool {
         match self.field {
-            0..=1500 => self.data.len() != usize::from(self.field).max(46),
+            0..=45 => ![46, self.shortest()].contains(&self.data.len()),
+            46..=1500 => self.data.len() != usize::from(self.field),
             1501..=1535 => true,
             _ => false,
         }

@@ -92,7 +92,14 @@ impl<'a> Frame<'a> {
             return None;
         }
         let field = usize::from(self.field);
-        (data == field.max(MIN_DATA)).then_some(field)
+        let kept = data == field.max(MIN_DATA) || data == self.shortest(field);
+        kept.then_some(field)
+    }
+
+    /// How much data a bridge leaves of a short frame that it tags: for each
+    /// tag four octets of padding less. As long as the field otherwise.
+    fn shortest(&self, field: usize) -> usize {
+        field.max(MIN_DATA.saturating_sub(self.tags * TAG_LEN))
     }
 
     /// First field 0x8808: behind any tag it is an ordinary type.

@@ -14,6 +14,9 @@ returns c =
 frame-data-requires : tie.Need-frame-data-requires
 frame-data-requires c κs = search needs
 
+tag-count-requires : tie.Need-tag-count-requires
+tag-count-requires c κs = search needs
+
 field-requires : tie.Need-field-requires
 field-requires c κs = search needs
 
@@ -22,11 +25,11 @@ kept-requires c κs = search needs
 
 returns-2 : tie.Need-returns-2
 returns-2 c =
-    let p = c .before .before in
+    let p = c .before .before .before in
     let a = p .before .before .before .args in
     rw (not-false (a .checking) (p .before .if1 .left), length-checked (now (a .f)))
-    (rw (c .kept .ensures, c .before .field .ensures, p .frame-data .ensures))
+    (rw (c .kept .ensures, c .before .before .tag-count .ensures, c .before .field .ensures, p .frame-data .ensures))
 
 pub wrong-length-spec : {M : Type 1} → statement M
 wrong-length-spec =
-    tie.close (tie.spec returns frame-data-requires field-requires kept-requires returns-2)
+    tie.close (tie.spec returns frame-data-requires tag-count-requires field-requires kept-requires returns-2)

@@ -59,20 +59,23 @@ fn build(prng: &mut Prng, to: [u8; 6], tags: usize, field: u16, data: &[u8]) -> 
 /// The field is a length, or would be one; the data is as long, or off by one.
 fn by_length(prng: &mut Prng, s: &Settings) -> Vec<u8> {
     let field = match prng.below(16) {
-        0..=7 => prng.pick(&[0, 1, 44, 45, 46, 47]),
+        0..=7 => prng.pick(&[0, 1, 14, 15, 42, 43, 44, 45, 46, 47]),
         8..=12 => prng.between(0, 160),
         13 => prng.pick(&[1501, 1535]),
         _ => prng.pick(&[1499, 1500, 1501, 1535]),
     };
     let tags = tag_count(prng, &TOO_MANY);
     let right = field.max(46);
-    let length = match prng.below(12) {
+    // what a bridge leaves: padded to 64 octets with the tags
+    let shortest = field.max(46_usize.saturating_sub(4 * tags));
+    let length = match prng.below(14) {
         0 | 1 => right + 1,
         2 | 3 => right - 1,
         4 => field,
-        // padded to 64 octets with the tags
-        5 => 46_usize.saturating_sub(4 * tags),
-        6..=8 if field > 1500 => 46,
+        5 | 6 => shortest,
+        7 => shortest + 1,
+        8 => shortest.saturating_sub(1),
+        9..=11 if field > 1500 => 46,
         _ => right,
     };
     let to = destination(prng, s);

@@ -97,15 +97,22 @@ fn lengths(t: &mut Table) {
         (1535, 1535, false),
     ];
     for n in [0, 1, 2, 8] {
-        // without a tag these are undersized; the last fills 64 octets
+        // without a tag these are undersized; what a bridge leaves is kept, and no length beside it
         let tagged_only = [
             (0, 45, false),
-            (44, 44, false),
-            (45, 45, false),
+            (44, 44, true),
+            (45, 44, false),
+            (45, 45, true),
             (46, 45, false),
-            (0, 46 - 4 * n, false),
+            (0, 46 - 4 * n, true),
+            (0, 47 - 4 * n, false),
         ];
+        let of_one = [(42, 42, true), (43, 42, false), (43, 43, true)];
+        let of_eight = [(14, 14, true), (15, 14, false), (15, 15, true)];
         let tagged_only = tagged_only.into_iter().filter(|_| n > 0);
+        let of_one = of_one.into_iter().filter(|_| n == 1);
+        let of_eight = of_eight.into_iter().filter(|_| n == 8);
+        let tagged_only = tagged_only.chain(of_one).chain(of_eight);
         for (field, length, kept) in both.into_iter().chain(tagged_only) {
             let tags = with_tags(n);
             let rule = if kept { "kept" } else { "6" };

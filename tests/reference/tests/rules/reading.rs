@@ -169,8 +169,8 @@ fn outcome_6_wrong_length() {
             assert_eq!(seen.status & 0xFFFF, len as u64);
         }
     }
-    // Tagged data under 46 keeps no length.
-    for (field, len) in [(42, 42), (0, 42), (45, 45)] {
+    // Tagged data under 46 is kept only as short as a bridge leaves it.
+    for (field, len) in [(41, 43), (0, 43), (44, 45), (46, 45)] {
         let octets = frame(OWN, &[0x8100, 0, field], &ramp(len));
         assert_eq!(outcome(&on, &octets), 6);
     }

@@ -123,15 +123,25 @@ fn length_rule_behind_the_last() {
                 None => assert_eq!(seen.outcome, 6, "{n} {field} {len}"),
             }
         }
-        // Tagged data under 46 keeps no length, whatever the padding.
-        for len in 46 - 4 * n..46 {
-            for field in [0, len as u16, 46] {
-                assert_eq!(
-                    outcome(&PLAIN, &frame(OWN, &tagged(n, field), &ramp(len))),
-                    6
-                );
+        // Data under 46 is kept at the one length that a bridge leaves.
+        for field in 0..=46 {
+            for len in 46 - 4 * n..46 {
+                let seen = see(&PLAIN, &frame(OWN, &tagged(n, field), &ramp(len)));
+                if field < 46 && len == usize::from(field).max(46 - 4 * n) {
+                    assert_eq!((seen.outcome, seen.data), (11, ramp(field.into())));
+                } else {
+                    assert_eq!(seen.outcome, 6, "{n} {field} {len}");
+                }
             }
         }
+    }
+}
+
+#[test]
+fn one_tag_and_field_ten() {
+    for (len, expected) in [(42, 11), (43, 6), (45, 6), (46, 11), (47, 6)] {
+        let octets = frame(OWN, &tagged(1, 10), &ramp(len));
+        assert_eq!(outcome(&PLAIN, &octets), expected, "{len}");
     }
 }
 
