@@ -9,7 +9,7 @@ ghost use Rattle.address.specs.Address.{broadcastAddress, among, accepts
 use station::Address;
 use station::Settings;
 
-// Whether the frame's destination is `a`, all six octets.
+// Whether the frame's destination is `a`, all six octets: the last one first, since stations of one maker share the others.
 pub fn to(f: &[u8], a: Address) -> bool
     ensures { λ r. ⌜ r ≡ sameOctets (destination (now (f .entry))) (a .0) ⌝ }
 {
@@ -17,12 +17,12 @@ pub fn to(f: &[u8], a: Address) -> bool
         return false;
     }
     let octets = a.0;
-    let mut k: usize = 0;
-    while k < 6 {
+    let mut k: usize = 6;
+    while 0 < k {
+        k -= 1;
         if f[k] != octets[k] {
             return false;
         }
-        k += 1;
     }
     true
 }
