@@ -85,8 +85,12 @@ kindOf n = cond (eqb n 0) Customer Service
 unfoldable pub tagAt : List ℕ → ℕ → Tag
 tagAt o at = record { kind = kindOf (getD o at 0); control = highFirstAt o (at + 2) }
 
+-- "those beyond the count are not looked at": where none counts, none of the eight
+abbrev pub noTag : Tag
+noTag = record { kind = Customer; control = 0 }
+
 unfoldable pub tagsOf : List ℕ → List Tag
-tagsOf o = each (λ (k : ℕ). tagAt o (12 + 4 * k)) 0 8
+tagsOf o = cond (eqb (getD o 10 0) 0) (each (λ (k : ℕ). noTag) 0 8) (each (λ (k : ℕ). tagAt o (12 + 4 * k)) 0 8)
 
 unfoldable pub formOf : List ℕ → Form
 formOf o = cond (eqb (getD o 7 0) 0) ByLength (ByType (highFirstAt o 8))

@@ -146,9 +146,17 @@ fn tag(o: &[u8; 44], at: usize) -> Tag
     Tag { kind, control }
 }
 
+// Most frames have no tag, and then none is looked at.
 fn tags(o: &[u8; 44]) -> [Tag; 8]
     ensures { λ r. ⌜ r ≡ tagsOf (now (o .entry)) ⌝ }
 {
+    if o[10] == 0 {
+        let none = Tag {
+            kind: Kind::Customer,
+            control: 0,
+        };
+        return [none; 8];
+    }
     [
         tag(o, 12),
         tag(o, 16),

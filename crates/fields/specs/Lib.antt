@@ -1,3 +1,4 @@
 pub mod Computed
 pub mod Fields
+pub mod Places
 pub mod Tags

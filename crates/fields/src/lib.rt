@@ -5,7 +5,18 @@ ghost use Prim.Native.Nat.{_+_, _*_, _≤_, _<_};
 ghost use lib.ListN.{getD, drop};
 ghost use Rattle.line.specs.Octets.{highFirstAt};
 ghost use Rattle.fields.specs.Tags.{isTagKind, tagRun, tagCount};
-ghost use Rattle.fields.specs.Fields.{firstField, fieldPlace, field, dataPlace};
+ghost use Rattle.fields.specs.Fields.{firstField};
+ghost use Rattle.fields.specs.Places.{layoutOf};
+
+// How a frame is laid out.
+pub struct Layout {
+    // how many tags stand before the real field
+    pub tags: usize,
+    // the real field
+    pub field: u16,
+    // where data begins
+    pub place: usize,
+}
 
 // ---- numbers in a frame
 
@@ -76,23 +87,16 @@ pub fn tag_count(f: &[u8]) -> usize
     0
 }
 
-// Where the real field stands.
-fn field_place(f: &[u8]) -> usize
-    ensures { λ r. ⌜ r ≡ fieldPlace (now (f .entry)) ⌝ }
+// The layout of a frame. The tags are counted once: field and data stand behind them.
+pub fn layout_of(f: &[u8]) -> Layout
+    ensures { λ r. ⌜ r ≡ layoutOf (now (f .entry)) ⌝ }
 {
-    12 + 4 * tag_count(f)
-}
-
-// The real field.
-pub fn field(f: &[u8]) -> u16
-    ensures { λ r. ⌜ r ≡ field (now (f .entry)) ⌝ }
-{
-    high_first(f, field_place(f))
-}
-
-// Where data begins: after the real field.
-pub fn data_place(f: &[u8]) -> usize
-    ensures { λ r. ⌜ r ≡ dataPlace (now (f .entry)) ⌝ }
-{
-    field_place(f) + 2
+    let tags = tag_count(f);
+    let at = 12 + 4 * tags;
+    let field = high_first(f, at);
+    Layout {
+        tags,
+        field,
+        place: at + 2,
+    }
 }

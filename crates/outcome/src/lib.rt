@@ -1,4 +1,5 @@
 // What becomes of one run: the table of outcomes and the status word (document 01, "Reading one Start", "Status word"). Meaning: specs/.
+use fields::Layout;
 use station::Outcome;
 use station::Settings;
 ghost use mathlib.Core.Path.{_≡_};
@@ -6,9 +7,14 @@ ghost use mathlib.Core.Bool.{not, cond, _&&_};
 ghost use Prim.Native.Nat.{_≤_};
 ghost use lib.ListN.{length};
 ghost use Rattle.line.specs.Table.{first};
+ghost use Rattle.station.specs.declared.Settings.{Settings};
+ghost use Rattle.station.specs.declared.Outcome.the-variants.{HandedOut};
 ghost use Rattle.station.specs.Station.{isGroup};
 ghost use Rattle.fields.specs.Fields.{destination};
+ghost use Rattle.fields.specs.Tags.{tagCount};
+ghost use Rattle.fields.specs.Places.{layoutOf};
 ghost use Rattle.frame.specs.Frame.{frameData};
+ghost use Rattle.frame.specs.Length.{handedLength};
 ghost use Rattle.outcome.specs.Outcomes.{badPreamble, frameOf, outcome};
 ghost use Rattle.outcome.specs.Steps.{earlyOutcomes, lateOutcomes};
 ghost use Rattle.outcome.specs.Status.{frameBits, status};
@@ -132,14 +138,13 @@ fn is_multicast(group: bool, broadcast: bool) -> bool
     if group { !broadcast } else { false }
 }
 
-// What the frame alone decides: bits 38 to 16.
-fn frame_bits(f: &[u8]) -> u64
-    requires { ⌜ length (now f) ≤ 65536 ⌝ }
+// What the frame alone decides, its number of tags known: bits 38 to 16.
+fn frame_bits(f: &[u8], tags: usize) -> u64
+    requires { ⌜ (length (now f) ≤ 65536) × (tags ≡ tagCount (now f)) ⌝ }
     ensures { λ r. ⌜ (r ≡ frameBits (now (f .entry))) × (r ≤ 0x80_0000_0000) ⌝ }
 {
     let group = to_group(f);
     let broadcast = address::is_broadcast(f);
-    let tags = fields::tag_count(f);
     let b38 = flag(!group, 0x40_0000_0000);
     let b37 = flag(is_multicast(group, broadcast), 0x20_0000_0000);
     let b36 = flag(broadcast, 0x10_0000_0000);
@@ -150,24 +155,25 @@ fn frame_bits(f: &[u8]) -> u64
 }
 
 // The number of data octets.
-fn data_length(f: &[u8]) -> u64
-    requires { ⌜ length (now f) ≤ 65536 ⌝ }
+fn data_length(f: &[u8], l: Layout) -> u64
+    requires { ⌜ (length (now f) ≤ 65536) × (l ≡ layoutOf (now f)) ⌝ }
     ensures { λ r. ⌜ (r ≡ length (frameData (now (f .entry)))) × (r ≤ 65536) ⌝ }
 {
-    let data = frame::frame_data(f);
+    let data = frame::frame_data(f, l);
     data.len() as u64
 }
 
-// The status word: 0 for outcomes 1 to 7. Public for this repository's crates only.
-pub fn status(s: Settings, o: Outcome, f: &[u8]) -> u64
-    requires { ⌜ length (now f) ≤ 65536 ⌝ }
-    ensures { λ r. ⌜ r ≡ status s o (now (f .entry)) ⌝ }
+// The status word of a frame whose layout is `l`, and of which `handed` octets are handed out: 0 for outcomes 1 to 7. Public for this
+// repository's crates only.
+pub fn status(o: Outcome, f: &[u8], l: Layout, handed: usize) -> u64
+    requires { ⌜ (length (now f) ≤ 65536) × (l ≡ layoutOf (now f)) × (handed ≤ 65536) ⌝ }
+    ensures { λ r. ⌜ ((s : Settings) → (o ≡ HandedOut → handed ≡ handedLength (s .checking) (now (f .entry))) → r ≡ status s o (now (f .entry))) ⌝ }
 {
     match o {
-        Outcome::PauseTaken => 0x8_0000_0000 + frame_bits(f) + data_length(f),
-        Outcome::PfcTaken => 0x80_0000_0000 + frame_bits(f) + data_length(f),
-        Outcome::ControlDropped => frame_bits(f) + data_length(f),
-        Outcome::HandedOut => frame_bits(f) + (frame::handed_length(s.checking, f) as u64),
+        Outcome::PauseTaken => 0x8_0000_0000 + frame_bits(f, l.tags) + data_length(f, l),
+        Outcome::PfcTaken => 0x80_0000_0000 + frame_bits(f, l.tags) + data_length(f, l),
+        Outcome::ControlDropped => frame_bits(f, l.tags) + data_length(f, l),
+        Outcome::HandedOut => frame_bits(f, l.tags) + (handed as u64),
         _ => 0,
     }
 }

@@ -1,4 +1,5 @@
--- The client data's part, for the arms that share a value: the match's last arm, by the places of its variants in the enum. Assumes nothing.
+-- The client data's part: its length by outcome 11, and the arms that share a value, the match's last, by the places of its variants in the
+-- enum. Assumes nothing.
 use Prim.Native.Nat.{ℕ}
 use mathlib.Core.Path.{_≡_, refl}
 use mathlib.Core.List.{List, [], _∷_}
@@ -8,7 +9,12 @@ use Rattle.station.specs.declared.Settings.{Settings}
 use Rattle.station.specs.declared.Outcome.{Outcome}
 use Rattle.station.specs.declared.Outcome.the-variants.{Cut, BadPreamble, Undersized, Oversized, WrongFcs, WrongLength, Filtered, PauseTaken, PfcTaken, ControlDropped, HandedOut}
 use Rattle.station.proofs.Outcome.{the-type}
+use Rattle.frame.specs.Length.{handedLength}
 use Rattle.receive.specs.Reading.{emptyPart, handedPart}
+
+pub part-handed : (s : Settings) (o : Outcome) (at : ℕ) (f : List ℕ) → o ≡ HandedOut → handedPart s o at f .len ≡ handedLength (s .checking) f
+unfolding handedPart
+part-handed s o at f h = rw h
 
 abbrev oneToTen : List ℕ
 oneToTen = 0 ∷ 1 ∷ 2 ∷ 3 ∷ 4 ∷ 5 ∷ 6 ∷ 7 ∷ 8 ∷ 9 ∷ []

@@ -1,4 +1,5 @@
 // Reading (document 01, "Reading one Start", "Refusals and their order"). Meaning: specs/.
+use fields::Layout;
 use line::Found;
 use outcome::Early;
 use station::Checked;
@@ -14,6 +15,7 @@ ghost use lib.ListN.{length};
 ghost use Rattle.line.specs.Table.{first};
 ghost use Rattle.fcs.specs.Lent.{Tables};
 ghost use Rattle.station.specs.declared.Checked.the-variants.{Fine};
+ghost use Rattle.fields.specs.Places.{layoutOf};
 ghost use Rattle.frame.specs.Frame.{wrongFcs};
 ghost use Rattle.outcome.specs.Outcomes.{frameOf, outcome};
 ghost use Rattle.receive.specs.Reading.{readRefusals, stateAfter, handedPart, readRun, reading, partOf};
@@ -54,15 +56,15 @@ pub struct WalkEnd {
 
 // ---- one reading
 
-// The client data's part, of a frame that begins at place `at`.
-fn handed_part(s: Settings, o: Outcome, at: usize, f: &[u8]) -> Part
-    requires { ⌜ at ≤ 131072 ⌝ }
-    ensures { λ r. ⌜ r ≡ handedPart s o at (now (f .entry)) ⌝ }
+// The client data's part, of a frame that begins at place `at` and whose layout is `l`.
+fn handed_part(s: Settings, o: Outcome, at: usize, f: &[u8], l: Layout) -> Part
+    requires { ⌜ (at ≤ 131072) × (l ≡ layoutOf (now f)) ⌝ }
+    ensures { λ r. ⌜ (r ≡ handedPart s o at (now (f .entry))) × (r .len ≤ length (now (f .entry))) ⌝ }
 {
     match o {
         Outcome::HandedOut => Part {
-            at: at + fields::data_place(f),
-            len: frame::handed_length(s.checking, f),
+            at: at + l.place,
+            len: frame::handed_length(s.checking, f, l),
         },
         _ => Part { at: 0, len: 0 },
     }
@@ -85,8 +87,9 @@ fn read_run(s: Settings, state: State, start: usize, run: &[u8], o: Outcome) -> 
     ensures { λ r. ⌜ r ≡ readRun s state start (now (run .entry)) o ⌝ }
 {
     let f = outcome::frame_of(run);
-    let word = outcome::status(s, o, f);
-    let part = handed_part(s, o, start + 8, f);
+    let l = fields::layout_of(f);
+    let part = handed_part(s, o, start + 8, f, l);
+    let word = outcome::status(o, f, l, part.len);
     let after = state_after(o, f, state);
     Reading {
         answer: Answer::Counted(o, word, part),

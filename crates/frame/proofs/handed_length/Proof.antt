@@ -1,5 +1,6 @@
 -- `frame::handed_length` meets its contract. Assumes nothing.
 use borrow.Author.Needs.{needs}
+use Rattle.fields.proofs.Places.{layout-field}
 use Rattle.frame.proofs.Length.{handed-unchecked, handed-whole, handed-named}
 use borrow.Author.Tests.{not-true, not-false}
 use denote.Ref.{now}
@@ -13,32 +14,31 @@ frame-data-requires : tie.Need-frame-data-requires
 frame-data-requires c κs = search needs
 
 returns : tie.Need-returns
-returns c =
+returns c h =
     let a = c .before .before .before .args in
-    rw (not-true (a .checking) (c .if1 .taken), handed-unchecked (now (a .f)), c .before .frame-data .ensures)
-
-field-requires : tie.Need-field-requires
-field-requires c κs = search needs
+    rw (not-true (a .checking) (c .if1 .taken), handed-unchecked (now (a .f)), c .before .frame-data .ensures h)
 
 cast-named : tie.Need-cast-named
 cast-named c = search needs
 
 returns-2 : tie.Need-returns-2
-returns-2 c =
+returns-2 c h =
     let a = c .before .before .before .before .before .args in
-    ap length (c .before .before .before .frame-data .ensures) ∙ sym (handed-whole (now (a .f)) (a .checking) (omega arith))
+    let e = layout-field (a .l) (now (a .f)) h in
+    ap length (c .before .before .before .frame-data .ensures h) ∙ sym (handed-whole (now (a .f)) (a .checking) (omega arith))
 
 smaller-requires : tie.Need-smaller-requires
 smaller-requires c κs = search needs
 
 returns-3 : tie.Need-returns-3
-returns-3 c =
+returns-3 c h =
     let p = c .before .before .before in
     let a = p .before .before .before .args in
+    let e = layout-field (a .l) (now (a .f)) h in
     rw (not-false (a .checking) (p .if1 .left), handed-named (now (a .f)) (omega arith))
-    (omega (arith, ap length (p .before .frame-data .ensures)))
+    (omega (arith, ap length (p .before .frame-data .ensures h)))
 
 pub handed-length-spec : {M : Type 1} → statement M
 handed-length-spec =
     tie.close
-    (tie.spec frame-data-requires returns field-requires cast-named returns-2 smaller-requires returns-3)
+    (tie.spec frame-data-requires returns cast-named returns-2 smaller-requires returns-3)

@@ -13,7 +13,7 @@ frame-data-requires c κs = search needs
 
 returns : tie.Need-returns
 returns c =
-    let e = ap length (c .frame-data .ensures) in
+    let e = ap length (c .frame-data .ensures (c .before .before .pre .1)) in
     (e, omega (arith, frameData-length (now (c .before .before .args .f))))
 
 pub data-length-spec : {M : Type 1} → statement M

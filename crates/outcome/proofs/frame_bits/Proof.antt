@@ -1,7 +1,7 @@
--- `outcome::frame_bits` meets its contract. Assumes nothing.
+-- `outcome::frame_bits` meets its contract: one sum, its terms one by one. Assumes nothing.
 use native.Mathlib.Omega.{arith}
-use borrow.Author.Needs.{needs}
 use Rattle.outcome.specs.Status.{bit, frameBits}
+use borrow.Author.Needs.{needs}
 use Rattle.outcome.proofs.frame_bits.Statement.{statement}
 use Rattle.outcome.proofs.frame_bits.Tie as tie
 
@@ -10,9 +10,6 @@ to-group-requires c κs = search needs
 
 is-broadcast-requires : tie.Need-is-broadcast-requires
 is-broadcast-requires c κs = search needs
-
-tag-count-requires : tie.Need-tag-count-requires
-tag-count-requires c κs = search needs
 
 flag-requires : tie.Need-flag-requires
 flag-requires c κs = search needs
@@ -61,7 +58,18 @@ add-result-6 c = search needs
 
 returns : tie.Need-returns
 unfolding frameBits bit
-returns c = (cc, omega arith)
+returns c =
+    let b5 = c .before in
+    let b4 = b5 .before in
+    let control = b4 .before in
+    let b3 = control .before in
+    let b2 = b3 .before in
+    let multicast = b2 .before in
+    let b1 = multicast .before in
+    let broadcast = b1 .before in
+    let group = broadcast .before in
+    let tags = group .before .before .pre .1 in
+    (rw (c .flag6 .ensures .0, b5 .flag5 .ensures .0, b4 .flag4 .ensures .0, b3 .flag3 .ensures .0, b2 .flag2 .ensures .0, b1 .flag .ensures .0, control .is-control-frame .ensures, multicast .is-multicast .ensures, broadcast .is-broadcast .ensures, group .to-group .ensures, tags), omega arith)
 
 pub frame-bits-spec : {M : Type 1} → statement M
 frame-bits-spec =
@@ -69,7 +77,6 @@ frame-bits-spec =
     (tie.spec
     to-group-requires
     is-broadcast-requires
-    tag-count-requires
     flag-requires
     is-multicast-requires
     flag-requires-2

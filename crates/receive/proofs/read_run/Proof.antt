@@ -2,9 +2,11 @@
 use native.Mathlib.Omega.{arith}
 use lib.ListN.{length, length-drop}
 use denote.Ref.{now}
-use mathlib.Core.Path.{_≡_, ap}
+use mathlib.Core.Path.{_≡_, ap, _∙_}
 use borrow.Author.Needs.{needs}
+use Rattle.station.specs.declared.Part.{Part}
 use Rattle.outcome.specs.Outcomes.{frameOf}
+use Rattle.receive.proofs.Parts.{part-handed}
 use Rattle.receive.specs.Reading.{readRun}
 use Rattle.receive.proofs.read_run.Statement.{statement}
 use Rattle.receive.proofs.read_run.Tie as tie
@@ -12,9 +14,8 @@ use Rattle.receive.proofs.read_run.Tie as tie
 frame-of-requires : tie.Need-frame-of-requires
 frame-of-requires c κs = search needs
 
-status-requires : tie.Need-status-requires
-unfolding frameOf
-status-requires c κs = omega (arith, ap length (c .frame-of .ensures), length-drop 7 (now (c .before .before .args .run)))
+layout-of-requires : tie.Need-layout-of-requires
+layout-of-requires c κs = search needs
 
 add-handed-part : tie.Need-add-handed-part
 add-handed-part c = search needs
@@ -22,28 +23,42 @@ add-handed-part c = search needs
 handed-part-requires : tie.Need-handed-part-requires
 handed-part-requires c κs = search needs
 
+status-requires : tie.Need-status-requires
+unfolding frameOf
+status-requires c κs =
+    let p = c .before .before in
+    let n = ap length (p .frame-of .ensures) in
+    let k = length-drop 7 (now (p .before .before .args .run)) in
+    (omega arith, c .before .layout-of .ensures, omega (arith, c .handed-part .ensures .1))
+
 state-after-requires : tie.Need-state-after-requires
 state-after-requires c κs = search needs
 
-add-t10 : tie.Need-add-t10
-add-t10 c = search needs
+add-t11 : tie.Need-add-t11
+add-t11 c = search needs
 
-add-t13 : tie.Need-add-t13
-add-t13 c = search needs
+add-t14 : tie.Need-add-t14
+add-t14 c = search needs
 
 returns : tie.Need-returns
 unfolding readRun
-returns c = cc
+returns c =
+    let p = c .before .before in
+    let a = p .before .before .before .before .args in
+    let part = p .handed-part .ensures .0 in
+    let word = c .before .status .ensures (a .s) (λ h. ap (λ (x : Part). x .len) part ∙ part-handed (a .s) (a .o) _ _ h) in
+    cc
 
 pub read-run-spec : {M : Type 1} → statement M
 read-run-spec =
     tie.close
     (tie.spec
     frame-of-requires
-    status-requires
+    layout-of-requires
     add-handed-part
     handed-part-requires
+    status-requires
     state-after-requires
-    add-t10
-    add-t13
+    add-t11
+    add-t14
     returns)
