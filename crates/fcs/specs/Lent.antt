@@ -1,9 +1,9 @@
--- Internal: sixteen tables in one array, made once and lent. Of this file a caller sees `Tables` alone, which `tables` ensures and `update_by`
--- requires: no caller has to look into it.
+-- Internal: sixteen tables in one array, made once and lent. Of this file a caller sees `Tables`, which `tables` ensures, and `Lent`, which
+-- `check_by` requires: no caller has to look into them.
 use mathlib.Core.Path.{_≡_}
 use mathlib.Core.List.{List}
 use Prim.Native.Nat.{ℕ, suc, _/_, _%_, _<_}
-use lib.ListN.{getD}
+use lib.ListN.{length, getD}
 use Rattle.crc.specs.Words.{crcZeros}
 
 -- The entry at j. Its row is j / 256: row k has each octet as a register, after k + 1 octets that are 0
@@ -15,4 +15,8 @@ abbrev pub Filled : ℕ → List ℕ → Type 0
 Filled n t = (j : ℕ) → j < n → getD t j 0 ≡ entryOf j
 
 abbrev pub Tables : List ℕ → Type 0
-Tables t = Filled 4096 t
+Tables t = (length t ≡ 4096) × Filled 4096 t
+
+-- what may be lent: nothing, or the tables
+abbrev pub Lent : List ℕ → Type 0
+Lent t = 0 < length t → Tables t

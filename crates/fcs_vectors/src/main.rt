@@ -8,7 +8,7 @@ fn vector(t: &[u32; 4096], name: &[u8], s: &[u8], expected: u32)
     requires { ⌜ Tables (now t) ⌝ }
 {
     let f = fcs::check(s);
-    let by = 0xFFFF_FFFF - fcs::update_by(t, 0xFFFF_FFFF, s);
+    let by = fcs::check_by(t, s);
     io::write_all(1, name);
     io::write_all(1, b" ");
     io::print_hex(1, f as u64, 8);

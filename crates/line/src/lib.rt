@@ -39,6 +39,9 @@ pub fn find_control(octets: &[u8], marks: &[u8], place: usize) -> Found
     if end <= place {
         return Found::Nothing;
     }
+    if marks[place] != 0 {
+        return Found::At(place);
+    }
     let h = pass_data(marks, place, end, 64);
     let i = pass_data(marks, h, end, 16);
     let j = pass_words(marks, i, end, 0);

@@ -7,6 +7,7 @@ ghost use mathlib.Core.Bool.{not, cond, _&&_};
 ghost use Prim.Native.Nat.{_≤_};
 ghost use lib.ListN.{length};
 ghost use Rattle.line.specs.Table.{first};
+ghost use Rattle.fcs.specs.Lent.{Lent};
 ghost use Rattle.station.specs.declared.Settings.{Settings};
 ghost use Rattle.station.specs.declared.Outcome.the-variants.{HandedOut};
 ghost use Rattle.station.specs.Station.{isGroup};
@@ -20,7 +21,7 @@ ghost use Rattle.outcome.specs.Steps.{earlyOutcomes, lateOutcomes};
 ghost use Rattle.outcome.specs.Status.{frameBits, status};
 
 // What rules 1 to 4 leave: an outcome, or a frame whose FCS is to be looked at.
-pub enum Early {
+enum Early {
     Decided(Outcome),
     Framed,
 }
@@ -56,7 +57,7 @@ pub fn frame_of(run: &[u8]) -> &[u8]
 }
 
 // Rules 1 to 4, in their order.
-pub fn before_fcs(limit: u16, run: &[u8], by: u8) -> Early
+fn before_fcs(limit: u16, run: &[u8], by: u8) -> Early
     ensures { λ r. ⌜ r ≡ first (earlyOutcomes limit (now (run .entry)) by) ⌝ }
 {
     if by != 0xFD {
@@ -76,7 +77,7 @@ pub fn before_fcs(limit: u16, run: &[u8], by: u8) -> Early
 }
 
 // Rules 6 to 11, in their order.
-pub fn after_fcs(s: Settings, f: &[u8]) -> Outcome
+fn after_fcs(s: Settings, f: &[u8]) -> Outcome
     ensures { λ r. ⌜ r ≡ first (lateOutcomes s (now (f .entry))) ⌝ }
 {
     if frame::wrong_length(s.checking, f) {
@@ -97,8 +98,10 @@ pub fn after_fcs(s: Settings, f: &[u8]) -> Outcome
     Outcome::HandedOut
 }
 
-// The outcome of a run ended by the control octet `by`: the first rule that holds.
-pub fn outcome(s: Settings, run: &[u8], by: u8) -> Outcome
+// The outcome of a run ended by the control octet `by`: the first rule that holds. The FCS by tables if they are lent, and so public for this
+// repository's crates only.
+pub fn outcome(t: &[u32], s: Settings, run: &[u8], by: u8) -> Outcome
+    requires { ⌜ Lent (now t) ⌝ }
     ensures { λ r. ⌜ r ≡ outcome s (now (run .entry)) by ⌝ }
 {
     let e = before_fcs(s.limit, run, by);
@@ -106,7 +109,7 @@ pub fn outcome(s: Settings, run: &[u8], by: u8) -> Outcome
         return o;
     }
     let f = frame_of(run);
-    if frame::wrong_fcs(f) {
+    if frame::wrong_fcs(t, f) {
         return Outcome::WrongFcs;
     }
     after_fcs(s, f)

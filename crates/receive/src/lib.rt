@@ -1,7 +1,6 @@
 // Reading (document 01, "Reading one Start", "Refusals and their order"). Meaning: specs/.
 use fields::Layout;
 use line::Found;
-use outcome::Early;
 use station::Checked;
 use station::Outcome;
 use station::Part;
@@ -9,17 +8,13 @@ use station::Refusal;
 use station::Settings;
 use station::State;
 ghost use mathlib.Core.Path.{_≡_};
-ghost use mathlib.Core.Bool.{true};
 ghost use Prim.Native.Nat.{_≤_};
 ghost use lib.ListN.{length};
 ghost use Rattle.line.specs.Table.{first};
-ghost use Rattle.fcs.specs.Lent.{Tables};
+ghost use Rattle.fcs.specs.Lent.{Lent};
 ghost use Rattle.station.specs.declared.Checked.the-variants.{Fine};
 ghost use Rattle.fields.specs.Places.{layoutOf};
-ghost use Rattle.frame.specs.Frame.{wrongFcs};
-ghost use Rattle.outcome.specs.Outcomes.{frameOf, outcome};
 ghost use Rattle.receive.specs.Reading.{readRefusals, stateAfter, handedPart, readRun, reading, partOf};
-ghost use Rattle.receive.specs.Steps.{stateCounted};
 ghost use Rattle.receive.specs.Walk.{walked};
 
 // What a reading answers. The state holds arrays, which an enum may not: it stands beside the answer.
@@ -74,8 +69,8 @@ fn handed_part(s: Settings, o: Outcome, at: usize, f: &[u8], l: Layout) -> Part
 fn state_after(o: Outcome, f: &[u8], state: State) -> State
     ensures { λ r. ⌜ r ≡ stateAfter o (now (f .entry)) state ⌝ }
 {
-    let counts = state.counters;
-    let counters = station::counted(o, counts);
+    let mut counters = state.counters;
+    station::count(o, &mut counters);
     let times = state.timers;
     let timers = flow::timers_after(o, f, times);
     State { counters, timers }
@@ -145,7 +140,8 @@ pub fn read(s: Settings, state: State, octets: &[u8], marks: &[u8], place: usize
             state,
         };
     };
-    let o = outcome::outcome(s, &octets[from..end], octets[end]);
+    let none = [0u32; 1];
+    let o = outcome::outcome(&none[..0], s, &octets[from..end], octets[end]);
     read_run(s, state, start, &octets[from..end], o)
 }
 
@@ -167,74 +163,36 @@ pub fn client_data(octets: &[u8], part: Part) -> &[u8]
 
 // ---- the walk
 
-// Rule 5, by tables that are lent or without.
-fn fcs_fails(t: &[u32; 4096], lent: bool, f: &[u8]) -> bool
-    requires { ⌜ (lent ≡ true → Tables (now t)) ⌝ }
-    ensures { λ r. ⌜ r ≡ wrongFcs (now (f .entry)) ⌝ }
-{
-    if lent {
-        return frame::wrong_fcs_by(t, f);
-    }
-    frame::wrong_fcs(f)
-}
-
-// The state after an outcome that sets no timer: a walk over nothing but Starts takes this way alone.
-fn state_counted(o: Outcome, state: State) -> State
-    ensures { λ r. ⌜ r ≡ stateCounted o state ⌝ }
-{
-    let counts = state.counters;
-    let counters = station::counted(o, counts);
-    let timers = state.timers;
-    State { counters, timers }
-}
-
-// The state after a run ended by the control octet `by`.
-fn count_run(t: &[u32; 4096], lent: bool, s: Settings, state: State, run: &[u8], by: u8) -> State
-    requires { ⌜ (lent ≡ true → Tables (now t)) ⌝ }
-    ensures { λ r. ⌜ r ≡ stateAfter (outcome s (now (run .entry)) by) (frameOf (now (run .entry))) state ⌝ }
-{
-    let e = outcome::before_fcs(s.limit, run, by);
-    if let Early::Decided(o) = e {
-        return state_counted(o, state);
-    }
-    let f = outcome::frame_of(run);
-    if fcs_fails(t, lent, f) {
-        return state_counted(Outcome::WrongFcs, state);
-    }
-    let o = outcome::after_fcs(s, f);
-    state_after(o, f, state)
-}
-
-// The walk over a capture that is not refused.
-fn walk_on(
-    t: &[u32; 4096],
-    lent: bool,
-    s: Settings,
-    state: State,
-    octets: &[u8],
-    marks: &[u8],
-) -> WalkEnd
-    requires { ⌜ (lent ≡ true → Tables (now t)) × (first (readRefusals s (now octets) (now marks) 0) ≡ Fine) ⌝ }
+// The walk over a capture that is not refused, the FCS by tables if they are lent. Counters and timers stay where they are; most Starts set no timer.
+fn walk_on(t: &[u32], s: Settings, state: State, octets: &[u8], marks: &[u8]) -> WalkEnd
+    requires { ⌜ Lent (now t) × (first (readRefusals s (now octets) (now marks) 0) ≡ Fine) ⌝ }
     ensures { λ r. ⌜ r ≡ walked s state (now (octets .entry)) (now (marks .entry)) ⌝ }
 {
-    let mut st = state;
+    let mut counters = state.counters;
+    let mut timers = state.timers;
     let mut n: usize = 0;
     let mut at: usize = 0;
     loop {
         let Found::At(start) = line::find_start(octets, marks, at) else {
             return WalkEnd {
                 answer: Walked::Ended(n, false),
-                state: st,
+                state: State { counters, timers },
             };
         };
         let from = start + 1;
         let Found::At(end) = line::find_control(octets, marks, from) else {
             return WalkEnd {
                 answer: Walked::Ended(n, true),
-                state: st,
+                state: State { counters, timers },
             };
         };
-        st = count_run(t, lent, s, st, &octets[from..end], octets[end]);
+        let o = outcome::outcome(t, s, &octets[from..end], octets[end]);
+        station::count(o, &mut counters);
+        if flow::sets_timers(o) {
+            let f = outcome::frame_of(&octets[from..end]);
+            let set = flow::timers_after(o, f, timers);
+            timers = set;
+        }
         n += 1;
         at = end;
     }
@@ -252,9 +210,9 @@ pub fn walk(s: Settings, state: State, octets: &[u8], marks: &[u8]) -> WalkEnd
         };
     }
     if octets.len() < 8192 {
-        let none = [0u32; 4096];
-        return walk_on(&none, false, s, state, octets, marks);
+        let none = [0u32; 1];
+        return walk_on(&none[..0], s, state, octets, marks);
     }
     let t = fcs::tables();
-    walk_on(&t, true, s, state, octets, marks)
+    walk_on(&t, s, state, octets, marks)
 }

@@ -149,14 +149,14 @@ pub fn refusal_number(r: Refusal) -> u8
     }
 }
 
-// The counters with one more of an outcome, which rolls over to zero.
-pub fn counted(o: Outcome, mut counters: [u32; 11]) -> [u32; 11]
-    ensures { λ r. ⌜ r ≡ counted o counters ⌝ }
+// Counts an outcome: its counter goes up by one and rolls over to zero. The counters stay where they are: a walk that copied them for each Start
+// would take three times as long over Starts alone.
+pub fn count(o: Outcome, counters: &mut [u32; 11])
+    ensures { λ _. ⌜ now (counters .exit) ≡ counted o (now (counters .entry)) ⌝ }
 {
     let i = (outcome_number(o) - 1) as usize;
     let n = counters[i];
     counters[i] = std::num::wrapping_add_u32(n, 1);
-    counters
 }
 
 // Refusal 2.

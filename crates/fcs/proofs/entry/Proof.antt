@@ -17,14 +17,14 @@ add-result c = search needs
 mul-result-2 : tie.Need-mul-result-2
 mul-result-2 c = search needs
 
-element-copy-out-result : tie.Need-element-copy-out-result
-element-copy-out-result c = search needs
+shared-slice-read-result : tie.Need-shared-slice-read-result
+shared-slice-read-result c = search needs
 
 returns : tie.Need-returns
 returns c =
     let args = c .before .args in
-    c .before .pre .1 (args .k * 256 + args .x % 256) (omega arith) ∙ entry-at (args .k) (args .x)
+    c .before .pre .1 .1 (args .k * 256 + args .x % 256) (omega arith) ∙ entry-at (args .k) (args .x)
 
 pub entry-spec : {M : Type 1} → statement M
 entry-spec =
-    tie.close (tie.spec mul-result add-result mul-result-2 element-copy-out-result returns)
+    tie.close (tie.spec mul-result add-result mul-result-2 shared-slice-read-result returns)

@@ -55,7 +55,7 @@ entry-requires-8 c κs = search needs
 
 returns : tie.Need-returns
 returns c =
-    let args = c .before .before .before .before .before .before .before .before .args in
+    let args = c .before .before .before .before .before .before .before .before .before .args in
     ap₂ bitXor (c .entry8 .ensures) (ap₂ bitXor (c .before .entry7 .ensures) (ap₂ bitXor (c .before .before .entry6 .ensures) (ap₂ bitXor (c .before .before .before .entry5 .ensures) (ap₂ bitXor (c .before .before .before .before .entry4 .ensures) (ap₂ bitXor (c .before .before .before .before .before .entry3 .ensures) (ap₂ bitXor (c .before .before .before .before .before .before .entry2 .ensures) (c .before .before .before .before .before .before .before .entry .ensures)))))))
     ∙ sym (zeros-sliced (args .m) 7 (args .x) (omega arith))
 

@@ -27,7 +27,7 @@ rest-requires-2 c κs = search needs
 
 returns : tie.Need-returns
 returns c =
-    let s = c .before .before .before .before .before .args .s .now in
+    let s = c .before .before .before .before .before .before .args .s .now in
     let r = c .before .before .turn12-by in
     c .rest .ensures ∙ ap (crcOver (r .result)) (last-part 12 s) ∙ r .ensures
 

@@ -36,7 +36,7 @@ loop-again c = (omega arith, omega arith, c .turn16-by .ensures ∙ c .before .b
 returns : tie.Need-returns Inv-loop μ-loop
 returns c =
     let at = c .before .loop in
-    let s = c .before .before .before .args .s .now in
+    let s = c .before .before .before .before .args .s .now in
     let e : length s - length s % 16 ≡ at .i = omega arith in
     ap (λ (n : ℕ). crcOver (at .r) (drop n s)) e ∙ at .inv .2
 

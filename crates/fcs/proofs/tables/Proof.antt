@@ -45,7 +45,7 @@ loop-again c =
 returns : tie.Need-returns Inv-loop μ-loop
 returns c =
     let at = c .before .loop in
-    λ j h. at .inv .2 j (omega arith)
+    (at .inv .1, λ j h. at .inv .2 j (omega arith))
 
 pub tables-spec : {M : Type 1} → statement M
 tables-spec =

@@ -38,9 +38,9 @@ fold8-requires-2 c κs = search needs
 
 returns : tie.Need-returns
 returns c =
-    let args = c .before .before .before .before .before .before .args in
+    let args = c .before .before .before .before .before .before .before .args in
     let s = args .s .now in
-    let bytes : (k : ℕ) → getD s k 0 < 256 = λ k. omega (arith, c .before .before .before .before .before .shared-slice-known .given k) in
+    let bytes : (k : ℕ) → getD s k 0 < 256 = λ k. omega (arith, c .before .before .before .before .before .shared-slice-known2 .given k) in
     let x = ap₂ bitXor (c .before .before .wide32 .ensures) (c .before .load4 .ensures .0) in
     let low = c .fold82 .ensures ∙ ap (λ (y : ℕ). crcZeros 16 (y * 0x1_0000_0000)) x ∙ zeros-shifted 4 12 (bitXor (args .reg) (wordAt 3 s (args .at))) in
     let high = c .before .before .before .fold8 .ensures ∙ ap (crcZeros 8) (c .before .before .before .before .load8 .ensures) in

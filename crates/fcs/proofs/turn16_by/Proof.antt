@@ -32,9 +32,9 @@ fold8-requires-2 c κs = search needs
 
 returns : tie.Need-returns
 returns c =
-    let args = c .before .before .before .before .before .before .args in
+    let args = c .before .before .before .before .before .before .before .args in
     let s = args .s .now in
-    let bytes : (k : ℕ) → getD s k 0 < 256 = λ k. omega (arith, c .before .before .before .before .before .shared-slice-known .given k) in
+    let bytes : (k : ℕ) → getD s k 0 < 256 = λ k. omega (arith, c .before .before .before .before .before .shared-slice-known2 .given k) in
     let low = c .fold82 .ensures ∙ ap (crcZeros 16) (ap₂ bitXor (c .before .before .wide32 .ensures) (c .before .load82 .ensures)) in
     let high = c .before .before .before .fold8 .ensures ∙ ap (crcZeros 8) (c .before .before .before .before .load8 .ensures) in
     let e : args .at + 16 ≡ args .at + 8 + 8 = omega arith in

@@ -29,7 +29,7 @@ rest-by-requires c κs = search needs
 
 returns : tie.Need-returns
 returns c =
-    let s = c .before .before .before .before .args .s .now in
+    let s = c .before .before .before .before .before .args .s .now in
     let r = c .before .before .sixteens-by in
     c .rest-by .ensures ∙ ap (crcOver (r .result)) (last-part (length s - length s % 16) s) ∙ r .ensures
 

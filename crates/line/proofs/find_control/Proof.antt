@@ -1,11 +1,14 @@
--- `line::find_control` meets its contract: what each of its searches passed, one after the other, is data. Assumes nothing.
+-- `line::find_control` meets its contract: a control symbol at the place, or what each of its searches passed, one after the other, is data.
+-- Assumes nothing.
 use borrow.Author.Needs.{needs}
+use native.Mathlib.Omega.{arith}
+use mathlib.Core.Path.{sym}
 use denote.Ref.{now}
 use Rattle.line.specs.Passed.{Passed}
 use Rattle.line.proofs.Passing.{passed-on, passed-as, Miss, search-found, search-none, search-ended, data-passed}
 use Rattle.line.specs.Line.{isControl, findControl}
 use Rattle.line.proofs.Buffers.{symbolAt}
-use Rattle.line.proofs.Search.{control-tests}
+use Rattle.line.proofs.Search.{control-tests, search-here}
 use Rattle.line.proofs.find_control.Statement.{statement}
 use Rattle.line.proofs.find_control.Tie as tie
 
@@ -17,6 +20,17 @@ unfolding findControl
 returns c =
     let a = c .before .before .before .before .args in
     search-none isControl (now (a .octets)) (now (a .marks)) (a .place) _ (c .before .shorter .ensures .2) (c .if1 .taken)
+
+shared-slice-read-if2 : tie.Need-shared-slice-read-if2
+shared-slice-read-if2 c = let s = c .before .before .shorter .ensures in omega arith
+
+returns-2 : tie.Need-returns-2
+unfolding findControl
+returns-2 c =
+    let a = c .before .before .before .before .before .before .args in
+    let s = c .before .before .before .shorter .ensures in
+    let x = symbolAt (now (a .octets)) (now (a .marks)) (a .place) in
+    sym (search-here isControl (now (a .octets)) (now (a .marks)) (a .place) (omega arith) (omega arith) (control-tests x (c .if2 .taken)))
 
 pass-data-requires : tie.Need-pass-data-requires
 pass-data-requires c κs = search needs
@@ -31,30 +45,30 @@ first-mark-requires : tie.Need-first-mark-requires
 first-mark-requires c κs = search needs
 
 -- from the place called with to where the last search stopped
-data-to : (c : tie.After-first-mark) → (let a = c .before .before .before .before .before .before .before .before .args in
-    Passed (Miss isControl (now (a .octets)) (now (a .marks))) (a .place) (c .first-mark .result) (c .before .before .before .before .before .shorter .result))
+data-to : (c : tie.After-first-mark) → (let a = c .before .before .before .before .before .before .before .before .before .before .args in
+    Passed (Miss isControl (now (a .octets)) (now (a .marks))) (a .place) (c .first-mark .result) (c .before .before .before .before .before .before .before .shorter .result))
 data-to c =
-    let a = c .before .before .before .before .before .before .before .before .args in
+    let a = c .before .before .before .before .before .before .before .before .before .before .args in
     let d = c .before .before .before in
     passed-as (data-passed (now (a .octets)) (now (a .marks)))
     (passed-on _ _ _ _ _ (passed-on _ _ _ _ _ (passed-on _ _ _ _ _ (d .pass-data .ensures) (c .before .before .pass-data2 .ensures)) (c .before .pass-words .ensures))
     (c .first-mark .ensures .passed))
 
-returns-2 : tie.Need-returns-2
-unfolding findControl
-returns-2 c =
-    let a = c .before .before .before .before .before .before .before .before .before .args in
-    let s = c .before .before .before .before .before .before .shorter .ensures in
-    let b = c .before .first-mark in
-    search-found isControl (now (a .octets)) (now (a .marks)) (a .place) (b .result) _ (s .0) (s .1) (data-to (c .before)) (c .if2 .taken)
-    (control-tests (symbolAt (now (a .octets)) (now (a .marks)) (b .result)) (b .ensures .here (c .if2 .taken)))
-
 returns-3 : tie.Need-returns-3
 unfolding findControl
 returns-3 c =
-    let a = c .before .before .before .before .before .before .before .before .before .args in
-    let s = c .before .before .before .before .before .before .shorter .ensures in
-    search-ended isControl (now (a .octets)) (now (a .marks)) (a .place) _ _ (s .0) (s .1) (s .2) (data-to (c .before)) (c .if2 .left)
+    let a = c .before .before .before .before .before .before .before .before .before .before .before .args in
+    let s = c .before .before .before .before .before .before .before .before .shorter .ensures in
+    let b = c .before .first-mark in
+    search-found isControl (now (a .octets)) (now (a .marks)) (a .place) (b .result) _ (s .0) (s .1) (data-to (c .before)) (c .if3 .taken)
+    (control-tests (symbolAt (now (a .octets)) (now (a .marks)) (b .result)) (b .ensures .here (c .if3 .taken)))
+
+returns-4 : tie.Need-returns-4
+unfolding findControl
+returns-4 c =
+    let a = c .before .before .before .before .before .before .before .before .before .before .before .args in
+    let s = c .before .before .before .before .before .before .before .before .shorter .ensures in
+    search-ended isControl (now (a .octets)) (now (a .marks)) (a .place) _ _ (s .0) (s .1) (s .2) (data-to (c .before)) (c .if3 .left)
 
 pub find-control-spec : {M : Type 1} → statement M
 find-control-spec =
@@ -62,9 +76,11 @@ find-control-spec =
     (tie.spec
     shorter-requires
     returns
+    shared-slice-read-if2
+    returns-2
     pass-data-requires
     pass-data-requires-2
     pass-words-requires
     first-mark-requires
-    returns-2
-    returns-3)
+    returns-3
+    returns-4)

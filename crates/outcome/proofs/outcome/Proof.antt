@@ -42,7 +42,7 @@ returns-3 c =
     let i = c .before in
     let k = i .before .before .before in
     c .after-fcs .ensures
-    ∙ ap (λ (l : List ℕ). first (lateOutcomes (k .before .before .before .before .args .s) l)) (i .before .before .frame-of .ensures)
+    ∙ ap (λ (l : List ℕ). first (lateOutcomes (k .before .before .before .before .before .args .s) l)) (i .before .before .frame-of .ensures)
     ∙ sym (outcome-right _ _ _ (sym (k .before .before .before-fcs .ensures) ∙ k .enum-told .given .1)
     (ap wrongFcs (sym (i .before .before .frame-of .ensures)) ∙ sym (i .before .wrong-fcs .ensures) ∙ i .if1 .left))
 

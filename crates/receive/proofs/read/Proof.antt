@@ -79,40 +79,46 @@ enum-told-3 c = search needs
 returns-3 : tie.Need-returns-3
 returns-3 c = let k = c .before .before .before in sym (read-open _ _ _ _ _ (fine (k .before .before .before .before)) _ (found-start k) (sym (c .before .before .find-control .ensures) ∙ c .enum-told3 .given .1))
 
+array-share-prefix-none : tie.Need-array-share-prefix-none
+array-share-prefix-none c = search needs
+
+slice-aggregate-outcome : tie.Need-slice-aggregate-outcome
+slice-aggregate-outcome c = search needs
+
 sub-outcome : tie.Need-sub-outcome
-sub-outcome c = let e = end-inside c in omega arith
+sub-outcome c = let e = end-inside (c .before) in omega arith
 
 part-outcome-start : tie.Need-part-outcome-start
-part-outcome-start c = let e = end-inside c in omega arith
+part-outcome-start c = let e = end-inside (c .before) in omega arith
 
 part-outcome-end : tie.Need-part-outcome-end
-part-outcome-end c = let e = end-inside c in omega arith
+part-outcome-end c = let e = end-inside (c .before) in omega arith
 
 shared-slice-read-outcome : tie.Need-shared-slice-read-outcome
-shared-slice-read-outcome c = let e = end-inside (c .before .before) in omega arith
+shared-slice-read-outcome c = let e = end-inside (c .before .before .before) in omega arith
 
 outcome-requires : tie.Need-outcome-requires
-outcome-requires c κs = search needs
+outcome-requires c κs = λ h. absurd (omega arith)
 
 sub-read-run : tie.Need-sub-read-run
-sub-read-run c = let e = end-inside (c .before .before .before) in omega arith
+sub-read-run c = let e = end-inside (c .before .before .before .before) in omega arith
 
 part-read-run-start : tie.Need-part-read-run-start
-part-read-run-start c = let e = end-inside (c .before .before .before) in omega arith
+part-read-run-start c = let e = end-inside (c .before .before .before .before) in omega arith
 
 part-read-run-end : tie.Need-part-read-run-end
-part-read-run-end c = let e = end-inside (c .before .before .before) in omega arith
+part-read-run-end c = let e = end-inside (c .before .before .before .before) in omega arith
 
 read-run-requires : tie.Need-read-run-requires
 read-run-requires c κs =
-    let e = end-inside (c .before .before .before .before) in
-    let k = start-inside (c .before .before .before .before .before .before .before .before) in
+    let e = end-inside (c .before .before .before .before .before) in
+    let k = start-inside (c .before .before .before .before .before .before .before .before .before) in
     (omega arith, simp length-take (omega arith))
 
 returns-4 : tie.Need-returns-4
 unfolding between
 returns-4 c =
-    let k = c .before .before .before .before .before in
+    let k = c .before .before .before .before .before .before in
     let a = k .before .before .before .before .before .before .before .before .before .before .before .before .before .args in
     let start = k .before .before .before .before .before .start .given .0 .0 in
     c .read-run .ensures
@@ -136,6 +142,8 @@ read-spec =
     enum-known-end
     enum-told-3
     returns-3
+    array-share-prefix-none
+    slice-aggregate-outcome
     sub-outcome
     part-outcome-start
     part-outcome-end

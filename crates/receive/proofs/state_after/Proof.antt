@@ -5,15 +5,15 @@ use Rattle.receive.specs.Reading.{stateAfter}
 use Rattle.receive.proofs.state_after.Statement.{statement}
 use Rattle.receive.proofs.state_after.Tie as tie
 
-counted-requires : tie.Need-counted-requires
-counted-requires c κs = search needs
+count-requires : tie.Need-count-requires
+count-requires c κs = search needs
 
 timers-after-requires : tie.Need-timers-after-requires
 timers-after-requires c κs = search needs
 
 returns : tie.Need-returns
 unfolding stateAfter
-returns c = cc
+returns c = rw (c .before .before .count .ensures, c .timers-after .ensures)
 
 pub state-after-spec : {M : Type 1} → statement M
-state-after-spec = tie.close (tie.spec counted-requires timers-after-requires returns)
+state-after-spec = tie.close (tie.spec count-requires timers-after-requires returns)

@@ -1,5 +1,5 @@
 -- `receive::walk` meets its contract. Assumes nothing.
-use mathlib.Core.Bool.{false≢true}
+use native.Mathlib.Omega.{arith}
 use mathlib.Core.Path.{_≡_, sym, _∙_}
 use denote.Ref.{now}
 use borrow.Author.Needs.{needs}
@@ -25,14 +25,23 @@ returns c = sym (walked-refused _ _ _ _ _ (sym (c .before .before .before .check
 enum-told : tie.Need-enum-told
 enum-told c = search needs
 
+array-share-prefix-none : tie.Need-array-share-prefix-none
+array-share-prefix-none c = search needs
+
+slice-aggregate-walk-on : tie.Need-slice-aggregate-walk-on
+slice-aggregate-walk-on c = search needs
+
 walk-on-requires : tie.Need-walk-on-requires
-walk-on-requires c κs = ((λ h. absurd (false≢true h)), fine (c .before .before))
+walk-on-requires c κs = ((λ h. absurd (omega arith)), fine (c .before .before))
 
 returns-2 : tie.Need-returns-2
 returns-2 c = search needs
 
 tables-requires : tie.Need-tables-requires
 tables-requires c κs = search needs
+
+slice-aggregate-walk-on-2 : tie.Need-slice-aggregate-walk-on-2
+slice-aggregate-walk-on-2 c = search needs
 
 walk-on-requires-2 : tie.Need-walk-on-requires-2
 walk-on-requires-2 c κs = ((λ h. c .before .tables .ensures), fine (c .before .before .before))
@@ -48,8 +57,11 @@ walk-spec =
     enum-known-checked
     returns
     enum-told
+    array-share-prefix-none
+    slice-aggregate-walk-on
     walk-on-requires
     returns-2
     tables-requires
+    slice-aggregate-walk-on-2
     walk-on-requires-2
     returns-3)
