@@ -14,7 +14,8 @@ ghost use Rattle.line.specs.Table.{first};
 ghost use Rattle.fcs.specs.Lent.{Lent};
 ghost use Rattle.station.specs.declared.Checked.the-variants.{Fine};
 ghost use Rattle.fields.specs.Places.{layoutOf};
-ghost use Rattle.receive.specs.Reading.{readRefusals, stateAfter, handedPart, readRun, reading, partOf};
+ghost use Rattle.receive.specs.Reading.{readRefusals, handedPart, reading, partOf};
+ghost use Rattle.receive.specs.Steps.{sightOf, Inside, Seen, afterSight};
 ghost use Rattle.receive.specs.Walk.{walked};
 
 // What a reading answers. The state holds arrays, which an enum may not: it stands beside the answer.
@@ -35,6 +36,13 @@ pub struct Reading {
     // the next place
     pub next: usize,
     pub state: State,
+}
+
+// What a reading sees, whatever the state is.
+struct Sight {
+    answer: Answer,
+    start: usize,
+    next: usize,
 }
 
 // What a walk over a whole capture answers; the state stands beside it.
@@ -65,32 +73,19 @@ fn handed_part(s: Settings, o: Outcome, at: usize, f: &[u8], l: Layout) -> Part
     }
 }
 
-// The state after a Start with this outcome.
-fn state_after(o: Outcome, f: &[u8], state: State) -> State
-    ensures { λ r. ⌜ r ≡ stateAfter o (now (f .entry)) state ⌝ }
-{
-    let mut counters = state.counters;
-    station::count(o, &mut counters);
-    let times = state.timers;
-    let timers = flow::timers_after(o, f, times);
-    State { counters, timers }
-}
-
-// The reading of a Start at place `start` whose run has this outcome.
-fn read_run(s: Settings, state: State, start: usize, run: &[u8], o: Outcome) -> Reading
+// What is seen of a Start at place `start` whose run has this outcome.
+fn look_run(s: Settings, start: usize, run: &[u8], o: Outcome) -> Sight
     requires { ⌜ (start ≤ 65536) × (length (now run) ≤ 65536) ⌝ }
-    ensures { λ r. ⌜ r ≡ readRun s state start (now (run .entry)) o ⌝ }
+    ensures { λ r. ⌜ r ≡ sightOf s start (now (run .entry)) o ⌝ }
 {
     let f = outcome::frame_of(run);
     let l = fields::layout_of(f);
     let part = handed_part(s, o, start + 8, f, l);
     let word = outcome::status(o, f, l, part.len);
-    let after = state_after(o, f, state);
-    Reading {
+    Sight {
         answer: Answer::Counted(o, word, part),
         start,
         next: start + 1 + run.len(),
-        state: after,
     }
 }
 
@@ -110,39 +105,72 @@ fn check_read(s: Settings, octets: &[u8], marks: &[u8], place: usize) -> Checked
     Checked::Fine
 }
 
-// A reading: the first Start at a place or later, its outcome, and the state after it.
-pub fn read(s: Settings, state: State, octets: &[u8], marks: &[u8], place: usize) -> Reading
-    ensures { λ r. ⌜ r ≡ reading s state (now (octets .entry)) (now (marks .entry)) place ⌝ }
+// What a reading sees: the first Start at a place or later, and its outcome. No state has a part in it.
+fn look(s: Settings, octets: &[u8], marks: &[u8], place: usize) -> Sight
+    ensures { λ r. ⌜ Seen s (now (octets .entry)) (now (marks .entry)) place r ⌝ }
 {
     let checked = check_read(s, octets, marks, place);
     if let Checked::Refused(x) = checked {
-        return Reading {
+        return Sight {
             answer: Answer::Refused(x),
             start: place,
             next: place,
-            state,
         };
     }
     let Found::At(start) = line::find_start(octets, marks, place) else {
-        return Reading {
+        return Sight {
             answer: Answer::Nothing,
             start: octets.len(),
             next: octets.len(),
-            state,
         };
     };
     let from = start + 1;
     let Found::At(end) = line::find_control(octets, marks, from) else {
-        return Reading {
+        return Sight {
             answer: Answer::Open,
             start,
             next: start,
-            state,
         };
     };
     let none = [0u32; 1];
     let o = outcome::outcome(&none[..0], s, &octets[from..end], octets[end]);
-    read_run(s, state, start, &octets[from..end], o)
+    look_run(s, start, &octets[from..end], o)
+}
+
+// The state after a reading that saw this. Counters and timers are put together once, and not on each way: that is a sixth of a short reading.
+fn state_after(l: Sight, octets: &[u8], state: State) -> State
+    requires { ⌜ Inside (now octets) l ⌝ }
+    ensures { λ r. ⌜ r ≡ afterSight (now (octets .entry)) l state ⌝ }
+{
+    let answer = l.answer;
+    let mut counters = state.counters;
+    let mut timers = state.timers;
+    if let Answer::Counted(o, _word, _part) = answer {
+        station::count(o, &mut counters);
+        if flow::sets_timers(o) {
+            let from = l.start + 1;
+            let end = l.next;
+            let f = outcome::frame_of(&octets[from..end]);
+            let set = flow::timers_after(o, f, timers);
+            timers = set;
+        }
+    }
+    State { counters, timers }
+}
+
+// A reading: the first Start at a place or later, its outcome, and the state after it.
+pub fn read(s: Settings, state: State, octets: &[u8], marks: &[u8], place: usize) -> Reading
+    ensures { λ r. ⌜ r ≡ reading s state (now (octets .entry)) (now (marks .entry)) place ⌝ }
+{
+    let l = look(s, octets, marks, place);
+    let answer = l.answer;
+    let after = state_after(l, octets, state);
+    Reading {
+        answer,
+        start: l.start,
+        next: l.next,
+        state: after,
+    }
 }
 
 // The client data: a part of the captured octets themselves; none where the part does not lie inside them.

@@ -1,4 +1,4 @@
--- `receive::read_run` meets its contract. Assumes nothing.
+-- `receive::look_run` meets its contract. Assumes nothing.
 use native.Mathlib.Omega.{arith}
 use lib.ListN.{length, length-drop}
 use denote.Ref.{now}
@@ -7,9 +7,9 @@ use borrow.Author.Needs.{needs}
 use Rattle.station.specs.declared.Part.{Part}
 use Rattle.outcome.specs.Outcomes.{frameOf}
 use Rattle.receive.proofs.Parts.{part-handed}
-use Rattle.receive.specs.Reading.{readRun}
-use Rattle.receive.proofs.read_run.Statement.{statement}
-use Rattle.receive.proofs.read_run.Tie as tie
+use Rattle.receive.specs.Steps.{sightOf}
+use Rattle.receive.proofs.look_run.Statement.{statement}
+use Rattle.receive.proofs.look_run.Tie as tie
 
 frame-of-requires : tie.Need-frame-of-requires
 frame-of-requires c κs = search needs
@@ -31,26 +31,23 @@ status-requires c κs =
     let k = length-drop 7 (now (p .before .before .args .run)) in
     (omega arith, c .before .layout-of .ensures, omega (arith, c .handed-part .ensures .1))
 
-state-after-requires : tie.Need-state-after-requires
-state-after-requires c κs = search needs
+add-t9 : tie.Need-add-t9
+add-t9 c = search needs
 
-add-t11 : tie.Need-add-t11
-add-t11 c = search needs
-
-add-t14 : tie.Need-add-t14
-add-t14 c = search needs
+add-t12 : tie.Need-add-t12
+add-t12 c = search needs
 
 returns : tie.Need-returns
-unfolding readRun
+unfolding sightOf
 returns c =
-    let p = c .before .before in
+    let p = c .before in
     let a = p .before .before .before .before .args in
     let part = p .handed-part .ensures .0 in
-    let word = c .before .status .ensures (a .s) (λ h. ap (λ (x : Part). x .len) part ∙ part-handed (a .s) (a .o) _ _ h) in
+    let word = c .status .ensures (a .s) (λ h. ap (λ (x : Part). x .len) part ∙ part-handed (a .s) (a .o) _ _ h) in
     cc
 
-pub read-run-spec : {M : Type 1} → statement M
-read-run-spec =
+pub look-run-spec : {M : Type 1} → statement M
+look-run-spec =
     tie.close
     (tie.spec
     frame-of-requires
@@ -58,7 +55,6 @@ read-run-spec =
     add-handed-part
     handed-part-requires
     status-requires
-    state-after-requires
-    add-t11
-    add-t14
+    add-t9
+    add-t12
     returns)

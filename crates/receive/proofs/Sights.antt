@@ -1,0 +1,45 @@
+-- A reading in two steps: what is seen of a run is its reading (`sight-read`), and only a Start that is counted changes the state. Assumes nothing.
+use Prim.Native.Nat.{ℕ, _+_}
+use mathlib.Core.Path.{_≡_, refl, ap}
+use mathlib.Core.List.{List, [], _∷_}
+use lib.ListN.{length}
+use denote.Enum.Declared.{tagOf}
+use types.Run.{OneOf, miss}
+use Rattle.line.specs.Octets.{between}
+use Rattle.station.specs.declared.Settings.{Settings}
+use Rattle.station.specs.declared.State.{State}
+use Rattle.station.specs.declared.Outcome.{Outcome}
+use Rattle.outcome.specs.Outcomes.{frameOf}
+use Rattle.outcome.specs.Status.{status}
+use Rattle.receive.specs.declared.Answer.{Answer}
+use Rattle.receive.specs.declared.Answer.the-variants.{Refused, Nothing, Open, Counted}
+use Rattle.receive.specs.declared.Sight.{Sight}
+use Rattle.receive.specs.declared.Reading.{Reading}
+use Rattle.receive.proofs.Answer.{the-type}
+use Rattle.receive.specs.Reading.{stateAfter, handedPart, readRun}
+use Rattle.receive.specs.Steps.{sightOf, afterSight, readOf}
+
+pub sight-read : (s : Settings) (os : List ℕ) (i : ℕ) (run : List ℕ) (o : Outcome) (st : State)
+    → between os (i + 1) (i + 1 + length run) ≡ run → readOf os (sightOf s i run o) st ≡ readRun s st i run o
+unfolding sightOf readOf afterSight readRun
+sight-read s os i run o st h =
+    ap (λ (r : List ℕ). record {
+      answer = Counted o (status s o (frameOf run)) (handedPart s o (i + 8) (frameOf run));
+      start = i;
+      next = i + 1 + length run;
+      state = stateAfter o (frameOf r) st;
+    }) h
+
+abbrev others : List ℕ
+others = 0 ∷ 1 ∷ 2 ∷ []
+
+pub not-counted : (os : List ℕ) (l : Sight) (st : State) → OneOf others (tagOf the-type (l .answer)) → st ≡ afterSight os l st
+unfolding afterSight
+not-counted os l st h = go (l .answer) h
+  where
+    go : (a : Answer) → OneOf others (tagOf the-type a)
+        → st ≡ elim a [ Refused x ↦ st | Nothing ↦ st | Open ↦ st | Counted o w p ↦ stateAfter o (frameOf (between os (l .start + 1) (l .next))) st ]
+    go (Refused x) k = refl
+    go Nothing k = refl
+    go Open k = refl
+    go (Counted o w p) k = absurd (miss others 3 tt k)

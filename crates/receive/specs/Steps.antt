@@ -1,0 +1,43 @@
+-- Internal: a reading in two steps, as the code takes them: what is seen, in which no state has a part, and the state after it. No promise to a
+-- caller needs it.
+use Prim.Native.Nat.{ℕ, _+_, _≤_}
+use mathlib.Core.Path.{_≡_}
+use mathlib.Core.Bool.{true}
+use mathlib.Core.List.{List}
+use lib.ListN.{length}
+use Rattle.line.specs.Octets.{between}
+use Rattle.station.specs.declared.Settings.{Settings}
+use Rattle.station.specs.declared.State.{State}
+use Rattle.station.specs.declared.Outcome.{Outcome}
+use Rattle.outcome.specs.Outcomes.{frameOf}
+use Rattle.outcome.specs.Status.{status}
+use Rattle.receive.specs.declared.Answer.the-variants.{Refused, Nothing, Open, Counted}
+use Rattle.receive.specs.declared.Sight.{Sight}
+use Rattle.receive.specs.declared.Reading.{Reading}
+use Rattle.receive.specs.Reading.{stateAfter, handedPart, reading}
+use Rattle.receive.specs.Values.{isCounted}
+
+-- what is seen of a Start at place i, and the outcome of its run
+unfoldable pub sightOf : Settings → ℕ → List ℕ → Outcome → Sight
+sightOf s i run o = record { answer = Counted o (status s o (frameOf run)) (handedPart s o (i + 8) (frameOf run)); start = i; next = i + 1 + length run }
+
+-- the state after it: the run of a Start that is counted stands between its two places
+unfoldable pub afterSight : List ℕ → Sight → State → State
+afterSight os l st =
+    elim (l .answer) [
+      | Refused x ↦ st
+      | Nothing ↦ st
+      | Open ↦ st
+      | Counted o w p ↦ stateAfter o (frameOf (between os (l .start + 1) (l .next))) st
+    ]
+
+unfoldable pub readOf : List ℕ → Sight → State → Reading
+readOf os l st = record { answer = l .answer; start = l .start; next = l .next; state = afterSight os l st }
+
+-- the places of a Start that is counted lie inside the octets
+abbrev pub Inside : List ℕ → Sight → Type 0
+Inside os l = isCounted (l .answer) ≡ true → (l .start + 1 ≤ l .next) × (l .next ≤ length os)
+
+-- l is what a reading sees, whatever the state is
+abbrev pub Seen : Settings → List ℕ → List ℕ → ℕ → Sight → Type 0
+Seen s os ms place l = ((st : State) → readOf os l st ≡ reading s st os ms place) × Inside os l
