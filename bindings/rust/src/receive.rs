@@ -56,7 +56,7 @@ impl<'a> Capture<'a> {
         state: &mut State,
         place: usize,
     ) -> Result<Reading<'a>, Refusal> {
-        self.read_as(&settings.octets(), state, place)
+        self.read_as(settings.octets(), state, place)
     }
 
     // A reading with settings that are laid out already.
@@ -109,7 +109,7 @@ impl<'a> Capture<'a> {
     /// # Ok::<(), fenhamper::Refusal>(())
     /// ```
     pub fn walk(&self, settings: &Settings, state: &mut State) -> Result<Walk, Refusal> {
-        let w = sys::walk(&settings.octets(), state.numbers(), self.octets, self.marks);
+        let w = sys::walk(settings.octets(), state.numbers(), self.octets, self.marks);
         Refusal::check(w[sys::WALK_REFUSAL])?;
         Ok(Walk {
             starts: w[sys::WALK_STARTS] as usize,
@@ -138,7 +138,7 @@ impl<'a> Capture<'a> {
     pub fn readings<'s>(&self, settings: &Settings, state: &'s mut State) -> Readings<'a, 's> {
         Readings {
             capture: *self,
-            settings: settings.octets(),
+            settings: *settings.octets(),
             state,
             place: 0,
             stage: Stage::Going,

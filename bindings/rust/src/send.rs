@@ -5,6 +5,7 @@ use crate::settings::{Address, Settings};
 use crate::state::State;
 use crate::sys;
 use crate::tag::Tag;
+use std::fmt;
 
 /// A client frame but for its data: untagged, in the length form and of class 0 unless said
 /// otherwise. Its source is the own address.
@@ -18,29 +19,26 @@ use crate::tag::Tag;
 /// assert_eq!(Frame::to(to), Frame::to(to).by_length().class(0));
 /// let tagged = Frame::to(to).tag(Tag::customer(0xE005));
 /// assert_ne!(Frame::to(to), tagged.by_type(0x0800).class(7));
+/// assert_eq!(
+///     format!("{:?}", tagged.by_type(0x0800)),
+///     "Frame { to: Address(02-00-00-00-00-09), tags: [Tag { kind: Customer, control: 57349 }], \
+///      tag_count: 1, by_type: Some(2048), class: 0 }"
+/// );
 /// ```
-#[derive(Clone, Copy, Debug, PartialEq, Eq, Hash)]
+#[derive(Clone, Copy, PartialEq, Eq, Hash)]
 #[must_use]
 pub struct Frame {
-    to: Address,
-    // those that count, then `Tag::NONE`
-    tags: [Tag; sys::MOST_TAGS],
-    // how many were named, or 255 if more
-    tag_count: u8,
-    by_type: Option<u16>,
-    class: u8,
+    // as the header lays it out: a call lends it as it is; zeros where there is no tag or type
+    octets: [u8; sys::CLIENT],
 }
 
 impl Frame {
     /// A frame to this destination.
     pub const fn to(destination: Address) -> Frame {
-        Frame {
-            to: destination,
-            tags: [Tag::NONE; sys::MOST_TAGS],
-            tag_count: 0,
-            by_type: None,
-            class: 0,
-        }
+        let frame = Frame {
+            octets: [0; sys::CLIENT],
+        };
+        frame.with(sys::CLIENT_DESTINATION, &destination.0)
     }
 
     /// With one more tag, inside those named before: the first named is the outermost. There is
@@ -68,13 +66,15 @@ impl Frame {
     /// assert_eq!(r.data, b"data");
     /// # Ok::<(), fenhamper::Refusal>(())
     /// ```
-    pub const fn tag(mut self, tag: Tag) -> Frame {
-        let count = self.tag_count as usize;
-        if count < self.tags.len() {
-            self.tags[count] = tag;
+    pub const fn tag(self, tag: Tag) -> Frame {
+        let count = self.octets[sys::CLIENT_TAGS];
+        // 255 stands for more, too
+        let named = self.with(sys::CLIENT_TAGS, &[count.saturating_add(1)]);
+        if (count as usize) < sys::MOST_TAGS {
+            named.with(sys::CLIENT_TAG + sys::TAG * count as usize, &tag.octets())
+        } else {
+            named
         }
-        self.tag_count = self.tag_count.saturating_add(1);
-        self
     }
 
     /// With these tags, the outermost first, in place of those named before. More than eight are
@@ -95,52 +95,65 @@ impl Frame {
     /// assert_eq!(send(&[Tag::customer(5); 8]), Ok(84 + 8 * 4));
     /// assert_eq!(send(&[Tag::customer(5); 9]), Err(Refusal::ManyTags));
     /// ```
-    pub const fn tags(mut self, tags: &[Tag]) -> Frame {
-        self.tags = [Tag::NONE; sys::MOST_TAGS];
-        self.tag_count = 0;
+    pub const fn tags(self, tags: &[Tag]) -> Frame {
+        let mut frame = self
+            .with(sys::CLIENT_TAGS, &[0])
+            .with(sys::CLIENT_TAG, &[0; sys::TAG * sys::MOST_TAGS]);
         let mut k = 0;
         while k < tags.len() {
-            self = self.tag(tags[k]);
+            frame = frame.tag(tags[k]);
             k += 1;
         }
-        self
+        frame
     }
 
     /// In the type form: the field is this type. Under 1536, 0x8100, 0x8808 and 0x88A8 are refused
     /// (6). Data under 46 octets comes out at the other end followed by zeros to 46.
-    pub const fn by_type(mut self, field: u16) -> Frame {
-        self.by_type = Some(field);
-        self
+    pub const fn by_type(self, field: u16) -> Frame {
+        self.with(sys::CLIENT_FORM, &[1])
+            .with(sys::CLIENT_TYPE, &field.to_be_bytes())
     }
 
     /// In the length form: the field is the data's length, and the data comes out at the other end
     /// as it went in.
-    pub const fn by_length(mut self) -> Frame {
-        self.by_type = None;
-        self
+    pub const fn by_length(self) -> Frame {
+        self.with(sys::CLIENT_FORM, &[0])
+            .with(sys::CLIENT_TYPE, &[0; 2])
     }
 
     /// Of this class, whose timer can hold it. Above 7 is refused (5).
-    pub const fn class(mut self, class: u8) -> Frame {
-        self.class = class;
-        self
+    pub const fn class(self, class: u8) -> Frame {
+        self.with(sys::CLIENT_CLASS, &[class])
     }
 
-    // As the header lays it out.
-    fn octets(&self) -> [u8; sys::CLIENT] {
-        let mut octets = [0; sys::CLIENT];
-        octets[sys::CLIENT_DESTINATION..][..6].copy_from_slice(&self.to.0);
-        octets[sys::CLIENT_CLASS] = self.class;
-        if let Some(field) = self.by_type {
-            octets[sys::CLIENT_FORM] = 1;
-            octets[sys::CLIENT_TYPE..][..2].copy_from_slice(&field.to_be_bytes());
+    // With these octets from a place of the record on.
+    const fn with(mut self, place: usize, octets: &[u8]) -> Frame {
+        let mut k = 0;
+        while k < octets.len() {
+            self.octets[place + k] = octets[k];
+            k += 1;
         }
-        octets[sys::CLIENT_TAGS] = self.tag_count;
-        let places = octets[sys::CLIENT_TAG..].chunks_exact_mut(sys::TAG);
-        for (place, tag) in places.zip(self.tags) {
-            place.copy_from_slice(&tag.octets());
-        }
-        octets
+        self
+    }
+}
+
+impl fmt::Debug for Frame {
+    fn fmt(&self, f: &mut fmt::Formatter<'_>) -> fmt::Result {
+        let o = &self.octets;
+        let places = o[sys::CLIENT_TAG..].chunks_exact(sys::TAG);
+        let tags: Vec<Tag> = places
+            .take(o[sys::CLIENT_TAGS].into())
+            .map(Tag::of)
+            .collect();
+        let field = u16::from_be_bytes([o[sys::CLIENT_TYPE], o[sys::CLIENT_TYPE + 1]]);
+        let to = std::array::from_fn(|k| o[sys::CLIENT_DESTINATION + k]);
+        f.debug_struct("Frame")
+            .field("to", &Address(to))
+            .field("tags", &tags)
+            .field("tag_count", &o[sys::CLIENT_TAGS])
+            .field("by_type", &(o[sys::CLIENT_FORM] != 0).then_some(field))
+            .field("class", &o[sys::CLIENT_CLASS])
+            .finish()
     }
 }
 
@@ -258,12 +271,12 @@ impl<'b> Sender<'b> {
         data: &[u8],
     ) -> Result<usize, Refusal> {
         let sent = sys::send_client(
-            &settings.octets(),
+            settings.octets(),
             state.numbers(),
             self.octets,
             self.marks,
             self.place,
-            &frame.octets(),
+            &frame.octets,
             data,
         );
         self.moved(sent)
@@ -292,7 +305,7 @@ impl<'b> Sender<'b> {
         quanta: u16,
     ) -> Result<usize, Refusal> {
         let sent = sys::send_pause(
-            &settings.octets(),
+            settings.octets(),
             state.numbers(),
             self.octets,
             self.marks,
@@ -331,7 +344,7 @@ impl<'b> Sender<'b> {
         quanta: [u16; 8],
     ) -> Result<usize, Refusal> {
         let sent = sys::send_pfc(
-            &settings.octets(),
+            settings.octets(),
             state.numbers(),
             self.octets,
             self.marks,
@@ -363,7 +376,7 @@ mod tests {
     // What a record sends, and the answer.
     fn sent(client: &[u8; sys::CLIENT]) -> ([u64; sys::SENT], [u8; 200]) {
         let (mut octets, mut marks) = ([0; 200], [0; 200]);
-        let (settings, mut state) = (Settings::default().octets(), State::default());
+        let (settings, mut state) = (*Settings::default().octets(), State::default());
         let numbers = state.numbers();
         let sent = sys::send_client(
             &settings,
@@ -387,7 +400,7 @@ mod tests {
     #[test]
     fn the_record_is_the_headers() {
         let tags = [Tag::service(0x1234), Tag::customer(0x5678)];
-        let client = Frame::to(Address::BROADCAST).tags(&tags).octets();
+        let client = Frame::to(Address::BROADCAST).tags(&tags).octets;
         let expected = sent(&client);
         assert_eq!(expected.0, [0, 92]);
         let tag = |k| sys::CLIENT_TAG + sys::TAG * k;

@@ -61,6 +61,17 @@ pub enum Flow {
     Pfc,
 }
 
+impl Flow {
+    // Of the number in a settings' octets.
+    const fn of(number: u8) -> Flow {
+        match number {
+            sys::FLOW_PAUSE => Flow::Pause,
+            sys::FLOW_PFC => Flow::Pfc,
+            _ => Flow::Off,
+        }
+    }
+}
+
 /// What a station is set to. Any settings can be made; those that document 01 does not allow get
 /// refusal 1 from each call that takes them.
 ///
@@ -72,36 +83,29 @@ pub enum Flow {
 ///     .limit(9618)
 ///     .flow(Flow::Pause);
 /// assert_ne!(settings, settings.promiscuous(true));
+/// assert!(format!("{settings:?}").ends_with("pass_control: false, flow: Pause, limit: 9618 }"));
 /// ```
-#[derive(Clone, Copy, Debug, PartialEq, Eq, Hash)]
+#[derive(Clone, Copy, PartialEq, Eq, Hash)]
 #[must_use]
 pub struct Settings {
-    own: Address,
-    listed: [Address; 4],
-    listed_count: u8,
-    broadcast: bool,
-    promiscuous: bool,
-    checking: bool,
-    pass_control: bool,
-    flow: Flow,
-    limit: u16,
+    // as the header lays them out: a call lends them as they are
+    octets: [u8; sys::SETTINGS],
 }
 
 impl Settings {
     /// The printing program's settings with this own address: none listed, broadcast on,
     /// promiscuous off, lengths checked, control frames not passed, flow mode none, M 1518.
     pub const fn new(own: Address) -> Settings {
-        Settings {
-            own,
-            listed: [Address([0; 6]); 4],
-            listed_count: 0,
-            broadcast: true,
-            promiscuous: false,
-            checking: true,
-            pass_control: false,
-            flow: Flow::Off,
-            limit: 1518,
+        let mut octets = [0; sys::SETTINGS];
+        let mut k = 0;
+        while k < own.0.len() {
+            octets[sys::OWN + k] = own.0[k];
+            k += 1;
         }
+        Settings { octets }
+            .broadcast(true)
+            .checking(true)
+            .limit(1518)
     }
 
     /// Accepts these addresses too, in place of those listed before. There is room for four; with
@@ -119,76 +123,89 @@ impl Settings {
     /// );
     /// ```
     pub fn listed(mut self, addresses: &[Address]) -> Settings {
-        self.listed = [Address([0; 6]); 4];
-        for (entry, address) in self.listed.iter_mut().zip(addresses) {
-            *entry = *address;
+        let listed = &mut self.octets[sys::LISTED..][..24];
+        listed.fill(0);
+        for (entry, address) in listed.chunks_exact_mut(6).zip(addresses) {
+            entry.copy_from_slice(&address.0);
         }
-        self.listed_count = u8::try_from(addresses.len()).unwrap_or(u8::MAX);
-        self
+        self.listed_count(u8::try_from(addresses.len()).unwrap_or(u8::MAX))
     }
 
     /// How many of the four listed addresses count, from the front; above 4 the settings are
     /// refused (1). [`listed`](Settings::listed) sets it already: this one is for tests.
-    pub const fn listed_count(mut self, count: u8) -> Settings {
-        self.listed_count = count;
-        self
+    pub const fn listed_count(self, count: u8) -> Settings {
+        self.with(sys::LISTED_COUNT, count)
     }
 
     /// Whether broadcast is accepted.
-    pub const fn broadcast(mut self, on: bool) -> Settings {
-        self.broadcast = on;
-        self
+    pub const fn broadcast(self, on: bool) -> Settings {
+        self.with(sys::BROADCAST, on as u8)
     }
 
     /// Whether every destination is accepted.
-    pub const fn promiscuous(mut self, on: bool) -> Settings {
-        self.promiscuous = on;
-        self
+    pub const fn promiscuous(self, on: bool) -> Settings {
+        self.with(sys::PROMISCUOUS, on as u8)
     }
 
     /// Whether lengths are checked, and padding is left off what is handed out.
-    pub const fn checking(mut self, on: bool) -> Settings {
-        self.checking = on;
-        self
+    pub const fn checking(self, on: bool) -> Settings {
+        self.with(sys::CHECKING, on as u8)
     }
 
     /// The limit M on a frame's octets from destination to FCS, which grows by 4 for each tag of a
     /// frame; outside 1518 to 9618 the settings are refused (1).
-    pub const fn limit(mut self, limit: u16) -> Settings {
-        self.limit = limit;
-        self
+    pub const fn limit(self, limit: u16) -> Settings {
+        let [high, low] = limit.to_be_bytes();
+        self.with(sys::LIMIT, high).with(sys::LIMIT + 1, low)
     }
 
     /// The flow mode.
-    pub const fn flow(mut self, flow: Flow) -> Settings {
-        self.flow = flow;
-        self
+    pub const fn flow(self, flow: Flow) -> Settings {
+        self.with(
+            sys::FLOW,
+            match flow {
+                Flow::Off => sys::FLOW_NONE,
+                Flow::Pause => sys::FLOW_PAUSE,
+                Flow::Pfc => sys::FLOW_PFC,
+            },
+        )
     }
 
     /// Whether control frames that are not taken are handed out.
-    pub const fn pass_control(mut self, on: bool) -> Settings {
-        self.pass_control = on;
+    pub const fn pass_control(self, on: bool) -> Settings {
+        self.with(sys::PASS_CONTROL, on as u8)
+    }
+
+    const fn with(mut self, place: usize, octet: u8) -> Settings {
+        self.octets[place] = octet;
         self
     }
 
     // As the header lays them out.
-    pub(crate) fn octets(&self) -> [u8; sys::SETTINGS] {
-        let mut octets = [0; sys::SETTINGS];
-        octets[sys::OWN..][..6].copy_from_slice(&self.own.0);
-        octets[sys::LISTED..][..24]
-            .copy_from_slice(self.listed.map(|address| address.0).as_flattened());
-        octets[sys::LISTED_COUNT] = self.listed_count;
-        octets[sys::BROADCAST] = self.broadcast.into();
-        octets[sys::PROMISCUOUS] = self.promiscuous.into();
-        octets[sys::CHECKING] = self.checking.into();
-        octets[sys::PASS_CONTROL] = self.pass_control.into();
-        octets[sys::FLOW] = match self.flow {
-            Flow::Off => sys::FLOW_NONE,
-            Flow::Pause => sys::FLOW_PAUSE,
-            Flow::Pfc => sys::FLOW_PFC,
-        };
-        octets[sys::LIMIT..][..2].copy_from_slice(&self.limit.to_be_bytes());
-        octets
+    pub(crate) const fn octets(&self) -> &[u8; sys::SETTINGS] {
+        &self.octets
+    }
+}
+
+impl fmt::Debug for Settings {
+    fn fmt(&self, f: &mut fmt::Formatter<'_>) -> fmt::Result {
+        let o = &self.octets;
+        let address = |at: usize| Address(std::array::from_fn(|k| o[at + k]));
+        let listed: [Address; 4] = std::array::from_fn(|k| address(sys::LISTED + 6 * k));
+        f.debug_struct("Settings")
+            .field("own", &address(sys::OWN))
+            .field("listed", &listed)
+            .field("listed_count", &o[sys::LISTED_COUNT])
+            .field("broadcast", &(o[sys::BROADCAST] != 0))
+            .field("promiscuous", &(o[sys::PROMISCUOUS] != 0))
+            .field("checking", &(o[sys::CHECKING] != 0))
+            .field("pass_control", &(o[sys::PASS_CONTROL] != 0))
+            .field("flow", &Flow::of(o[sys::FLOW]))
+            .field(
+                "limit",
+                &u16::from_be_bytes([o[sys::LIMIT], o[sys::LIMIT + 1]]),
+            )
+            .finish()
     }
 }
 

@@ -30,9 +30,6 @@ pub struct Tag {
 }
 
 impl Tag {
-    // Stands where a frame has no tag.
-    pub(crate) const NONE: Tag = Tag::customer(0);
-
     /// A tag of kind 0x8100 with this tag control.
     pub const fn customer(control: u16) -> Tag {
         Tag {
@@ -50,13 +47,27 @@ impl Tag {
     }
 
     // As the header lays it out.
-    pub(crate) fn octets(self) -> [u8; sys::TAG] {
+    pub(crate) const fn octets(self) -> [u8; sys::TAG] {
         let mut octets = [0; sys::TAG];
         octets[sys::TAG_KIND] = match self.kind {
             TagKind::Customer => sys::TAG_CUSTOMER,
             TagKind::Service => sys::TAG_SERVICE,
         };
-        octets[sys::TAG_CONTROL..][..2].copy_from_slice(&self.control.to_be_bytes());
+        let [high, low] = self.control.to_be_bytes();
+        octets[sys::TAG_CONTROL] = high;
+        octets[sys::TAG_CONTROL + 1] = low;
         octets
+    }
+
+    // The tag that the header lays out so.
+    pub(crate) fn of(octets: &[u8]) -> Tag {
+        let control = [octets[sys::TAG_CONTROL], octets[sys::TAG_CONTROL + 1]];
+        Tag {
+            kind: match octets[sys::TAG_KIND] {
+                sys::TAG_CUSTOMER => TagKind::Customer,
+                _ => TagKind::Service,
+            },
+            control: u16::from_be_bytes(control),
+        }
     }
 }
