@@ -185,7 +185,9 @@ static int outcome(size_t limit, const uint8_t *run, size_t length, uint8_t by)
   if (check(frame, size - 4) != last)
     return WRONG_FCS;
   size_t data = size - header - 4;
-  if (field < 1536 && (field > 1500 || data != (field < 46 ? 46 : field)))
+  size_t room = 46 - 4 * tags; /* the data that padding to 64 octets leaves behind tags */
+  size_t shortest = field < room ? room : field;
+  if (field < 1536 && (field > 1500 || !(data == shortest || (field < 46 && data == 46))))
     return WRONG_LENGTH;
   /* flow mode none and control frames not passed: each that the station is meant to see is dropped */
   if (control && memcmp(frame, group, 6) == 0)

@@ -2,13 +2,13 @@
 use std::hint::black_box;
 
 use fenhamper::{Address, Capture, Frame, Reading, Sender, Settings, State};
-use reference::{Answer, Check, Client, Flow, Form, Sent, Walked};
+use reference::{Answer, Check, Client, Form, Sent, Walked};
 
 use crate::baseline::Reader;
 use crate::captures::{data_length, Line, TYPE};
 
 /// The own address of the printing program.
-pub const OWN: [u8; 6] = [0x02, 0, 0, 0, 0, 1];
+pub const OWN: [u8; 6] = reference::Settings::PRINTED.own;
 
 /// One way to do a job.
 pub trait Rival {
@@ -31,15 +31,8 @@ pub struct Tally {
 /// The printing program's settings but for the limit M, for the reference.
 pub fn reference_settings(limit: u16) -> reference::Settings {
     reference::Settings {
-        own: OWN,
-        listed: [[0; 6]; 4],
-        count: 0,
-        broadcast: true,
-        promiscuous: false,
-        checking: true,
         limit,
-        flow: Flow::None,
-        pass_control: false,
+        ..reference::Settings::PRINTED
     }
 }
 

@@ -1,7 +1,8 @@
 //! The printing program against the reference's printer.
-use differential::generate::{capture, IDLE, PRINTED, START};
+use differential::generate::{capture, IDLE, START};
 use differential::prng::Prng;
 use differential::show;
+use reference::Settings;
 use std::collections::BTreeSet;
 use std::env;
 use std::fs;
@@ -84,7 +85,7 @@ fn edges() -> Vec<Vec<u8>> {
 
 /// A drawn capture as records, at times with half a record too many.
 fn drawn(prng: &mut Prng) -> Vec<u8> {
-    let symbols = capture(prng, &PRINTED);
+    let symbols = capture(prng, &Settings::PRINTED);
     let mut input = records(&symbols.octets, &symbols.marks);
     if !prng.one_in(8) {
         input.truncate(2 * RECORDS);

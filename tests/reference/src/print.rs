@@ -4,24 +4,12 @@ use std::fmt::Write;
 
 use crate::check::Check;
 use crate::receive::{walk_with, Answer, Walked};
-use crate::settings::{Flow, Settings, State};
+use crate::settings::{Settings, State};
 
 /// Most records of two octets that are read.
 const MAX_RECORDS: usize = 32_768;
 
 const BAD_INPUT: &str = "bad input\n";
-
-const SETTINGS: Settings = Settings {
-    own: [0x02, 0x00, 0x00, 0x00, 0x00, 0x01],
-    listed: [[0; 6]; 4],
-    count: 0,
-    broadcast: true,
-    promiscuous: false,
-    checking: true,
-    limit: 1518,
-    flow: Flow::None,
-    pass_control: false,
-};
 
 /// What the printing program prints for this standard input.
 ///
@@ -36,18 +24,25 @@ pub fn print(input: &[u8]) -> String {
     let mut text = String::new();
     let mut state = State::default();
     let kind = Check::Slicing16;
-    let walked = walk_with(kind, &SETTINGS, &mut state, &octets, &marks, |reading| {
-        if let Answer::Counted {
-            outcome,
-            status,
-            len,
-            ..
-        } = reading.answer
-        {
-            // Writing to a string doesn't fail.
-            let _ = writeln!(text, "{} {outcome} {status} {len}", reading.start);
-        }
-    });
+    let walked = walk_with(
+        kind,
+        &Settings::PRINTED,
+        &mut state,
+        &octets,
+        &marks,
+        |reading| {
+            if let Answer::Counted {
+                outcome,
+                status,
+                len,
+                ..
+            } = reading.answer
+            {
+                // Writing to a string doesn't fail.
+                let _ = writeln!(text, "{} {outcome} {status} {len}", reading.start);
+            }
+        },
+    );
     match walked {
         // Not reached: the settings are valid and the buffers of equal length.
         Walked::Refused(_) => return BAD_INPUT.to_owned(),

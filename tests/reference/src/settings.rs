@@ -38,6 +38,19 @@ pub struct Settings {
 }
 
 impl Settings {
+    /// The settings of the printing program.
+    pub const PRINTED: Settings = Settings {
+        own: [0x02, 0x00, 0x00, 0x00, 0x00, 0x01],
+        listed: [[0; 6]; 4],
+        count: 0,
+        broadcast: true,
+        promiscuous: false,
+        checking: true,
+        limit: 1518,
+        flow: Flow::None,
+        pass_control: false,
+    };
+
     /// The opposite of refusal 1.
     pub(crate) fn are_valid(&self) -> bool {
         !is_group(&self.own)

@@ -6,21 +6,6 @@ use reference::{Flow, Settings, State};
 pub const BROADCAST: [u8; 6] = [0xFF; 6];
 /// The destination of pause and PFC frames.
 pub const RESERVED_GROUP: [u8; 6] = [0x01, 0x80, 0xC2, 0x00, 0x00, 0x01];
-/// The printing program's own address.
-const OWN: [u8; 6] = [0x02, 0x00, 0x00, 0x00, 0x00, 0x01];
-
-/// The printing program's settings.
-pub const PRINTED: Settings = Settings {
-    own: OWN,
-    listed: [[0; 6]; 4],
-    count: 0,
-    broadcast: true,
-    promiscuous: false,
-    checking: true,
-    limit: 1518,
-    flow: Flow::None,
-    pass_control: false,
-};
 
 /// Any settings; one in fifteen is refused.
 pub fn settings(prng: &mut Prng) -> Settings {
@@ -37,7 +22,11 @@ pub fn settings(prng: &mut Prng) -> Settings {
 
 /// Settings that no call refuses.
 pub fn valid_settings(prng: &mut Prng) -> Settings {
-    let own = if prng.coin() { OWN } else { station(prng) };
+    let own = if prng.coin() {
+        Settings::PRINTED.own
+    } else {
+        station(prng)
+    };
     Settings {
         own,
         listed: [(); 4].map(|()| match prng.below(8) {
