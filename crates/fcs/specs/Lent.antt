@@ -1,4 +1,4 @@
--- Internal: sixteen tables in one array, made once and lent. Of this file a caller sees `Tables`, which `tables` ensures, and `Lent`, which
+-- Internal: sixteen tables in one array, made once and lent. Of this file a caller sees `Tables`, which `make_tables` ensures, and `Lent`, which
 -- `check_by` requires: no caller has to look into them.
 use mathlib.Core.Path.{_≡_}
 use mathlib.Core.List.{List}

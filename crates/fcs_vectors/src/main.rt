@@ -39,7 +39,8 @@ fn longer(t: &[u32; 4096])
 }
 
 fn main() {
-    let t = fcs::tables();
+    let mut t = [0u32; 4096];
+    fcs::make_tables(&mut t);
     texts(&t);
     longer(&t);
 }

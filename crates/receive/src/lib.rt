@@ -241,6 +241,7 @@ pub fn walk(s: Settings, state: State, octets: &[u8], marks: &[u8]) -> WalkEnd
         let none = [0u32; 1];
         return walk_on(&none[..0], s, state, octets, marks);
     }
-    let t = fcs::tables();
+    let mut t = [0u32; 4096];
+    fcs::make_tables(&mut t);
     walk_on(&t, s, state, octets, marks)
 }

@@ -19,8 +19,8 @@ first-row-requires c κs = search needs
 mul-x : tie.Need-mul-x
 mul-x c = search needs
 
-element-copy-out-x : tie.Need-element-copy-out-x
-element-copy-out-x c = search needs
+shared-slice-read-x : tie.Need-shared-slice-read-x
+shared-slice-read-x c = search needs
 
 cast-result : tie.Need-cast-result
 cast-result c = search needs
@@ -28,15 +28,15 @@ cast-result c = search needs
 mul-result : tie.Need-mul-result
 mul-result c = search needs
 
-element-copy-out-result : tie.Need-element-copy-out-result
-element-copy-out-result c = search needs
+shared-slice-read-result : tie.Need-shared-slice-read-result
+shared-slice-read-result c = search needs
 
 returns : tie.Need-returns
-returns c = c .first-row .ensures ∙ entry-first (c .before .before .args .i) (omega arith)
+returns c = c .first-row .ensures ∙ entry-first (c .before .before .before .args .i) (omega arith)
 
 returns-2 : tie.Need-returns-2
 returns-2 c =
-    let start = c .before .before .before in
+    let start = c .before .before .before .before in
     let i = start .args .i in
     let x = getD (start .args .t .now) (i - 256) 0 in
     ap (λ (y : ℕ). bitXor y (x / 256)) (start .pre .1 (x % 256) (omega arith))
@@ -49,9 +49,9 @@ next-entry-spec =
     cast-first-row
     first-row-requires
     mul-x
-    element-copy-out-x
+    shared-slice-read-x
     cast-result
     mul-result
-    element-copy-out-result
+    shared-slice-read-result
     returns
     returns-2)

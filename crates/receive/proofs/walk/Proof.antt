@@ -37,14 +37,17 @@ walk-on-requires c κs = ((λ h. absurd (omega arith)), fine (c .before .before)
 returns-2 : tie.Need-returns-2
 returns-2 c = search needs
 
-tables-requires : tie.Need-tables-requires
-tables-requires c κs = search needs
+slice-aggregate-make-tables : tie.Need-slice-aggregate-make-tables
+slice-aggregate-make-tables c = search needs
+
+make-tables-requires : tie.Need-make-tables-requires
+make-tables-requires c κs = search needs
 
 slice-aggregate-walk-on-2 : tie.Need-slice-aggregate-walk-on-2
 slice-aggregate-walk-on-2 c = search needs
 
 walk-on-requires-2 : tie.Need-walk-on-requires-2
-walk-on-requires-2 c κs = ((λ h. c .before .tables .ensures), fine (c .before .before .before))
+walk-on-requires-2 c κs = ((λ h. c .before .before .make-tables .ensures), fine (c .before .before .before .before .before))
 
 returns-3 : tie.Need-returns-3
 returns-3 c = search needs
@@ -61,7 +64,8 @@ walk-spec =
     slice-aggregate-walk-on
     walk-on-requires
     returns-2
-    tables-requires
+    slice-aggregate-make-tables
+    make-tables-requires
     slice-aggregate-walk-on-2
     walk-on-requires-2
     returns-3)

@@ -1,14 +1,14 @@
--- `fcs::tables` meets its contract: every entry below `i` is right.
+-- `fcs::make_tables` meets its contract: every entry below `i` is right.
 -- Assumes nothing.
-use mathlib.Core.Path.{_≡_, refl}
+use mathlib.Core.Path.{_≡_}
 use Prim.Native.Nat.{ℕ, _-_, _≤_}
 use native.Mathlib.Omega.{arith}
 use lib.ListN.{length, length-set}
 use Rattle.fcs.specs.Lent.{Filled}
 use Rattle.fcs.proofs.Lent.{fill-more}
 use borrow.Author.Needs.{needs}
-use Rattle.fcs.proofs.tables.Statement.{statement}
-use Rattle.fcs.proofs.tables.Tie as tie
+use Rattle.fcs.proofs.make_tables.Statement.{statement}
+use Rattle.fcs.proofs.make_tables.Tie as tie
 
 abbrev Inv-loop : tie.InvT-loop
 Inv-loop t₀ i₀ t i = (i ≤ 4096) × (length t ≡ 4096) × Filled i t
@@ -17,7 +17,7 @@ abbrev μ-loop : tie.MeasureT-loop
 μ-loop t₀ i₀ t i = 4096 - i
 
 loop-holds : tie.Need-loop-holds Inv-loop μ-loop
-loop-holds c = (search needs, refl, λ j h. omega arith)
+loop-holds c = (search needs, c .before .pre, λ j h. omega arith)
 
 next-entry-requires : tie.Need-next-entry-requires Inv-loop μ-loop
 next-entry-requires c κs = (omega arith, c .before .before .loop .inv .2)
@@ -25,8 +25,8 @@ next-entry-requires c κs = (omega arith, c .before .before .loop .inv .2)
 mul-t : tie.Need-mul-t Inv-loop μ-loop
 mul-t c = search needs
 
-array-write-t : tie.Need-array-write-t Inv-loop μ-loop
-array-write-t c = search needs
+slice-write-t : tie.Need-slice-write-t Inv-loop μ-loop
+slice-write-t c = search needs
 
 add-i : tie.Need-add-i Inv-loop μ-loop
 add-i c = search needs
@@ -42,13 +42,16 @@ loop-again c =
       fill-more (at .t) (at .i) (c .next-entry .result) (omega arith) (c .next-entry .ensures) (at .inv .2),
     )
 
+same-length : tie.Need-same-length Inv-loop μ-loop
+same-length c = let at = c .before .loop in omega (arith, at .inv .1, c .before .before .before .pre)
+
 returns : tie.Need-returns Inv-loop μ-loop
 returns c =
     let at = c .before .loop in
     (at .inv .1, λ j h. at .inv .2 j (omega arith))
 
-pub tables-spec : {M : Type 1} → statement M
-tables-spec =
+pub make-tables-spec : {M : Type 1} → statement M
+make-tables-spec =
     tie.close
     (tie.spec
     Inv-loop
@@ -56,8 +59,9 @@ tables-spec =
     loop-holds
     next-entry-requires
     mul-t
-    array-write-t
+    slice-write-t
     add-i
     loop-less
     loop-again
+    same-length
     returns)
