@@ -132,24 +132,25 @@ fn look(s: Settings, octets: &[u8], marks: &[u8], place: usize) -> Sight
             next: start,
         };
     };
+    // a single reading has no time to make tables
     let none = [0u32; 1];
     let o = outcome::outcome(&none[..0], s, &octets[from..end], octets[end]);
     look_run(s, start, &octets[from..end], o)
 }
 
 // The state after a reading that saw this. Counters and timers are put together once, and not on each way: that is a sixth of a short reading.
-fn state_after(l: Sight, octets: &[u8], state: State) -> State
-    requires { ⌜ Inside (now octets) l ⌝ }
-    ensures { λ r. ⌜ r ≡ afterSight (now (octets .entry)) l state ⌝ }
+fn state_after(seen: Sight, octets: &[u8], state: State) -> State
+    requires { ⌜ Inside (now octets) seen ⌝ }
+    ensures { λ r. ⌜ r ≡ afterSight (now (octets .entry)) seen state ⌝ }
 {
-    let answer = l.answer;
+    let answer = seen.answer;
     let mut counters = state.counters;
     let mut timers = state.timers;
     if let Answer::Counted(o, _word, _part) = answer {
         station::count(o, &mut counters);
         if flow::sets_timers(o) {
-            let from = l.start + 1;
-            let end = l.next;
+            let from = seen.start + 1;
+            let end = seen.next;
             let f = outcome::frame_of(&octets[from..end]);
             let set = flow::timers_after(o, f, timers);
             timers = set;
@@ -162,13 +163,13 @@ fn state_after(l: Sight, octets: &[u8], state: State) -> State
 pub fn read(s: Settings, state: State, octets: &[u8], marks: &[u8], place: usize) -> Reading
     ensures { λ r. ⌜ r ≡ reading s state (now (octets .entry)) (now (marks .entry)) place ⌝ }
 {
-    let l = look(s, octets, marks, place);
-    let answer = l.answer;
-    let after = state_after(l, octets, state);
+    let seen = look(s, octets, marks, place);
+    let answer = seen.answer;
+    let after = state_after(seen, octets, state);
     Reading {
         answer,
-        start: l.start,
-        next: l.next,
+        start: seen.start,
+        next: seen.next,
         state: after,
     }
 }

@@ -21,7 +21,7 @@ abbrev at-state : List ℕ → List Slots → State
 at-state cs ts = record { counters = cs; timers = ts }
 
 -- the run of a Start that is counted lies inside the octets
-inside : (c : tie.After-known-told) → let a = c .before .before .before .before .before .before .args in (a .l .start + 1 ≤ a .l .next) × (a .l .next ≤ length (now (a .octets)))
+inside : (c : tie.After-known-told) → let a = c .before .before .before .before .before .before .args in (a .seen .start + 1 ≤ a .seen .next) × (a .seen .next ≤ length (now (a .octets)))
 inside c = c .before .before .before .before .before .before .pre (ap isCounted (c .before .answer .given .1))
 
 enum-known-answer : tie.Need-enum-known-answer
@@ -68,7 +68,7 @@ returns-2 c =
     rw (k .before .answer .given .1) (ap₂ at-state (s .before .count .ensures) (s .sets-timers .ensures (c .if1 .left) _ _))
 
 returns-3 : tie.Need-returns-3
-returns-3 c = let a = c .before .before .before .before .args in not-counted (now (a .octets)) (a .l) (a .state) (c .match .keys2)
+returns-3 c = let a = c .before .before .before .before .args in not-counted (now (a .octets)) (a .seen) (a .state) (c .match .keys2)
 
 pub state-after-spec : {M : Type 1} → statement M
 state-after-spec =
