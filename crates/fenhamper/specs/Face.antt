@@ -4,7 +4,7 @@ use Prim.Native.Nat.{ℕ, zero, suc, _+_, _-_, _*_, _%_}
 use mathlib.Core.Bool.{Bool, true, false, cond, not, _&&_}
 use mathlib.Core.List.{List, [], _∷_, _++_}
 use lib.ListN.{length, getD, replicate}
-use lib.Dec.{eqb, leb}
+use lib.Dec.{eqb, leb, ltb}
 use Rattle.line.specs.Octets.{highFirstAt}
 use Rattle.station.specs.declared.Address.{Address}
 use Rattle.station.specs.declared.Flow.{Flow}
@@ -85,12 +85,15 @@ kindOf n = cond (eqb n 0) Customer Service
 unfoldable pub tagAt : List ℕ → ℕ → Tag
 tagAt o at = record { kind = kindOf (getD o at 0); control = highFirstAt o (at + 2) }
 
--- "those beyond the count are not looked at": where none counts, none of the eight
+-- "eight tags of 4 octets, the outermost first; those beyond the count are not looked at"
 abbrev pub noTag : Tag
 noTag = record { kind = Customer; control = 0 }
 
+unfoldable pub countedTag : List ℕ → ℕ → Tag
+countedTag o k = cond (ltb k (getD o 10 0)) (tagAt o (12 + 4 * k)) noTag
+
 unfoldable pub tagsOf : List ℕ → List Tag
-tagsOf o = cond (eqb (getD o 10 0) 0) (each (λ (k : ℕ). noTag) 0 8) (each (λ (k : ℕ). tagAt o (12 + 4 * k)) 0 8)
+tagsOf o = each (countedTag o) 0 8
 
 unfoldable pub formOf : List ℕ → Form
 formOf o = cond (eqb (getD o 7 0) 0) ByLength (ByType (highFirstAt o 8))

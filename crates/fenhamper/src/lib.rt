@@ -29,7 +29,7 @@ ghost use Rattle.flow.specs.Timers.{timer};
 ghost use Rattle.receive.specs.Reading.{reading};
 ghost use Rattle.receive.specs.Walk.{walked};
 ghost use Rattle.send.specs.Sending.{clientSending, pauseSending, pfcSending, idleSending};
-ghost use Rattle.fenhamper.specs.Face.{flowOf, addressAt, settingsOf, countersOf, timersOf, stateOf, kindOf, tagAt, tagsOf, formOf, clientOf, quantaOf, classesOf, stateNumbers, readingNumbers, walkNumbers, sentNumbers, partWithin, told, readTold, walkTold, wrote, sendTold};
+ghost use Rattle.fenhamper.specs.Face.{flowOf, addressAt, settingsOf, countersOf, timersOf, stateOf, kindOf, tagAt, countedTag, tagsOf, formOf, clientOf, quantaOf, classesOf, stateNumbers, readingNumbers, walkNumbers, sentNumbers, partWithin, told, readTold, walkTold, wrote, sendTold};
 
 // ---- what crosses to the module
 
@@ -146,7 +146,21 @@ fn tag(o: &[u8; 44], at: usize) -> Tag
     Tag { kind, control }
 }
 
-// Most frames have no tag, and then none is looked at.
+// Tag k, if it counts.
+fn counted_tag(o: &[u8; 44], k: u8) -> Tag
+    requires { ⌜ k < 8 ⌝ }
+    ensures { λ r. ⌜ r ≡ countedTag (now (o .entry)) k ⌝ }
+{
+    if k < o[10] {
+        return tag(o, 12 + 4 * (k as usize));
+    }
+    Tag {
+        kind: Kind::Customer,
+        control: 0,
+    }
+}
+
+// Most frames have no tag: then that is one test.
 fn tags(o: &[u8; 44]) -> [Tag; 8]
     ensures { λ r. ⌜ r ≡ tagsOf (now (o .entry)) ⌝ }
 {
@@ -158,14 +172,14 @@ fn tags(o: &[u8; 44]) -> [Tag; 8]
         return [none; 8];
     }
     [
-        tag(o, 12),
-        tag(o, 16),
-        tag(o, 20),
-        tag(o, 24),
-        tag(o, 28),
-        tag(o, 32),
-        tag(o, 36),
-        tag(o, 40),
+        counted_tag(o, 0),
+        counted_tag(o, 1),
+        counted_tag(o, 2),
+        counted_tag(o, 3),
+        counted_tag(o, 4),
+        counted_tag(o, 5),
+        counted_tag(o, 6),
+        counted_tag(o, 7),
     ]
 }
 

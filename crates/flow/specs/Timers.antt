@@ -41,6 +41,10 @@ setNamed classes quanta (t ∷ ts) =
 unfoldable pub timersAfter : Outcome → List ℕ → List Slots → List Slots
 timersAfter o f ts = byOutcome o ts (setAll (quantaAt f 16) ts) (setNamed (getD f 17 0) (drop 18 f) ts) ts ts
 
+-- whether an outcome sets timers: 8 and 9 alone
+unfoldable pub setsTimers : Outcome → Bool
+setsTimers o = byOutcome o false true true false false
+
 -- ---- Sending
 
 -- "Every call that writes n symbols lowers each timer by n, not below zero." (`-` on ℕ stops at zero.)

@@ -98,8 +98,8 @@ fn after_fcs(s: Settings, f: &[u8]) -> Outcome
     Outcome::HandedOut
 }
 
-// The outcome of a run ended by the control octet `by`: the first rule that holds. The FCS by tables if they are lent, and so public for this
-// repository's crates only.
+// The outcome of a run ended by the control octet `by`: the first rule that holds. In two steps, so that a run which rules 1 to 4 decide costs no
+// look at the other settings. The FCS by tables if they are lent, and so public for this repository's crates only.
 pub fn outcome(t: &[u32], s: Settings, run: &[u8], by: u8) -> Outcome
     requires { ⌜ Lent (now t) ⌝ }
     ensures { λ r. ⌜ r ≡ outcome s (now (run .entry)) by ⌝ }

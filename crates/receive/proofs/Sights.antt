@@ -7,6 +7,7 @@ use denote.Enum.Declared.{tagOf}
 use types.Run.{OneOf, miss}
 use Rattle.line.specs.Octets.{between}
 use Rattle.station.specs.declared.Settings.{Settings}
+use Rattle.station.specs.declared.Slots.{Slots}
 use Rattle.station.specs.declared.State.{State}
 use Rattle.station.specs.declared.Outcome.{Outcome}
 use Rattle.outcome.specs.Outcomes.{frameOf}
@@ -18,6 +19,10 @@ use Rattle.receive.specs.declared.Reading.{Reading}
 use Rattle.receive.proofs.Answer.{the-type}
 use Rattle.receive.specs.Reading.{stateAfter, handedPart, readRun}
 use Rattle.receive.specs.Steps.{sightOf, afterSight, readOf}
+
+-- a state of its two parts, as the code puts it together
+abbrev pub at-state : List ℕ → List Slots → State
+at-state cs ts = record { counters = cs; timers = ts }
 
 pub sight-read : (s : Settings) (os : List ℕ) (i : ℕ) (run : List ℕ) (o : Outcome) (st : State)
     → between os (i + 1) (i + 1 + length run) ≡ run → readOf os (sightOf s i run o) st ≡ readRun s st i run o

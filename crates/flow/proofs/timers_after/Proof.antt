@@ -3,7 +3,7 @@ use denote.Ref.{now}
 use Prim.Native.Nat.{ℕ}
 use mathlib.Core.Path.{ap, _∙_}
 use Rattle.flow.specs.Timers.{quantaAt, setAll, timersAfter}
-use Rattle.flow.proofs.Stays.{stays}
+use Rattle.flow.proofs.Stays.{sets-none, stays}
 use borrow.Author.Needs.{needs}
 use Rattle.flow.proofs.timers_after.Statement.{statement}
 use Rattle.flow.proofs.timers_after.Tie as tie
@@ -34,7 +34,7 @@ unfolding timersAfter
 returns-2 c = rw (c .before .enum-told2 .given .1) (c .set-named .ensures)
 
 returns-3 : tie.Need-returns-3
-returns-3 c = let a = c .before .before .args in stays (a .o) (now (a .f)) (a .timers) (c .match .keys3)
+returns-3 c = let a = c .before .before .args in stays (a .o) (now (a .f)) (a .timers) (sets-none (a .o) (c .match .keys3))
 
 pub timers-after-spec : {M : Type 1} → statement M
 timers-after-spec =

@@ -1,24 +1,20 @@
 -- `receive::state_after` meets its contract: counted, with the timers set or left as they were, or not counted. Assumes nothing.
 use native.Mathlib.Omega.{arith}
 use Prim.Native.Nat.{ℕ, _+_, _≤_}
-use mathlib.Core.Path.{_≡_, ap, ap₂, _∙_}
+use mathlib.Core.Path.{_≡_, sym, ap, ap₂, _∙_}
 use mathlib.Core.List.{List}
 use lib.ListN.{length}
 use denote.Ref.{now}
 use borrow.Author.Needs.{needs}
 use Rattle.line.specs.Octets.{between}
-use Rattle.station.specs.declared.Slots.{Slots}
-use Rattle.station.specs.declared.State.{State}
+use Rattle.flow.proofs.Stays.{stays}
 use Rattle.flow.specs.Timers.{timersAfter}
 use Rattle.receive.specs.Reading.{stateAfter}
 use Rattle.receive.specs.Steps.{afterSight}
 use Rattle.receive.specs.Values.{isCounted}
-use Rattle.receive.proofs.Sights.{not-counted}
+use Rattle.receive.proofs.Sights.{at-state, not-counted}
 use Rattle.receive.proofs.state_after.Statement.{statement}
 use Rattle.receive.proofs.state_after.Tie as tie
-
-abbrev at-state : List ℕ → List Slots → State
-at-state cs ts = record { counters = cs; timers = ts }
 
 -- the run of a Start that is counted lies inside the octets
 inside : (c : tie.After-known-told) → let a = c .before .before .before .before .before .before .args in (a .seen .start + 1 ≤ a .seen .next) × (a .seen .next ≤ length (now (a .octets)))
@@ -65,7 +61,7 @@ unfolding afterSight stateAfter
 returns-2 c =
     let s = c .before in
     let k = s .before .before .before in
-    rw (k .before .answer .given .1) (ap₂ at-state (s .before .count .ensures) (s .sets-timers .ensures (c .if1 .left) _ _))
+    rw (k .before .answer .given .1) (ap₂ at-state (s .before .count .ensures) (stays _ _ _ (sym (s .sets-timers .ensures) ∙ c .if1 .left)))
 
 returns-3 : tie.Need-returns-3
 returns-3 c = let a = c .before .before .before .before .args in not-counted (now (a .octets)) (a .seen) (a .state) (c .match .keys2)

@@ -11,6 +11,8 @@ use borrow.Author.Needs.{needs}
 use Rattle.line.specs.Octets.{between}
 use Rattle.line.specs.Line.{capture, findStart, findControl}
 use Rattle.receive.proofs.Refusals.{passed}
+use Rattle.receive.proofs.Sights.{at-state}
+use Rattle.flow.proofs.Stays.{stays}
 use Rattle.line.specs.declared.Found.the-variants.{At}
 use Rattle.receive.proofs.Walks.{left, turn-none, turn-open, turn-ended, walked-from}
 use Rattle.receive.specs.Reading.{stateAfter}
@@ -19,14 +21,10 @@ use Rattle.line.proofs.Places.{start-found, control-found}
 use Rattle.outcome.specs.Outcomes.{outcome, frameOf}
 use Rattle.station.specs.declared.Outcome.{Outcome}
 use Rattle.station.specs.declared.Slots.{Slots}
-use Rattle.station.specs.declared.State.{State}
 use Rattle.station.specs.Station.{counted}
 use Rattle.flow.specs.Timers.{timersAfter}
 use Rattle.receive.proofs.walk_on.Statement.{statement}
 use Rattle.receive.proofs.walk_on.Tie as tie
-
-abbrev at-state : List ℕ → List Slots → State
-at-state cs ts = record { counters = cs; timers = ts }
 
 abbrev Inv-loop : tie.InvT-loop
 Inv-loop t s octets marks counters₀ timers₀ n₀ at₀ counters timers n at =
@@ -144,7 +142,7 @@ unfolding between
 timers-now c =
     ⊎-elim
     (λ w. w .4 ∙ w .3 .ensures ∙ ap (λ (l : List ℕ). timersAfter (c .before .before .before .before .outcome .result) l (c .before .before .before .before .before .before .before .before .before .before .before .before .before .before .before .loop .timers)) (w .2 .ensures))
-    (λ w. w .1 ∙ c .before .sets-timers .ensures (w .0 .left) _ _)
+    (λ w. w .1 ∙ stays _ _ _ (sym (c .before .sets-timers .ensures) ∙ w .0 .left))
     (c .if1 .came)
 
 loop-again : tie.Need-loop-again Inv-loop μ-loop

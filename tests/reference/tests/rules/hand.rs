@@ -15,6 +15,30 @@ pub const MULTICAST: [u8; 6] = [0x01, 0, 0x5E, 0, 0, 7];
 pub const RESERVED: [u8; 6] = [0x01, 0x80, 0xC2, 0, 0, 1];
 pub const BROADCAST: [u8; 6] = [0xFF; 6];
 
+/// The length rule, with any number of tags: field, length of the data, octets handed out if the rule is kept.
+pub const LENGTH_RULE: [(u16, usize, Option<usize>); 20] = [
+    (0, 46, Some(0)),
+    (0, 47, None),
+    (1, 46, Some(1)),
+    (45, 46, Some(45)),
+    (45, 47, None),
+    (46, 46, Some(46)),
+    (46, 47, None),
+    (47, 46, None),
+    (47, 47, Some(47)),
+    (47, 48, None),
+    (1499, 1500, None),
+    (1500, 1499, None),
+    (1500, 1500, Some(1500)),
+    (1501, 1501, None),
+    (1501, 46, None),
+    (1535, 1535, None),
+    (1536, 1536, Some(1536)),
+    (1536, 46, Some(46)),
+    (0x0800, 77, Some(77)),
+    (0xFFFF, 77, Some(77)),
+];
+
 /// The settings of the printing program.
 pub const PLAIN: Settings = Settings {
     own: OWN,

@@ -4,7 +4,9 @@
 use reference::{read, Answer, Check, Flow, Reading, Settings, State, Walked};
 
 use crate::hand::{frame, outcome, ramp, see, see_with, Capture};
-use crate::hand::{BROADCAST, ERROR, IDLE, MULTICAST, OTHER, OWN, PAUSE, PFC, PLAIN, RESERVED};
+use crate::hand::{
+    BROADCAST, ERROR, IDLE, LENGTH_RULE, MULTICAST, OTHER, OWN, PAUSE, PFC, PLAIN, RESERVED,
+};
 use crate::hand::{START, TERMINATE};
 
 fn good() -> Vec<u8> {
@@ -130,30 +132,7 @@ fn outcome_6_wrong_length() {
         checking: true,
         ..off
     };
-    // Field, length of the data, octets handed out if the rule is kept.
-    let cases = [
-        (0, 46, Some(0)),
-        (0, 47, None),
-        (1, 46, Some(1)),
-        (45, 46, Some(45)),
-        (45, 47, None),
-        (46, 46, Some(46)),
-        (46, 47, None),
-        (47, 46, None),
-        (47, 47, Some(47)),
-        (47, 48, None),
-        (1499, 1500, None),
-        (1500, 1499, None),
-        (1500, 1500, Some(1500)),
-        (1501, 1501, None),
-        (1501, 46, None),
-        (1535, 1535, None),
-        (1536, 1536, Some(1536)),
-        (1536, 46, Some(46)),
-        (0x0800, 77, Some(77)),
-        (0xFFFF, 77, Some(77)),
-    ];
-    for (field, len, kept) in cases {
+    for (field, len, kept) in LENGTH_RULE {
         for header in [&[field][..], &[0x8100, 0x2001, field][..]] {
             let octets = frame(OWN, header, &ramp(len));
             let seen = see(&on, &octets);

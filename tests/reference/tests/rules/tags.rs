@@ -4,7 +4,7 @@
 use reference::Settings;
 
 use crate::hand::{frame, outcome, ramp, see, tagged};
-use crate::hand::{BROADCAST, MULTICAST, OTHER, OWN, PAUSE, PFC, PLAIN, RESERVED};
+use crate::hand::{BROADCAST, LENGTH_RULE, MULTICAST, OTHER, OWN, PAUSE, PFC, PLAIN, RESERVED};
 
 /// Bits 33 (exactly one tag) and 32 (two or more) of a frame with so many.
 fn bits(n: usize) -> u64 {
@@ -99,25 +99,13 @@ fn limit_grows_by_four_for_each() {
 
 #[test]
 fn length_rule_behind_the_last() {
-    // Field, length of the data, octets handed out if the rule is kept.
-    let cases = [
-        (0, 46, Some(0)),
-        (0, 47, None),
-        (45, 46, Some(45)),
-        (45, 47, None),
-        (46, 46, Some(46)),
-        (46, 47, None),
-        (47, 46, None),
-        (47, 47, Some(47)),
-        (1500, 1500, Some(1500)),
-        (1500, 1499, None),
-        (1501, 46, None),
-        (1535, 46, None),
-        (1536, 46, Some(46)),
-    ];
+    let s = Settings {
+        limit: 9000,
+        ..PLAIN
+    };
     for n in 1..=8 {
-        for (field, len, kept) in cases {
-            let seen = see(&PLAIN, &frame(OWN, &tagged(n, field), &ramp(len)));
+        for (field, len, kept) in LENGTH_RULE {
+            let seen = see(&s, &frame(OWN, &tagged(n, field), &ramp(len)));
             match kept {
                 Some(handed) => assert_eq!((seen.outcome, seen.data), (11, ramp(handed))),
                 None => assert_eq!(seen.outcome, 6, "{n} {field} {len}"),
