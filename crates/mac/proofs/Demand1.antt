@@ -163,7 +163,8 @@ unfolding readChecked
 read-number (Refused x) s st os ms place = refl
 read-number Fine s st os ms place = not-refused s st (capture os ms) place
 
-read-kept : (k : Checked) (s : Settings) (st : State) (os ms : List ℕ) (place : ℕ) → 0 < checkedNumber k → ReadRefused st place (readChecked k s st os ms place)
+read-kept : (k : Checked) (s : Settings) (st : State) (os ms : List ℕ) (place : ℕ)
+    → 0 < checkedNumber k → ReadRefused st place (readChecked k s st os ms place)
 unfolding readChecked
 read-kept (Refused x) s st os ms place h = record { word = refl; part = refl; start = refl; next = refl; state = refl }
 read-kept Fine s st os ms place h = absurd (omega arith)
@@ -198,9 +199,12 @@ through-none s n k st (m ∷ ms) = one (m .follows) (λ st′. through-none s n 
 walk-number : (s : Settings) (st : State) (os ms : List ℕ) (k : Checked) → first (readRefusals s os ms 0) ≡ k
     → (walkedRefusal (walked s st os ms .answer) ≡ checkedNumber k) × (0 < checkedNumber k → walked s st os ms .state ≡ st)
 unfolding walked
-walk-number s st os ms (Refused x) e = (ap (λ (w : WalkEnd). walkedRefusal (w .answer)) (walked-refused s st os ms x e), λ h. ap (λ (w : WalkEnd). w .state) (walked-refused s st os ms x e))
+walk-number s st os ms (Refused x) e =
+    let r = walked-refused s st os ms x e in
+    (ap (λ (w : WalkEnd). walkedRefusal (w .answer)) r, λ h. ap (λ (w : WalkEnd). w .state) r)
 walk-number s st os ms Fine e = (
-  ap (λ (l : List Reading). walkedRefusal (walkOf 0 st l .answer)) (walk-through s os ms e st) ∙ through-none s (length (capture os ms)) 0 st (metStarts 0 (capture os ms)),
+  ap (λ (l : List Reading). walkedRefusal (walkOf 0 st l .answer)) (walk-through s os ms e st)
+      ∙ through-none s (length (capture os ms)) 0 st (metStarts 0 (capture os ms)),
   λ h. absurd (omega arith),
 )
 
@@ -222,12 +226,14 @@ walk-refuses s st os ms =
 
 -- ---- the sending calls
 
-send-number : (k : Checked) (st : State) (os ms : List ℕ) (place : ℕ) (new : List Symbol) → wentRefusal (sendChecked k st os ms place new .given .answer) ≡ checkedNumber k
+send-number : (k : Checked) (st : State) (os ms : List ℕ) (place : ℕ) (new : List Symbol)
+    → wentRefusal (sendChecked k st os ms place new .given .answer) ≡ checkedNumber k
 unfolding sendChecked
 send-number (Refused x) st os ms place new = refl
 send-number Fine st os ms place new = refl
 
-send-kept : (k : Checked) (st : State) (os ms : List ℕ) (place : ℕ) (new : List Symbol) → 0 < checkedNumber k → SendRefused st os ms place (sendChecked k st os ms place new)
+send-kept : (k : Checked) (st : State) (os ms : List ℕ) (place : ℕ) (new : List Symbol)
+    → 0 < checkedNumber k → SendRefused st os ms place (sendChecked k st os ms place new)
 unfolding sendChecked
 send-kept (Refused x) st os ms place new h = record { at = refl; state = refl; octets = refl; marks = refl }
 send-kept Fine st os ms place new h = absurd (omega arith)
@@ -259,12 +265,14 @@ module _ (s : Settings) (st : State) (os ms : List ℕ) (place : ℕ) where
   control-listed inMode new = (refl, refl)
 
   pub pause-refuses : (q : Quanta)
-      → SendsOrRefuses (controlRefusals s os ms place (isPauseMode (s .flow)) (pauseSymbols s q)) (1 ∷ 2 ∷ 3 ∷ 4 ∷ 8 ∷ []) st os ms place (pauseSending s st os ms place q)
+      → SendsOrRefuses (controlRefusals s os ms place (isPauseMode (s .flow)) (pauseSymbols s q)) (1 ∷ 2 ∷ 3 ∷ 4 ∷ 8 ∷ [])
+      st os ms place (pauseSending s st os ms place q)
   unfolding pauseSending pauseChecked
   pause-refuses q = send-refuses (control-listed (isPauseMode (s .flow)) (pauseSymbols s q)) st os ms place (pauseSymbols s q)
 
   pub pfc-refuses : (k : Classes)
-      → SendsOrRefuses (controlRefusals s os ms place (isPfcMode (s .flow)) (pfcSymbols s k)) (1 ∷ 2 ∷ 3 ∷ 4 ∷ 8 ∷ []) st os ms place (pfcSending s st os ms place k)
+      → SendsOrRefuses (controlRefusals s os ms place (isPfcMode (s .flow)) (pfcSymbols s k)) (1 ∷ 2 ∷ 3 ∷ 4 ∷ 8 ∷ [])
+      st os ms place (pfcSending s st os ms place k)
   unfolding pfcSending pfcChecked
   pfc-refuses k = send-refuses (control-listed (isPfcMode (s .flow)) (pfcSymbols s k)) st os ms place (pfcSymbols s k)
 
