@@ -3,7 +3,7 @@
 -- proofs/Leaves.antt. Each call has buffers and settings of its own, so nothing is assumed of what happens to them between calls.
 use Prim.Native.Nat.{ℕ, zero, suc, _+_, _/_, _%_}
 use mathlib.Core.Path.{_≡_}
-use mathlib.Core.Bool.{Bool, false, cond, _&&_}
+use mathlib.Core.Bool.{Bool, true, false, cond, _&&_}
 use mathlib.Core.List.{List, [], _∷_, _++_, map}
 use mathlib.Core.Option.{Option, none, some, orElse}
 use lib.ListN.{length, getD, drop}
