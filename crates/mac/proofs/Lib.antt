@@ -4,6 +4,7 @@ pub mod Demand1
 pub mod Demand3
 pub mod Each
 pub mod Leaves
+pub mod LikeError
 pub mod Limits
 pub mod Quiet
 pub mod Row

@@ -34,7 +34,7 @@ use Rattle.receive.specs.Walk.{walkOf, walked}
 use Rattle.receive.proofs.Walks.{through, walked-from, walked-refused}
 use Rattle.writing.specs.declared.Client.{Client}
 use Rattle.send.specs.Sending.{held, written, wentRefusal, stateSent, sendChecked, clientRefusals, clientSending, pauseSending, pfcSending, idleSending}
-use Rattle.mac.specs.Demand1.{rowHolds, turn}
+use Rattle.mac.specs.Demand1.{rowHolds, NoneBefore}
 use Rattle.mac.specs.Calls.{Call, reads, walks, sendsClient, sendsPause, sendsPfc, fillsIdle, afterCall, afterCalls, writes, allWritten, names, quantaOf, setBy, setByStart, setByStarts, unlessRefused, startFound, startRead, startsWalked, setsClass, NoneSets}
 use Rattle.mac.proofs.Demand1.{client-refuses}
 use Rattle.mac.proofs.Walk.{OpenLast, open-last}
@@ -227,7 +227,7 @@ module _ (s : Settings) (st : State) (os ms : List ℕ) (p : ℕ) (c : Client) (
 
   -- given exactly while the timer of its class is above zero and no refusal that is tested before it holds
   pub held-exactly : (wentRefusal (clientSending s st os ms p c d .given .answer) ≡ 9)
-      ↔ ((0 < timer (st .timers) (c .class) .0) × ((m : ℕ) → turn m < turn 9 → rowHolds (clientRefusals s st os ms p c d) m ≡ false))
+      ↔ ((0 < timer (st .timers) (c .class) .0) × NoneBefore (clientRefusals s st os ms p c d) (1 ∷ 2 ∷ 3 ∷ 5 ∷ 6 ∷ 10 ∷ 7 ∷ 8 ∷ 9 ∷ []) 9)
   unfolding held
   held-exactly =
       let x = client-refuses s st os ms p c d .exactly .earliest 9 (lit< tt) in (
