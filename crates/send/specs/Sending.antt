@@ -15,7 +15,7 @@ use Rattle.station.specs.declared.Refusal.the-variants.{BadSettings, BadBuffers
 use Rattle.station.specs.declared.Checked.{Checked}
 use Rattle.station.specs.declared.Checked.the-variants.{Fine, Refused}
 use Rattle.station.specs.Numbers.{refusalNumber}
-use Rattle.station.specs.Station.{badSettings, badBuffers, badPlace, isPauseMode, isPfcMode}
+use Rattle.station.specs.Station.{badSettings, badBuffers, badPlace, isPauseMode, isPfcMode, withTimers}
 use Rattle.flow.specs.Timers.{timer, lowered}
 use Rattle.writing.specs.declared.Client.{Client}
 use Rattle.writing.specs.declared.Classes.{Classes}
@@ -49,7 +49,7 @@ written Fine new = new
 
 -- "Every call that writes n symbols lowers each timer by n, not below zero."
 unfoldable pub stateSent : State → ℕ → State
-stateSent st n = record { counters = st .counters; timers = lowered n (st .timers) }
+stateSent st n = withTimers (lowered n (st .timers)) st
 
 -- what a refused call gives, and one that wrote up to a place and left a state
 abbrev pub refusedAt : Refusal → ℕ → State → Sent
