@@ -33,7 +33,7 @@ use Rattle.receive.specs.Values.{answerRefusal, walkedRefusal, isCounted}
 use Rattle.receive.specs.Walk.{readingsFrom, walk, walkOf, walked}
 use Rattle.writing.specs.declared.Client.{Client}
 use Rattle.writing.specs.declared.Classes.{Classes}
-use Rattle.writing.specs.Frames.{clientSymbols, pauseSymbols, pfcSymbols, idleSymbols}
+use Rattle.writing.specs.Frames.{plainIdles, clientSymbols, pauseSymbols, pfcSymbols, idleSymbols}
 use Rattle.send.specs.Sending.{Sending, wentRefusal, sendChecked, clientRefusals, controlRefusals, idleRefusals, clientChecked, pauseChecked, pfcChecked, idleChecked, clientSending, pauseSending, pfcSending, idleSending}
 use Rattle.mac.specs.Demand1.{numbersOf, rowHolds, turn, Exactly, ReadRefused, SendRefused, ReadsOrRefuses, SendsOrRefuses}
 use Rattle.receive.proofs.Walks.{through, walk-through, walked-refused}
@@ -242,7 +242,7 @@ module _ (s : Settings) (st : State) (os ms : List ℕ) (place : ℕ) where
       send-refuses (clientRefusals s st os ms place c d) (1 ∷ 2 ∷ 3 ∷ 5 ∷ 6 ∷ 10 ∷ 7 ∷ 8 ∷ 9 ∷ [])
       (unfold clientRefusals Ascends in (lit< tt, (lit< tt, (lit< tt, (lit< tt, (lit< tt, (lit< tt, (lit< tt, (lit< tt, (lit< tt, refl))))))))))
       (unfold clientRefusals numbersOf in refl)
-      st os ms place (clientSymbols s c d)
+      st os ms place (clientSymbols plainIdles s c d)
 
   -- "pause and PFC 1 to 4 and 8"
   control-ascends : (inMode : Bool) (new : List Symbol) → Ascends 0 (controlRefusals s os ms place inMode new)
@@ -254,19 +254,19 @@ module _ (s : Settings) (st : State) (os ms : List ℕ) (place : ℕ) where
   control-numbers inMode new = refl
 
   pub pause-refuses : (q : Quanta)
-      → SendsOrRefuses (controlRefusals s os ms place (isPauseMode (s .flow)) (pauseSymbols s q)) (1 ∷ 2 ∷ 3 ∷ 4 ∷ 8 ∷ []) st os ms place (pauseSending s st os ms place q)
+      → SendsOrRefuses (controlRefusals s os ms place (isPauseMode (s .flow)) (pauseSymbols plainIdles s q)) (1 ∷ 2 ∷ 3 ∷ 4 ∷ 8 ∷ []) st os ms place (pauseSending s st os ms place q)
   unfolding pauseSending pauseChecked
   pause-refuses q =
       let inMode : Bool = isPauseMode (s .flow) in
-      let new : List Symbol = pauseSymbols s q in
+      let new : List Symbol = pauseSymbols plainIdles s q in
       send-refuses (controlRefusals s os ms place inMode new) (1 ∷ 2 ∷ 3 ∷ 4 ∷ 8 ∷ []) (control-ascends inMode new) (control-numbers inMode new) st os ms place new
 
   pub pfc-refuses : (k : Classes)
-      → SendsOrRefuses (controlRefusals s os ms place (isPfcMode (s .flow)) (pfcSymbols s k)) (1 ∷ 2 ∷ 3 ∷ 4 ∷ 8 ∷ []) st os ms place (pfcSending s st os ms place k)
+      → SendsOrRefuses (controlRefusals s os ms place (isPfcMode (s .flow)) (pfcSymbols plainIdles s k)) (1 ∷ 2 ∷ 3 ∷ 4 ∷ 8 ∷ []) st os ms place (pfcSending s st os ms place k)
   unfolding pfcSending pfcChecked
   pfc-refuses k =
       let inMode : Bool = isPfcMode (s .flow) in
-      let new : List Symbol = pfcSymbols s k in
+      let new : List Symbol = pfcSymbols plainIdles s k in
       send-refuses (controlRefusals s os ms place inMode new) (1 ∷ 2 ∷ 3 ∷ 4 ∷ 8 ∷ []) (control-ascends inMode new) (control-numbers inMode new) st os ms place new
 
 -- "Idle fill 2, 3 and 8"

@@ -24,7 +24,7 @@ use Rattle.station.specs.declared.Checked.{Checked}
 use Rattle.station.specs.declared.Checked.the-variants.{Refused}
 use Rattle.flow.specs.Timers.{timer}
 use Rattle.writing.specs.declared.Client.{Client}
-use Rattle.writing.specs.Frames.{clientSymbols}
+use Rattle.writing.specs.Frames.{plainIdles, clientSymbols}
 use Rattle.send.specs.Sending.{held, written, clientRefusals, clientChecked}
 use Rattle.mac.specs.Calls.{Call, reads, sendsClient, sendsPause, sendsPfc, fillsIdle, afterCall, writes, setsClass, NoneSets, firstIs, isClientOf, clientStarts, allClientStarts}
 use Rattle.mac.proofs.Timers.{call-lowers, timer-set}
@@ -58,8 +58,8 @@ held-starts-none s st k h (sendsClient os ms p c d) j =
     by-test (eqb (c .class) k)
     (λ e. let q : c .class ≡ k = eqb-true (c .class) k e in
     let y = held-refused s st os ms p c d (lt-ltb 0 (timer (st .timers) (c .class) .0) (subst (λ (i : ℕ). 0 < timer (st .timers) i .0) (sym q) h)) in
-    ap (λ (r : Checked). getD (firstIs (eqb (c .class) k) (written r (clientSymbols s c d))) j false) (y .1) ∙ (unfold written firstIs in refl))
-    (λ e. ap (λ (b : Bool). getD (firstIs b (written (clientChecked s st os ms p c d) (clientSymbols s c d))) j false) e ∙ no-first _ j)
+    ap (λ (r : Checked). getD (firstIs (eqb (c .class) k) (written r (clientSymbols plainIdles s c d))) j false) (y .1) ∙ (unfold written firstIs in refl))
+    (λ e. ap (λ (b : Bool). getD (firstIs b (written (clientChecked s st os ms p c d) (clientSymbols plainIdles s c d))) j false) e ∙ no-first _ j)
 held-starts-none s st k h (sendsPause os ms p q) j = no-first _ j
 held-starts-none s st k h (sendsPfc os ms p c) j = no-first _ j
 held-starts-none s st k h (fillsIdle os ms p n) j = no-first _ j

@@ -24,7 +24,7 @@ use Rattle.outcome.specs.Outcomes.{outcome, frameOf}
 use Rattle.receive.specs.Reading.{readRefusals, reading}
 use Rattle.writing.specs.declared.Client.{Client}
 use Rattle.writing.specs.declared.Classes.{Classes}
-use Rattle.writing.specs.Frames.{clientSymbols, pauseSymbols, pfcSymbols, idleSymbols}
+use Rattle.writing.specs.Frames.{plainIdles, clientSymbols, pauseSymbols, pfcSymbols, idleSymbols}
 use Rattle.send.specs.Sending.{written, clientChecked, pauseChecked, pfcChecked, idleChecked, clientSending, pauseSending, pfcSending, idleSending}
 
 -- a call: its octets, its marks, its place, and what it is asked
@@ -50,9 +50,9 @@ afterCalls s st (c ∷ cs) = afterCalls s (afterCall s st c) cs
 -- the symbols that a call writes, and a sequence of calls
 unfoldable pub writes : Settings → State → Call → List Symbol
 writes s st (reads os ms p) = []
-writes s st (sendsClient os ms p c d) = written (clientChecked s st os ms p c d) (clientSymbols s c d)
-writes s st (sendsPause os ms p q) = written (pauseChecked s os ms p q) (pauseSymbols s q)
-writes s st (sendsPfc os ms p k) = written (pfcChecked s os ms p k) (pfcSymbols s k)
+writes s st (sendsClient os ms p c d) = written (clientChecked s st os ms p c d) (clientSymbols plainIdles s c d)
+writes s st (sendsPause os ms p q) = written (pauseChecked s os ms p q) (pauseSymbols plainIdles s q)
+writes s st (sendsPfc os ms p k) = written (pfcChecked s os ms p k) (pfcSymbols plainIdles s k)
 writes s st (fillsIdle os ms p n) = written (idleChecked os ms p n) (idleSymbols n)
 
 unfoldable pub allWritten : Settings → State → List Call → List Symbol

@@ -23,7 +23,7 @@ use Rattle.writing.specs.declared.Classes.{Classes}
 use Rattle.writing.specs.declared.Kind.the-variants.{Customer, Service}
 use Rattle.writing.specs.declared.Tag.{Tag}
 use Rattle.writing.specs.declared.Form.the-variants.{ByLength}
-use Rattle.writing.specs.Frames.{onLine, clientSymbols, pauseSymbols, pfcSymbols}
+use Rattle.writing.specs.Frames.{plainIdles, onLine, clientSymbols, pauseSymbols, pfcSymbols}
 
 -- ---- what the cases are about
 
@@ -58,7 +58,7 @@ client count =
 
 -- how many symbols it takes with a number of data octets
 unfoldable pub symbolsSent : ℕ → ℕ → ℕ
-symbolsSent tags n = length (clientSymbols (settings Off) (client tags) (replicate n 0xA5))
+symbolsSent tags n = length (clientSymbols plainIdles (settings Off) (client tags) (replicate n 0xA5))
 
 -- a run of tags, all of the provider's kind
 unfoldable pub runWith : ℕ → List ℕ
@@ -88,7 +88,7 @@ reads mode c = told (reading (settings mode) fresh (octetsOf c) (marksOf c) 0 .a
 
 -- what is read of it without data
 unfoldable pub readsTagged : ℕ → List ℕ
-readsTagged tags = reads Off (clientSymbols (settings Off) (client tags) [])
+readsTagged tags = reads Off (clientSymbols plainIdles (settings Off) (client tags) [])
 
 -- the outcome alone
 unfoldable pub outcomeRead : List Symbol → ℕ
@@ -115,22 +115,22 @@ starred =
     ∷ eqb (symbolsSent 1 0) 88
     -- "field 45 with 46 octets: rule kept, 45 handed out; field 45 with 47: broken"
     ∷ kept 0 45 46
-    ∷ sameOctets (reads Off (onLine (bodyWith 45 46))) (11 ∷ 0x400040002D ∷ 45 ∷ [])
+    ∷ sameOctets (reads Off (onLine plainIdles (bodyWith 45 46))) (11 ∷ 0x400040002D ∷ 45 ∷ [])
     ∷ not (kept 0 45 47)
-    ∷ eqb (outcomeRead (onLine (bodyWith 45 47))) 6
+    ∷ eqb (outcomeRead (onLine plainIdles (bodyWith 45 47))) 6
     -- "field 1500 with 1500: kept; field 1501 with 1501: broken"
     ∷ kept 0 1500 1500
     ∷ not (kept 0 1501 1501)
     -- "field 1535: wrong length; 1536: a type"
     ∷ not (kept 0 1535 1535)
-    ∷ eqb (outcomeRead (onLine (bodyWith 1535 46))) 6
+    ∷ eqb (outcomeRead (onLine plainIdles (bodyWith 1535 46))) 6
     ∷ kept 0 1536 46
-    ∷ eqb (outcomeRead (onLine (bodyWith 1536 46))) 11
+    ∷ eqb (outcomeRead (onLine plainIdles (bodyWith 1536 46))) 11
     -- "Start, Start, Terminate: 1, then 2"
     ∷ sameOctets (outcomesRead (asControl start ∷ asControl start ∷ asControl terminate ∷ [])) (1 ∷ 2 ∷ 0 ∷ [])
     -- "63 octets: 3, FCS not looked at": with a wrong one and with the right one
     ∷ sameOctets (reads Off (unchecked (bodyWith 46 49))) (3 ∷ 0 ∷ 0 ∷ [])
-    ∷ sameOctets (reads Off (onLine (bodyWith 46 45))) (3 ∷ 0 ∷ 0 ∷ [])
+    ∷ sameOctets (reads Off (onLine plainIdles (bodyWith 46 45))) (3 ∷ 0 ∷ 0 ∷ [])
     -- "M 1518: untagged 1519 is 4; tagged 1522 isn't": the next rule decides, since no FCS stands there
     ∷ eqb (outcomeRead (unchecked (bodyWith 0x0800 1505))) 4
     ∷ eqb (outcomeRead (unchecked (bodyWith 0x8100 1508))) 5
@@ -138,8 +138,8 @@ starred =
     ∷ eqb (slotsOf (record { 0 = 1 }) .0) 64
     ∷ eqb (slotsOf (record { 0 = 65535 }) .0) 4194240
     -- "pause to the reserved group, 64 octets: status 0x2C0040002E; PFC: 0xA40040002E"
-    ∷ sameOctets (reads Pause (pauseSymbols (settings Pause) (record { 0 = 5 }))) (8 ∷ 0x2C0040002E ∷ 0 ∷ [])
-    ∷ sameOctets (reads Pfc (pfcSymbols (settings Pfc) (record { named = 0x81; quanta = replicate 8 (record { 0 = 5 }) }))) (9 ∷ 0xA40040002E ∷ 0 ∷ [])
+    ∷ sameOctets (reads Pause (pauseSymbols plainIdles (settings Pause) (record { 0 = 5 }))) (8 ∷ 0x2C0040002E ∷ 0 ∷ [])
+    ∷ sameOctets (reads Pfc (pfcSymbols plainIdles (settings Pfc) (record { named = 0x81; quanta = replicate 8 (record { 0 = 5 }) }))) (9 ∷ 0xA40040002E ∷ 0 ∷ [])
     -- "unicast, length form, data 0, handed out: 0x4000400000"
     ∷ sameOctets (readsTagged 0) (11 ∷ 0x4000400000 ∷ 0 ∷ [])
     -- document 02, item 1, of one, two and eight tags: 4 symbols each; "Status bit 33 means exactly one tag, bit 32 two or more"
