@@ -24,7 +24,7 @@ use Rattle.station.specs.declared.Checked.{Checked}
 use Rattle.station.specs.declared.Checked.the-variants.{Refused}
 use Rattle.flow.specs.Timers.{timer}
 use Rattle.writing.specs.declared.Client.{Client}
-use Rattle.writing.specs.Frames.{clientSymbols}
+use Rattle.writing.specs.Frames.{plainIdles, clientSymbols}
 use Rattle.send.specs.Sending.{held, written, clientRefusals, clientChecked}
 use Rattle.mac.specs.Calls.{Call, reads, walks, sendsClient, sendsPause, sendsPfc, fillsIdle, afterCall, writes, setsClass, NoneSets, isClientOf, clientStarts, allClientStarts}
 use Rattle.mac.proofs.Timers.{call-lowers, timer-set}
@@ -53,7 +53,7 @@ held-writes-none st k h (walks s os ms) e = refl
 held-writes-none st k h (sendsClient s os ms p c d) e =
     let above : 0 < timer (st .timers) (c .class) .0 = subst (λ (i : ℕ). 0 < timer (st .timers) i .0) (sym (eqb-true (c .class) k e)) h in
     let refused = held-refused s st os ms p c d (lt-ltb 0 (timer (st .timers) (c .class) .0) above) in
-    ap (λ (r : Checked). written r (clientSymbols s c d)) (refused .1) ∙ (unfold written in refl)
+    ap (λ (r : Checked). written r (clientSymbols plainIdles s c d)) (refused .1) ∙ (unfold written in refl)
 held-writes-none st k h (sendsPause s os ms p q) e = absurd (false≢true e)
 held-writes-none st k h (sendsPfc s os ms p c) e = absurd (false≢true e)
 held-writes-none st k h (fillsIdle os ms p n) e = absurd (false≢true e)

@@ -25,7 +25,7 @@ use Rattle.receive.specs.Reading.{readRefusals, reading}
 use Rattle.receive.specs.Walk.{walked}
 use Rattle.writing.specs.declared.Client.{Client}
 use Rattle.writing.specs.declared.Classes.{Classes}
-use Rattle.writing.specs.Frames.{clientSymbols, pauseSymbols, pfcSymbols, idleSymbols}
+use Rattle.writing.specs.Frames.{plainIdles, clientSymbols, pauseSymbols, pfcSymbols, idleSymbols}
 use Rattle.send.specs.Sending.{Sending, written, clientChecked, pauseChecked, pfcChecked, idleChecked, clientSending, pauseSending, pfcSending, idleSending}
 
 -- a call: its settings (Idle fill has none), its octets, its marks, its place (a walk has none), and what it is asked
@@ -54,9 +54,9 @@ afterCalls st (c ∷ cs) = afterCalls (afterCall st c) cs
 unfoldable pub writes : State → Call → List Symbol
 writes st (reads s os ms p) = []
 writes st (walks s os ms) = []
-writes st (sendsClient s os ms p c d) = written (clientChecked s st os ms p c d) (clientSymbols s c d)
-writes st (sendsPause s os ms p q) = written (pauseChecked s os ms p q) (pauseSymbols s q)
-writes st (sendsPfc s os ms p k) = written (pfcChecked s os ms p k) (pfcSymbols s k)
+writes st (sendsClient s os ms p c d) = written (clientChecked s st os ms p c d) (clientSymbols plainIdles s c d)
+writes st (sendsPause s os ms p q) = written (pauseChecked s os ms p q) (pauseSymbols plainIdles s q)
+writes st (sendsPfc s os ms p k) = written (pfcChecked s os ms p k) (pfcSymbols plainIdles s k)
 writes st (fillsIdle os ms p n) = written (idleChecked os ms p n) (idleSymbols n)
 
 unfoldable pub allWritten : State → List Call → List Symbol
