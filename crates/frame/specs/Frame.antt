@@ -13,7 +13,7 @@ use Rattle.fields.specs.Fields.{dataPlace}
 unfoldable pub undersized : List ℕ → Bool
 undersized f = ltb (length f) 64
 
--- rule 4: "over the limit M, or M + 4 if tagged": by tag, and not by size
+-- rule 4: "over the limit M, or M + 4 if tagged", and by item 1 of document 02 "M grows by 4 for each tag": by tag, and not by size
 unfoldable pub oversized : ℕ → List ℕ → Bool
 oversized m f = ltb (m + 4 * tagCount f) (length f)
 
