@@ -60,8 +60,8 @@ enum { FENHAMPER_FLOW_NONE = 0, FENHAMPER_FLOW_PAUSE = 1, FENHAMPER_FLOW_PFC = 2
  *   11 to 18   the timers of classes 0 to 7, in slots
  *   19 to 23   kept for later versions; give 0. Not looked at, and written as 0
  *
- * Of a counter and of a timer the low 32 bits are read, and the rest is written as 0, by a refused call
- * too: it leaves the state as it was read. A fresh state is all zeros.
+ * Of a counter and of a timer the low 32 bits are read, and the rest is written as 0. A refused call
+ * leaves all 24 numbers as they were, to the bit. A fresh state is all zeros.
  */
 #define FENHAMPER_STATE 24
 #define FENHAMPER_COUNTERS 0

@@ -155,6 +155,10 @@ partWithin n at len = cond (leb at n && leb len (n - at)) (at ∷ len ∷ []) (0
 
 -- ---- what a call leaves behind its pointers: a record, so that a promise is one equation
 
+-- "A refused call returns the state it was given": of its refusal's number, 0 if none, of the numbers before it, and of the state after it
+unfoldable pub stateLeft : ℕ → List ℕ → State → List ℕ
+stateLeft refusal before st = cond (eqb refusal 0) (stateNumbers st) before
+
 pub record Told : Type 0 where
   pub answer : List ℕ
   pub state : List ℕ
@@ -162,12 +166,12 @@ pub record Told : Type 0 where
 abbrev pub told : List ℕ → List ℕ → Told
 told a st = record { answer = a; state = st }
 
--- of a reading, and of a walk
-unfoldable pub readTold : Reading → Told
-readTold r = told (readingNumbers r) (stateNumbers (r .state))
+-- of a reading, and of a walk, each with the numbers of the state before it
+unfoldable pub readTold : List ℕ → Reading → Told
+readTold before r = told (readingNumbers r) (stateLeft (answerRefusal (r .answer)) before (r .state))
 
-unfoldable pub walkTold : WalkEnd → Told
-walkTold w = told (walkNumbers w) (stateNumbers (w .state))
+unfoldable pub walkTold : List ℕ → WalkEnd → Told
+walkTold before w = told (walkNumbers w) (stateLeft (walkedRefusal (w .answer)) before (w .state))
 
 pub record Wrote : Type 0 where
   pub answer : List ℕ
@@ -178,6 +182,6 @@ pub record Wrote : Type 0 where
 abbrev pub wrote : List ℕ → List ℕ → List ℕ → List ℕ → Wrote
 wrote a st os ms = record { answer = a; state = st; octets = os; marks = ms }
 
--- of a sending call
-unfoldable pub sendTold : Sending → Wrote
-sendTold x = wrote (sentNumbers (x .given)) (stateNumbers (x .given .state)) (x .octets) (x .marks)
+-- of a sending call, likewise
+unfoldable pub sendTold : List ℕ → Sending → Wrote
+sendTold before x = wrote (sentNumbers (x .given)) (stateLeft (wentRefusal (x .given .answer)) before (x .given .state)) (x .octets) (x .marks)

@@ -29,7 +29,7 @@ ghost use Rattle.flow.specs.Timers.{timer};
 ghost use Rattle.receive.specs.Reading.{reading};
 ghost use Rattle.receive.specs.Walk.{walked};
 ghost use Rattle.send.specs.Sending.{clientSending, pauseSending, pfcSending, idleSending};
-ghost use Rattle.fenhamper.specs.Face.{flowOf, addressAt, settingsOf, countersOf, timersOf, stateOf, kindOf, tagAt, countedTag, tagsOf, formOf, clientOf, quantaOf, classesOf, stateNumbers, readingNumbers, walkNumbers, sentNumbers, partWithin, told, readTold, walkTold, wrote, sendTold};
+ghost use Rattle.fenhamper.specs.Face.{flowOf, addressAt, settingsOf, countersOf, timersOf, stateOf, kindOf, tagAt, countedTag, tagsOf, formOf, clientOf, quantaOf, classesOf, stateNumbers, readingNumbers, walkNumbers, sentNumbers, partWithin, stateLeft, told, readTold, walkTold, wrote, sendTold};
 
 // ---- what crosses to the module
 
@@ -341,6 +341,15 @@ fn part_within(n: usize, at: usize, len: usize) -> [u64; 2]
     [at as u64, len as u64]
 }
 
+// A refused call leaves the state's numbers as they were, to the bit.
+fn leave(state: &mut [u64; 24], refusal: u64, after: State)
+    ensures { λ _. ⌜ now (state .exit) ≡ stateLeft refusal (now (state .entry)) after ⌝ }
+{
+    if refusal == 0 {
+        *state = state_numbers(after);
+    }
+}
+
 // ---- the exported functions
 
 #[no_mangle]
@@ -374,11 +383,11 @@ pub extern "C" fn fenhamper_read(
     answer: &mut [u64; 8],
 )
     ensures { λ _. ⌜ told (now (answer .exit)) (now (state .exit))
-        ≡ readTold (reading (settingsOf (now (s .entry))) (stateOf (now (state .entry))) (now (octets .entry)) (now (marks .entry)) place) ⌝ }
+        ≡ readTold (now (state .entry)) (reading (settingsOf (now (s .entry))) (stateOf (now (state .entry))) (now (octets .entry)) (now (marks .entry)) place) ⌝ }
 {
     let r = receive::read(settings(s), state_of(state), octets, marks, place);
     *answer = reading_numbers(r);
-    *state = state_numbers(r.state);
+    leave(state, answer[0], r.state);
 }
 
 #[no_mangle]
@@ -402,11 +411,11 @@ pub extern "C" fn fenhamper_walk(
     answer: &mut [u64; 3],
 )
     ensures { λ _. ⌜ told (now (answer .exit)) (now (state .exit))
-        ≡ walkTold (walked (settingsOf (now (s .entry))) (stateOf (now (state .entry))) (now (octets .entry)) (now (marks .entry))) ⌝ }
+        ≡ walkTold (now (state .entry)) (walked (settingsOf (now (s .entry))) (stateOf (now (state .entry))) (now (octets .entry)) (now (marks .entry))) ⌝ }
 {
     let w = receive::walk(settings(s), state_of(state), octets, marks);
     *answer = walk_numbers(w);
-    *state = state_numbers(w.state);
+    leave(state, answer[0], w.state);
 }
 
 #[no_mangle]
@@ -421,7 +430,7 @@ pub extern "C" fn fenhamper_send_client(
     answer: &mut [u64; 2],
 )
     ensures { λ _. ⌜ wrote (now (answer .exit)) (now (state .exit)) (now (octets .exit)) (now (marks .exit))
-        ≡ sendTold (clientSending (settingsOf (now (s .entry))) (stateOf (now (state .entry))) (now (octets .entry)) (now (marks .entry)) place (clientOf (now (frame .entry))) (now («data» .entry))) ⌝ }
+        ≡ sendTold (now (state .entry)) (clientSending (settingsOf (now (s .entry))) (stateOf (now (state .entry))) (now (octets .entry)) (now (marks .entry)) place (clientOf (now (frame .entry))) (now («data» .entry))) ⌝ }
 {
     let r = send::send_client(
         settings(s),
@@ -433,7 +442,7 @@ pub extern "C" fn fenhamper_send_client(
         data,
     );
     *answer = sent_numbers(r);
-    *state = state_numbers(r.state);
+    leave(state, answer[0], r.state);
 }
 
 #[no_mangle]
@@ -447,7 +456,7 @@ pub extern "C" fn fenhamper_send_pause(
     answer: &mut [u64; 2],
 )
     ensures { λ _. ⌜ wrote (now (answer .exit)) (now (state .exit)) (now (octets .exit)) (now (marks .exit))
-        ≡ sendTold (pauseSending (settingsOf (now (s .entry))) (stateOf (now (state .entry))) (now (octets .entry)) (now (marks .entry)) place (quantaOf quanta)) ⌝ }
+        ≡ sendTold (now (state .entry)) (pauseSending (settingsOf (now (s .entry))) (stateOf (now (state .entry))) (now (octets .entry)) (now (marks .entry)) place (quantaOf quanta)) ⌝ }
 {
     let r = send::send_pause(
         settings(s),
@@ -458,7 +467,7 @@ pub extern "C" fn fenhamper_send_pause(
         Quanta(quanta),
     );
     *answer = sent_numbers(r);
-    *state = state_numbers(r.state);
+    leave(state, answer[0], r.state);
 }
 
 #[no_mangle]
@@ -473,7 +482,7 @@ pub extern "C" fn fenhamper_send_pfc(
     answer: &mut [u64; 2],
 )
     ensures { λ _. ⌜ wrote (now (answer .exit)) (now (state .exit)) (now (octets .exit)) (now (marks .exit))
-        ≡ sendTold (pfcSending (settingsOf (now (s .entry))) (stateOf (now (state .entry))) (now (octets .entry)) (now (marks .entry)) place (classesOf named (now (quanta .entry)))) ⌝ }
+        ≡ sendTold (now (state .entry)) (pfcSending (settingsOf (now (s .entry))) (stateOf (now (state .entry))) (now (octets .entry)) (now (marks .entry)) place (classesOf named (now (quanta .entry)))) ⌝ }
 {
     let r = send::send_pfc(
         settings(s),
@@ -484,7 +493,7 @@ pub extern "C" fn fenhamper_send_pfc(
         classes(named, quanta),
     );
     *answer = sent_numbers(r);
-    *state = state_numbers(r.state);
+    leave(state, answer[0], r.state);
 }
 
 #[no_mangle]
@@ -497,9 +506,9 @@ pub extern "C" fn fenhamper_fill_idle(
     answer: &mut [u64; 2],
 )
     ensures { λ _. ⌜ wrote (now (answer .exit)) (now (state .exit)) (now (octets .exit)) (now (marks .exit))
-        ≡ sendTold (idleSending (stateOf (now (state .entry))) (now (octets .entry)) (now (marks .entry)) place idles) ⌝ }
+        ≡ sendTold (now (state .entry)) (idleSending (stateOf (now (state .entry))) (now (octets .entry)) (now (marks .entry)) place idles) ⌝ }
 {
     let r = send::fill_idle(state_of(state), octets, marks, place, idles);
     *answer = sent_numbers(r);
-    *state = state_numbers(r.state);
+    leave(state, answer[0], r.state);
 }
