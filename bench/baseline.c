@@ -1,7 +1,7 @@
 /*
  * A reader in C to compare with, as one writes it for speed with what is at hand: memchr for the next Start and for the end of a
  * long run, words of eight octets for that of a short one, and a CRC that is zlib's (with ZLIB) or one of its own by slicing by 16.
- * It follows document 01 and item 1 of document 02 with the printing program's settings, but for the limit M, which is named, and it
+ * It follows document 01 and items 1 to 3 of document 02 with the printing program's settings, but for the limit M, which is named, and it
  * counts outcomes. Little-endian only.
  */
 #include <stddef.h>

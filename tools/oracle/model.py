@@ -1,4 +1,4 @@
-"""An independent model of document 01 with item 1 of document 02, written from their text alone and not from the definitions in crates/*/specs.
+"""An independent model of document 01 with items 1 to 3 of document 02, written from their text alone and not from the definitions in crates/*/specs.
 
 Each piece stands under the sentence of the documents that it renders. The check is zlib's crc32, not a loop of our own.
 """

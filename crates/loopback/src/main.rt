@@ -1,4 +1,4 @@
-// What is sent is read back from behind damaged symbols (document 01, demand 1). Each frame of a capture is written by the sending calls,
+// What is sent is read back from behind damaged symbols (demand 3). Each frame of a capture is written by the sending calls,
 // and the readings from place 0 and the walk are printed; tools/oracle/loopback.py works the expected lines out from the oracle's model.
 use receive::Answer;
 use receive::Walked;

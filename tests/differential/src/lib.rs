@@ -1,5 +1,5 @@
 //! The proved library, through its Rust face, against the reference implementation of document 01
-//! and of item 1 of document 02, on drawn inputs.
+//! and of items 1 to 3 of document 02, on drawn inputs.
 #![forbid(unsafe_code)]
 #![warn(missing_docs)]
 

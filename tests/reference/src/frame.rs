@@ -1,5 +1,6 @@
 //! "Frame": a captured frame taken apart, with the "Length rule"; tags by
-//! "Stacked tags", item 1 of document 02.
+//! "Stacked tags", item 1 of document 02, and "Short tagged frames from
+//! bridges", item 2.
 
 use crate::check::{fcs, Check};
 use crate::line::{is_group, is_tag, BROADCAST, CONTROL_FIELD, FCS_LEN, FIRST_TYPE, LAST_LENGTH};

@@ -1,4 +1,4 @@
-//! The rules of document 01 and of item 1 of document 02, one module for each
+//! The rules of document 01 and of items 1 to 3 of document 02, one module for each
 //! part.
 
 mod bench;
