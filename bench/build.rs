@@ -1,4 +1,5 @@
 //! Compiles the C baseline, with zlib too where it is installed, and notes the tools' versions.
+//! CC and AR name other tools than gcc and ar.
 use std::env;
 use std::fs;
 use std::path::{Path, PathBuf};
@@ -22,8 +23,19 @@ fn succeeds(command: &mut Command) -> bool {
     })
 }
 
+// The tool that a variable names, or the usual one.
+fn tool(variable: &str, usual: &str) -> String {
+    println!("cargo:rerun-if-env-changed={variable}");
+    let named = env::var(variable).ok().filter(|name| !name.is_empty());
+    named.unwrap_or_else(|| usual.to_owned())
+}
+
+fn compiler() -> String {
+    tool("CC", "gcc")
+}
+
 fn compile(folder: &Path, object: &str, more: &[&str]) -> bool {
-    let mut gcc = Command::new("gcc");
+    let mut gcc = Command::new(compiler());
     gcc.args(FLAGS).args(more).arg("-c").arg(SOURCE);
     succeeds(gcc.arg("-o").arg(folder.join(object)))
 }
@@ -35,7 +47,7 @@ fn has_zlib(folder: &Path) -> bool {
     if fs::write(&probe, text).is_err() {
         return false;
     }
-    let mut gcc = Command::new("gcc");
+    let mut gcc = Command::new(compiler());
     succeeds(
         gcc.arg(&probe)
             .arg("-o")
@@ -58,25 +70,29 @@ fn main() {
     println!("cargo:rustc-check-cfg=cfg(zlib)");
     let folder = PathBuf::from(env::var_os("OUT_DIR").unwrap_or_default());
     if !compile(&folder, "slicing.o", &[]) {
-        fail("gcc could not compile baseline.c");
+        fail(&format!("{} could not compile {SOURCE}", compiler()));
     }
     let mut objects = vec!["slicing.o"];
-    if has_zlib(&folder) && compile(&folder, "zlib.o", &["-DZLIB"]) {
+    let zlib = has_zlib(&folder) && compile(&folder, "zlib.o", &["-DZLIB"]);
+    if zlib {
         objects.push("zlib.o");
-        println!("cargo:rustc-cfg=zlib");
-        println!("cargo:rustc-link-lib=z");
     }
     // an archive of an earlier build may hold an object that is no longer wanted
     let archive = folder.join("libbaseline.a");
     let _ = fs::remove_file(&archive);
-    let mut ar = Command::new("ar");
+    let mut ar = Command::new(tool("AR", "ar"));
     ar.arg("crs").arg("libbaseline.a").args(objects);
     if !succeeds(ar.current_dir(&folder)) {
         fail("ar could not make an archive");
     }
     println!("cargo:rustc-link-search=native={}", folder.display());
     println!("cargo:rustc-link-lib=static=baseline");
+    // behind the archive that calls it, since some linkers go by the order
+    if zlib {
+        println!("cargo:rustc-link-lib=z");
+        println!("cargo:rustc-cfg=zlib");
+    }
     let rustc = env::var("RUSTC").unwrap_or_else(|_| "rustc".to_owned());
     println!("cargo:rustc-env=BENCH_RUSTC={}", version(&rustc));
-    println!("cargo:rustc-env=BENCH_GCC={}", version("gcc"));
+    println!("cargo:rustc-env=BENCH_GCC={}", version(&compiler()));
 }

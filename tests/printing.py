@@ -24,6 +24,7 @@ from model import (BROADCAST, IDLE, MOST_RECORDS, PREAMBLE, PRINTING, RESERVED_G
 SLOW = 5  # seconds that 32,768 Starts may take: far above what they do, so that no busy machine fails this
 HANGS = 60  # seconds after which a program is given up
 SMALL = 2000  # octets: up to here pieces are of 1 to 7 octets, above it longer
+RUN = ROOT / "tools" / "run_x86_64"  # what rt builds is for x86-64
 SOURCE = [2, 0, 0, 0, 0, 9]
 STARTS = "32,768 Starts"
 
@@ -103,7 +104,7 @@ def whole(program, data, _):
     with tempfile.TemporaryFile() as file:
         file.write(data)
         file.seek(0)
-        p = subprocess.run([program], stdin=file, capture_output=True, timeout=HANGS)
+        p = subprocess.run([RUN, program], stdin=file, capture_output=True, timeout=HANGS)
     return p.stdout, p.stderr, p.returncode
 
 
@@ -129,7 +130,7 @@ def hand_over(p, data, longest, rng):
 
 def in_pieces(program, data, rng):
     longest = 7 if len(data) <= SMALL else len(data) // 15
-    with subprocess.Popen([program], stdin=subprocess.PIPE, stdout=subprocess.PIPE, stderr=subprocess.PIPE, bufsize=0) as p:
+    with subprocess.Popen([RUN, program], stdin=subprocess.PIPE, stdout=subprocess.PIPE, stderr=subprocess.PIPE, bufsize=0) as p:
         try:
             hand_over(p, data, longest, rng)
             out, err = p.communicate(timeout=HANGS)

@@ -26,11 +26,25 @@ fn make(root: &Path) {
     }
 }
 
+// The archive is for x86-64. A build for another processor is told so before its linker fails.
+fn tell_other_processors(root: &Path) {
+    let processor = env::var("CARGO_CFG_TARGET_ARCH").unwrap_or_default();
+    if processor != "x86_64" {
+        let platform = root.join("tools/platform.sh");
+        println!(
+            "cargo:warning={ARCHIVE} is for x86-64, and this build for {processor}; a shell that has \
+             sourced {} builds for x86-64, and emulates",
+            platform.display()
+        );
+    }
+}
+
 fn main() {
     let package = PathBuf::from(env::var_os("CARGO_MANIFEST_DIR").unwrap_or_default());
     let root = package.join("../..");
     println!("cargo:rerun-if-changed=build.rs");
     println!("cargo:rerun-if-env-changed={LIB_DIR}");
+    tell_other_processors(&root);
     let folder = match env::var_os(LIB_DIR) {
         // a relative folder is taken from this package's
         Some(named) => package.join(named),

@@ -12,6 +12,8 @@ use std::process::{Command, Stdio};
 use std::thread;
 use std::time::Duration;
 
+/// Runs the program, which is for x86-64, on any processor.
+const RUN: &str = "../../tools/run_x86_64";
 /// Most records that the program reads.
 const RECORDS: usize = 32_768;
 /// Inputs drawn, besides those at the limits.
@@ -36,7 +38,8 @@ fn program() -> Option<PathBuf> {
 
 /// What the program prints for an input that comes in pieces of this size.
 fn printed(program: &Path, input: &[u8], piece: usize) -> String {
-    let mut child = Command::new(program)
+    let mut child = Command::new(RUN)
+        .arg(program)
         .stdin(Stdio::piped())
         .stdout(Stdio::piped())
         .spawn()
