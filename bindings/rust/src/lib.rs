@@ -36,4 +36,4 @@ pub use tag::{Tag, TagKind};
 /// let walk = capture.walk(&Settings::default(), &mut State::default());
 /// assert_eq!(walk, Err(Refusal::BadBuffers));
 /// ```
-pub const SYMBOLS: usize = sys::SYMBOLS;
+pub const SYMBOLS: usize = sys::MOST_SYMBOLS;

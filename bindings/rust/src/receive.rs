@@ -56,30 +56,21 @@ impl<'a> Capture<'a> {
         state: &mut State,
         place: usize,
     ) -> Result<Reading<'a>, Refusal> {
-        self.read_as(settings.octets(), state, place)
-    }
-
-    // A reading with settings that are laid out already.
-    fn read_as(
-        &self,
-        settings: &[u8; sys::SETTINGS],
-        state: &mut State,
-        place: usize,
-    ) -> Result<Reading<'a>, Refusal> {
-        let r = sys::read(settings, state.numbers(), self.octets, self.marks, place);
-        Refusal::check(r[sys::READING_REFUSAL])?;
-        let start = r[sys::READING_START] as usize;
-        match r[sys::READING_KIND] {
+        let (settings, state) = (settings.record(), state.record());
+        let r = sys::read(settings, state, self.octets, self.marks, place);
+        Refusal::check(r.refusal)?;
+        let start = r.start as usize;
+        match r.kind {
             sys::COUNTED => {
-                let number = u8::try_from(r[sys::READING_OUTCOME]).unwrap_or(0);
-                let at = r[sys::READING_AT] as usize;
+                let number = u8::try_from(r.outcome).unwrap_or(0);
+                let at = r.data_place as usize;
                 Ok(Reading::Counted(Counted {
                     start,
-                    next: r[sys::READING_NEXT] as usize,
+                    next: r.next as usize,
                     outcome: Outcome::from_number(number).ok_or(Refusal::Unknown(0))?,
-                    status: Status::new(r[sys::READING_STATUS]),
+                    status: Status::new(r.status),
                     at,
-                    data: self.part(at, r[sys::READING_LENGTH] as usize),
+                    data: self.part(at, r.data_length as usize),
                 }))
             }
             sys::NONE => Ok(Reading::Nothing { end: start }),
@@ -90,8 +81,9 @@ impl<'a> Capture<'a> {
 
     // The octets of a part; none where it does not lie inside.
     fn part(&self, at: usize, length: usize) -> &'a [u8] {
-        let [at, length] = sys::client_data(self.octets.len(), at, length).map(|n| n as usize);
-        let inside = self.octets.get(at..).and_then(|from| from.get(..length));
+        let part = sys::client_data(self.octets.len(), at, length);
+        let from = self.octets.get(part.place as usize..);
+        let inside = from.and_then(|from| from.get(..part.length as usize));
         inside.unwrap_or_default()
     }
 
@@ -109,11 +101,11 @@ impl<'a> Capture<'a> {
     /// # Ok::<(), fenhamper::Refusal>(())
     /// ```
     pub fn walk(&self, settings: &Settings, state: &mut State) -> Result<Walk, Refusal> {
-        let w = sys::walk(settings.octets(), state.numbers(), self.octets, self.marks);
-        Refusal::check(w[sys::WALK_REFUSAL])?;
+        let w = sys::walk(settings.record(), state.record(), self.octets, self.marks);
+        Refusal::check(w.refusal)?;
         Ok(Walk {
-            starts: w[sys::WALK_STARTS] as usize,
-            open: w[sys::WALK_OPEN] != 0,
+            starts: w.starts as usize,
+            open: w.open != 0,
         })
     }
 
@@ -138,7 +130,7 @@ impl<'a> Capture<'a> {
     pub fn readings<'s>(&self, settings: &Settings, state: &'s mut State) -> Readings<'a, 's> {
         Readings {
             capture: *self,
-            settings: *settings.octets(),
+            settings: *settings,
             state,
             place: 0,
             stage: Stage::Going,
@@ -266,7 +258,7 @@ enum Stage {
 #[must_use]
 pub struct Readings<'a, 's> {
     capture: Capture<'a>,
-    settings: [u8; sys::SETTINGS],
+    settings: Settings,
     state: &'s mut State,
     place: usize,
     stage: Stage,
@@ -305,7 +297,7 @@ impl<'a> Iterator for Readings<'a, '_> {
         if self.stage != Stage::Going {
             return None;
         }
-        let reading = self.capture.read_as(&self.settings, self.state, self.place);
+        let reading = self.capture.read(&self.settings, self.state, self.place);
         match reading {
             Ok(Reading::Counted(counted)) => {
                 self.place = counted.next;

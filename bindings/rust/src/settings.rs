@@ -22,6 +22,16 @@ impl Address {
 
     /// The reserved group that pause and PFC frames go to.
     pub const PAUSE_GROUP: Address = Address([0x01, 0x80, 0xC2, 0x00, 0x00, 0x01]);
+
+    // As the header lays it out.
+    pub(crate) const fn record(self) -> sys::Address {
+        sys::Address { octets: self.0 }
+    }
+
+    // The address that the header lays out so.
+    pub(crate) const fn of(record: sys::Address) -> Address {
+        Address(record.octets)
+    }
 }
 
 impl From<[u8; 6]> for Address {
@@ -62,7 +72,7 @@ pub enum Flow {
 }
 
 impl Flow {
-    // Of the number in a settings' octets.
+    // Of the number in the record.
     const fn of(number: u8) -> Flow {
         match number {
             sys::FLOW_PAUSE => Flow::Pause,
@@ -89,23 +99,27 @@ impl Flow {
 #[must_use]
 pub struct Settings {
     // as the header lays them out: a call lends them as they are
-    octets: [u8; sys::SETTINGS],
+    record: sys::Settings,
 }
 
 impl Settings {
     /// The printing program's settings with this own address: none listed, broadcast on,
     /// promiscuous off, lengths checked, control frames not passed, flow mode none, M 1518.
     pub const fn new(own: Address) -> Settings {
-        let mut octets = [0; sys::SETTINGS];
-        let mut k = 0;
-        while k < own.0.len() {
-            octets[sys::OWN + k] = own.0[k];
-            k += 1;
+        Settings {
+            record: sys::Settings {
+                own: own.record(),
+                listed: [Address([0; 6]).record(); sys::MOST_LISTED],
+                listed_count: 0,
+                broadcast: 1,
+                promiscuous: 0,
+                checking: 1,
+                pass_control: 0,
+                flow: sys::FLOW_NONE,
+                limit: sys::LEAST_LIMIT,
+                spare: [0; 10],
+            },
         }
-        Settings { octets }
-            .broadcast(true)
-            .checking(true)
-            .limit(1518)
     }
 
     /// Accepts these addresses too, in place of those listed before. There is room for four; with
@@ -123,88 +137,80 @@ impl Settings {
     /// );
     /// ```
     pub fn listed(mut self, addresses: &[Address]) -> Settings {
-        let listed = &mut self.octets[sys::LISTED..][..24];
-        listed.fill(0);
-        for (entry, address) in listed.chunks_exact_mut(6).zip(addresses) {
-            entry.copy_from_slice(&address.0);
+        self.record.listed = [Address([0; 6]).record(); sys::MOST_LISTED];
+        for (entry, address) in self.record.listed.iter_mut().zip(addresses) {
+            *entry = address.record();
         }
         self.listed_count(u8::try_from(addresses.len()).unwrap_or(u8::MAX))
     }
 
     /// How many of the four listed addresses count, from the front; above 4 the settings are
     /// refused (1). [`listed`](Settings::listed) sets it already: this one is for tests.
-    pub const fn listed_count(self, count: u8) -> Settings {
-        self.with(sys::LISTED_COUNT, count)
+    pub const fn listed_count(mut self, count: u8) -> Settings {
+        self.record.listed_count = count;
+        self
     }
 
     /// Whether broadcast is accepted.
-    pub const fn broadcast(self, on: bool) -> Settings {
-        self.with(sys::BROADCAST, on as u8)
+    pub const fn broadcast(mut self, on: bool) -> Settings {
+        self.record.broadcast = on as u8;
+        self
     }
 
     /// Whether every destination is accepted.
-    pub const fn promiscuous(self, on: bool) -> Settings {
-        self.with(sys::PROMISCUOUS, on as u8)
+    pub const fn promiscuous(mut self, on: bool) -> Settings {
+        self.record.promiscuous = on as u8;
+        self
     }
 
     /// Whether lengths are checked, and padding is left off what is handed out.
-    pub const fn checking(self, on: bool) -> Settings {
-        self.with(sys::CHECKING, on as u8)
+    pub const fn checking(mut self, on: bool) -> Settings {
+        self.record.checking = on as u8;
+        self
     }
 
     /// The limit M on a frame's octets from destination to FCS, which grows by 4 for each tag of a
     /// frame; outside 1518 to 9618 the settings are refused (1).
-    pub const fn limit(self, limit: u16) -> Settings {
-        let [high, low] = limit.to_be_bytes();
-        self.with(sys::LIMIT, high).with(sys::LIMIT + 1, low)
+    pub const fn limit(mut self, limit: u16) -> Settings {
+        self.record.limit = limit;
+        self
     }
 
     /// The flow mode.
-    pub const fn flow(self, flow: Flow) -> Settings {
-        self.with(
-            sys::FLOW,
-            match flow {
-                Flow::Off => sys::FLOW_NONE,
-                Flow::Pause => sys::FLOW_PAUSE,
-                Flow::Pfc => sys::FLOW_PFC,
-            },
-        )
+    pub const fn flow(mut self, flow: Flow) -> Settings {
+        self.record.flow = match flow {
+            Flow::Off => sys::FLOW_NONE,
+            Flow::Pause => sys::FLOW_PAUSE,
+            Flow::Pfc => sys::FLOW_PFC,
+        };
+        self
     }
 
     /// Whether control frames that are not taken are handed out.
-    pub const fn pass_control(self, on: bool) -> Settings {
-        self.with(sys::PASS_CONTROL, on as u8)
-    }
-
-    const fn with(mut self, place: usize, octet: u8) -> Settings {
-        self.octets[place] = octet;
+    pub const fn pass_control(mut self, on: bool) -> Settings {
+        self.record.pass_control = on as u8;
         self
     }
 
     // As the header lays them out.
-    pub(crate) const fn octets(&self) -> &[u8; sys::SETTINGS] {
-        &self.octets
+    pub(crate) const fn record(&self) -> &sys::Settings {
+        &self.record
     }
 }
 
 impl fmt::Debug for Settings {
     fn fmt(&self, f: &mut fmt::Formatter<'_>) -> fmt::Result {
-        let o = &self.octets;
-        let address = |at: usize| Address(std::array::from_fn(|k| o[at + k]));
-        let listed: [Address; 4] = std::array::from_fn(|k| address(sys::LISTED + 6 * k));
+        let r = &self.record;
         f.debug_struct("Settings")
-            .field("own", &address(sys::OWN))
-            .field("listed", &listed)
-            .field("listed_count", &o[sys::LISTED_COUNT])
-            .field("broadcast", &(o[sys::BROADCAST] != 0))
-            .field("promiscuous", &(o[sys::PROMISCUOUS] != 0))
-            .field("checking", &(o[sys::CHECKING] != 0))
-            .field("pass_control", &(o[sys::PASS_CONTROL] != 0))
-            .field("flow", &Flow::of(o[sys::FLOW]))
-            .field(
-                "limit",
-                &u16::from_be_bytes([o[sys::LIMIT], o[sys::LIMIT + 1]]),
-            )
+            .field("own", &Address::of(r.own))
+            .field("listed", &r.listed.map(Address::of))
+            .field("listed_count", &r.listed_count)
+            .field("broadcast", &(r.broadcast != 0))
+            .field("promiscuous", &(r.promiscuous != 0))
+            .field("checking", &(r.checking != 0))
+            .field("pass_control", &(r.pass_control != 0))
+            .field("flow", &Flow::of(r.flow))
+            .field("limit", &r.limit)
             .finish()
     }
 }

@@ -22,8 +22,8 @@ use std::fmt;
 /// ```
 #[derive(Clone, PartialEq, Eq, Hash)]
 pub struct State {
-    // as the header lays them out
-    numbers: [u64; sys::STATE],
+    // as the header lays it out
+    record: sys::State,
 }
 
 impl State {
@@ -41,15 +41,15 @@ impl State {
     /// assert_eq!(State::with([0; 11], [0; 8]), State::default());
     /// ```
     pub fn with(counters: [u32; 11], timers: [u32; 8]) -> State {
-        let mut numbers = sys::fresh_state();
-        numbers[sys::COUNTERS..][..11].copy_from_slice(&counters.map(u64::from));
-        numbers[sys::TIMERS..][..8].copy_from_slice(&timers.map(u64::from));
-        State { numbers }
+        let mut record = sys::fresh_state();
+        record.counters = counters.map(u64::from);
+        record.timers = timers.map(u64::from);
+        State { record }
     }
 
     /// How many Starts had this outcome, modulo 2^32.
     pub fn counter(&self, outcome: Outcome) -> u64 {
-        self.numbers[sys::COUNTERS + usize::from(outcome.number() - 1)]
+        self.record.counters[usize::from(outcome.number() - 1)]
     }
 
     /// All counters, in the order of the outcomes.
@@ -61,13 +61,11 @@ impl State {
     /// The timers of classes 0 to 7, in slots. A slot is one symbol written: a class is let go once
     /// its timer's slots are written.
     pub fn timers(&self) -> [u64; 8] {
-        let mut timers = [0; 8];
-        timers.copy_from_slice(&self.numbers[sys::TIMERS..][..8]);
-        timers
+        self.record.timers
     }
 
-    pub(crate) fn numbers(&mut self) -> &mut [u64; sys::STATE] {
-        &mut self.numbers
+    pub(crate) fn record(&mut self) -> &mut sys::State {
+        &mut self.record
     }
 }
 
@@ -75,7 +73,7 @@ impl State {
 impl Default for State {
     fn default() -> State {
         State {
-            numbers: sys::fresh_state(),
+            record: sys::fresh_state(),
         }
     }
 }
