@@ -1,8 +1,11 @@
 //! Holds `sys.rs` and the numbers of outcomes and refusals to the header, which no compiler does.
 use crate::{Outcome, Refusal};
 use std::collections::{BTreeMap, BTreeSet};
+use std::format;
+use std::string::{String, ToString};
+use std::vec::Vec;
 
-const HEADER: &str = include_str!("../../../include/fenhamper.h");
+const HEADER: &str = include_str!("../fenhamper.h");
 const SYS: &str = include_str!("sys.rs");
 
 // The header with its comments taken out.

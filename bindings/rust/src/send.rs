@@ -1,11 +1,30 @@
 //! Sending frames.
+use crate::address::Address;
 use crate::answers::Refusal;
 use crate::receive::Capture;
-use crate::settings::{Address, Settings};
+use crate::settings::Settings;
 use crate::state::State;
 use crate::sys;
-use crate::tag::Tag;
-use std::fmt;
+use crate::tag::{List, Tag};
+use core::array;
+use core::fmt;
+
+/// The form of a client frame: what its field is.
+///
+/// ```
+/// use fenhamper::{Address, Form, Frame};
+///
+/// let frame = Frame::to(Address::BROADCAST);
+/// assert_eq!(frame.form(), Form::Length);
+/// assert_eq!(frame.by_type(0x0800).form(), Form::Type(0x0800));
+/// ```
+#[derive(Clone, Copy, Debug, PartialEq, Eq, Hash)]
+pub enum Form {
+    /// The data's length.
+    Length,
+    /// This type.
+    Type(u16),
+}
 
 /// A client frame but for its data: untagged, in the length form and of class 0 unless said
 /// otherwise. Its source is the own address.
@@ -22,7 +41,7 @@ use std::fmt;
 /// assert_eq!(
 ///     format!("{:?}", tagged.by_type(0x0800)),
 ///     "Frame { to: Address(02-00-00-00-00-09), tags: [Tag { kind: Customer, control: 57349 }], \
-///      tag_count: 1, by_type: Some(2048), class: 0 }"
+///      tag_count: 1, form: Type(2048), class: 0 }"
 /// );
 /// ```
 #[derive(Clone, Copy, PartialEq, Eq, Hash)]
@@ -126,6 +145,50 @@ impl Frame {
         self.with(sys::CLIENT_CLASS, &[class])
     }
 
+    /// The destination.
+    ///
+    /// ```
+    /// use fenhamper::{Address, Form, Frame, Tag};
+    ///
+    /// let tags = [Tag::service(100), Tag::customer(5)];
+    /// let frame = Frame::to(Address::BROADCAST).tags(&tags).class(3);
+    /// assert_eq!(frame.destination(), Address::BROADCAST);
+    /// assert!(frame.tag_list().eq(tags));
+    /// assert_eq!((frame.form(), frame.class_number()), (Form::Length, 3));
+    /// ```
+    #[must_use]
+    pub fn destination(&self) -> Address {
+        let place = sys::CLIENT_DESTINATION;
+        Address(array::from_fn(|k| self.octets[place + k]))
+    }
+
+    /// The tags, the outermost first: none beyond the eighth, though more are refused.
+    pub fn tag_list(&self) -> impl Iterator<Item = Tag> + Clone + '_ {
+        let places = self.octets[sys::CLIENT_TAG..].chunks_exact(sys::TAG);
+        places
+            .take(self.octets[sys::CLIENT_TAGS].into())
+            .map(Tag::of)
+    }
+
+    /// The form.
+    #[must_use]
+    pub const fn form(&self) -> Form {
+        let field = [
+            self.octets[sys::CLIENT_TYPE],
+            self.octets[sys::CLIENT_TYPE + 1],
+        ];
+        match self.octets[sys::CLIENT_FORM] {
+            0 => Form::Length,
+            _ => Form::Type(u16::from_be_bytes(field)),
+        }
+    }
+
+    /// The class.
+    #[must_use]
+    pub const fn class_number(&self) -> u8 {
+        self.octets[sys::CLIENT_CLASS]
+    }
+
     // With these octets from a place of the record on.
     const fn with(mut self, place: usize, octets: &[u8]) -> Frame {
         let mut k = 0;
@@ -139,20 +202,12 @@ impl Frame {
 
 impl fmt::Debug for Frame {
     fn fmt(&self, f: &mut fmt::Formatter<'_>) -> fmt::Result {
-        let o = &self.octets;
-        let places = o[sys::CLIENT_TAG..].chunks_exact(sys::TAG);
-        let tags: Vec<Tag> = places
-            .take(o[sys::CLIENT_TAGS].into())
-            .map(Tag::of)
-            .collect();
-        let field = u16::from_be_bytes([o[sys::CLIENT_TYPE], o[sys::CLIENT_TYPE + 1]]);
-        let to = std::array::from_fn(|k| o[sys::CLIENT_DESTINATION + k]);
         f.debug_struct("Frame")
-            .field("to", &Address(to))
-            .field("tags", &tags)
-            .field("tag_count", &o[sys::CLIENT_TAGS])
-            .field("by_type", &(o[sys::CLIENT_FORM] != 0).then_some(field))
-            .field("class", &o[sys::CLIENT_CLASS])
+            .field("to", &self.destination())
+            .field("tags", &List(self.tag_list()))
+            .field("tag_count", &self.octets[sys::CLIENT_TAGS])
+            .field("form", &self.form())
+            .field("class", &self.class_number())
             .finish()
     }
 }
@@ -218,6 +273,7 @@ impl<'b> Sender<'b> {
     }
 
     /// Where the next symbols go.
+    #[must_use]
     pub fn place(&self) -> usize {
         self.place
     }
@@ -238,10 +294,25 @@ impl<'b> Sender<'b> {
         Capture::new(self.octets, self.marks)
     }
 
-    /// Writes a client frame and its gap, unless the timer of its class is above zero (9).
+    /// The symbols before the place: what was written, if the sender began at place 0.
     ///
-    /// Refused are 1 to 3 and 5 to 10, the lowest number first, but that 10 comes after 6 and before
-    /// 7.
+    /// ```
+    /// use fenhamper::{Sender, State};
+    ///
+    /// let (mut octets, mut marks) = ([0; 4], [0; 4]);
+    /// let mut sender = Sender::new(&mut octets, &mut marks);
+    /// sender.idle(&mut State::default(), 3)?;
+    /// assert_eq!(sender.written().octets, [7, 7, 7]);
+    /// # Ok::<(), fenhamper::Refusal>(())
+    /// ```
+    #[must_use]
+    pub fn written(&self) -> Capture<'_> {
+        let octets = self.octets.get(..self.place).unwrap_or(self.octets);
+        let marks = self.marks.get(..self.place).unwrap_or(self.marks);
+        Capture::new(octets, marks)
+    }
+
+    /// Writes a client frame and its gap, unless the timer of its class is above zero (9).
     ///
     /// ```
     /// use fenhamper::{Address, Frame, Refusal, Sender, Settings, State};
@@ -263,6 +334,10 @@ impl<'b> Sender<'b> {
     /// );
     /// # Ok::<(), Refusal>(())
     /// ```
+    ///
+    /// # Errors
+    ///
+    /// Refusals 1 to 3 and 5 to 10, the lowest number first, but that 10 comes after 6 and before 7.
     pub fn client(
         &mut self,
         settings: &Settings,
@@ -298,6 +373,10 @@ impl<'b> Sender<'b> {
     /// assert_eq!(state.timers(), [128; 8]);
     /// # Ok::<(), Refusal>(())
     /// ```
+    ///
+    /// # Errors
+    ///
+    /// Refusals 1 to 4 and 8, the lowest number first.
     pub fn pause(
         &mut self,
         settings: &Settings,
@@ -336,6 +415,10 @@ impl<'b> Sender<'b> {
     /// assert_eq!(state.timers(), [64, 0, 0, 0, 0, 0, 0, 512]);
     /// # Ok::<(), Refusal>(())
     /// ```
+    ///
+    /// # Errors
+    ///
+    /// Refusals 1 to 4 and 8, the lowest number first.
     pub fn pfc(
         &mut self,
         settings: &Settings,
@@ -355,7 +438,11 @@ impl<'b> Sender<'b> {
         self.moved(sent)
     }
 
-    /// Writes `n` Idles. Refused are 2, 3 and 8.
+    /// Writes `n` Idles.
+    ///
+    /// # Errors
+    ///
+    /// Refusals 2, 3 and 8, the lowest number first.
     pub fn idle(&mut self, state: &mut State, n: usize) -> Result<usize, Refusal> {
         let sent = sys::fill_idle(state.numbers(), self.octets, self.marks, self.place, n);
         self.moved(sent)

@@ -1,47 +1,9 @@
 //! What a station is set to.
+use crate::address::Address;
+use crate::limits;
 use crate::sys;
-use std::fmt;
-
-/// A station's or a group's address: six octets, in the order on the line.
-///
-/// ```
-/// use fenhamper::Address;
-///
-/// assert_eq!(
-///     Address([0x02, 0, 0, 0, 0xAB, 1]).to_string(),
-///     "02-00-00-00-ab-01"
-/// );
-/// assert_eq!(Address::PAUSE_GROUP.to_string(), "01-80-c2-00-00-01");
-/// ```
-#[derive(Clone, Copy, PartialEq, Eq, PartialOrd, Ord, Hash)]
-pub struct Address(pub [u8; 6]);
-
-impl Address {
-    /// All ones.
-    pub const BROADCAST: Address = Address([0xFF; 6]);
-
-    /// The reserved group that pause and PFC frames go to.
-    pub const PAUSE_GROUP: Address = Address([0x01, 0x80, 0xC2, 0x00, 0x00, 0x01]);
-}
-
-impl From<[u8; 6]> for Address {
-    fn from(octets: [u8; 6]) -> Address {
-        Address(octets)
-    }
-}
-
-impl fmt::Display for Address {
-    fn fmt(&self, f: &mut fmt::Formatter<'_>) -> fmt::Result {
-        let [a, b, c, d, e, g] = self.0;
-        write!(f, "{a:02x}-{b:02x}-{c:02x}-{d:02x}-{e:02x}-{g:02x}")
-    }
-}
-
-impl fmt::Debug for Address {
-    fn fmt(&self, f: &mut fmt::Formatter<'_>) -> fmt::Result {
-        write!(f, "Address({self})")
-    }
-}
+use core::array;
+use core::fmt;
 
 /// The flow mode: which control frames can be sent, and which are taken and set timers.
 ///
@@ -105,7 +67,7 @@ impl Settings {
         Settings { octets }
             .broadcast(true)
             .checking(true)
-            .limit(1518)
+            .limit(limits::LEAST_LIMIT)
     }
 
     /// Accepts these addresses too, in place of those listed before. There is room for four; with
@@ -176,6 +138,72 @@ impl Settings {
         self.with(sys::PASS_CONTROL, on as u8)
     }
 
+    /// The own address.
+    ///
+    /// ```
+    /// use fenhamper::{Address, Flow, Settings};
+    ///
+    /// let group = Address([0x01, 0, 0x5E, 0, 0, 1]);
+    /// let settings = Settings::default().listed(&[group]);
+    /// assert_eq!(settings.own(), Address([0x02, 0, 0, 0, 0, 1]));
+    /// assert!(settings.listed_addresses().eq([group]));
+    /// assert!(settings.accepts_broadcast() && !settings.is_promiscuous());
+    /// assert!(settings.checks_lengths() && !settings.passes_control());
+    /// assert_eq!((settings.frame_limit(), settings.flow_mode()), (1518, Flow::Off));
+    /// ```
+    #[must_use]
+    pub fn own(&self) -> Address {
+        self.address(sys::OWN)
+    }
+
+    /// The listed addresses that count: none beyond the fourth, though a count above 4 is refused.
+    #[must_use]
+    pub fn listed_addresses(&self) -> impl ExactSizeIterator<Item = Address> + Clone + '_ {
+        let count = usize::from(self.octets[sys::LISTED_COUNT]).min(limits::MOST_LISTED);
+        (0..count).map(|k| self.address(sys::LISTED + 6 * k))
+    }
+
+    /// Whether broadcast is accepted.
+    #[must_use]
+    pub const fn accepts_broadcast(&self) -> bool {
+        self.octets[sys::BROADCAST] != 0
+    }
+
+    /// Whether every destination is accepted.
+    #[must_use]
+    pub const fn is_promiscuous(&self) -> bool {
+        self.octets[sys::PROMISCUOUS] != 0
+    }
+
+    /// Whether lengths are checked, and padding is left off what is handed out.
+    #[must_use]
+    pub const fn checks_lengths(&self) -> bool {
+        self.octets[sys::CHECKING] != 0
+    }
+
+    /// Whether control frames that are not taken are handed out.
+    #[must_use]
+    pub const fn passes_control(&self) -> bool {
+        self.octets[sys::PASS_CONTROL] != 0
+    }
+
+    /// The flow mode.
+    #[must_use]
+    pub const fn flow_mode(&self) -> Flow {
+        Flow::of(self.octets[sys::FLOW])
+    }
+
+    /// The limit M.
+    #[must_use]
+    pub const fn frame_limit(&self) -> u16 {
+        u16::from_be_bytes([self.octets[sys::LIMIT], self.octets[sys::LIMIT + 1]])
+    }
+
+    // The address at a place of the record.
+    fn address(&self, place: usize) -> Address {
+        Address(array::from_fn(|k| self.octets[place + k]))
+    }
+
     const fn with(mut self, place: usize, octet: u8) -> Settings {
         self.octets[place] = octet;
         self
@@ -189,22 +217,18 @@ impl Settings {
 
 impl fmt::Debug for Settings {
     fn fmt(&self, f: &mut fmt::Formatter<'_>) -> fmt::Result {
-        let o = &self.octets;
-        let address = |at: usize| Address(std::array::from_fn(|k| o[at + k]));
-        let listed: [Address; 4] = std::array::from_fn(|k| address(sys::LISTED + 6 * k));
+        let listed: [Address; limits::MOST_LISTED] =
+            array::from_fn(|k| self.address(sys::LISTED + 6 * k));
         f.debug_struct("Settings")
-            .field("own", &address(sys::OWN))
+            .field("own", &self.own())
             .field("listed", &listed)
-            .field("listed_count", &o[sys::LISTED_COUNT])
-            .field("broadcast", &(o[sys::BROADCAST] != 0))
-            .field("promiscuous", &(o[sys::PROMISCUOUS] != 0))
-            .field("checking", &(o[sys::CHECKING] != 0))
-            .field("pass_control", &(o[sys::PASS_CONTROL] != 0))
-            .field("flow", &Flow::of(o[sys::FLOW]))
-            .field(
-                "limit",
-                &u16::from_be_bytes([o[sys::LIMIT], o[sys::LIMIT + 1]]),
-            )
+            .field("listed_count", &self.octets[sys::LISTED_COUNT])
+            .field("broadcast", &self.accepts_broadcast())
+            .field("promiscuous", &self.is_promiscuous())
+            .field("checking", &self.checks_lengths())
+            .field("pass_control", &self.passes_control())
+            .field("flow", &self.flow_mode())
+            .field("limit", &self.frame_limit())
             .finish()
     }
 }
