@@ -48,11 +48,11 @@ fn tell_other_processors() {
 fn sources(root: &Path) -> Vec<PathBuf> {
     let list = root.join(CRATES);
     let text = fs::read_to_string(&list).unwrap_or_default();
-    let named = text
+    let lower = text
         .lines()
         .find_map(|line| line.strip_prefix("fenhamper:"))
         .unwrap_or_default();
-    let names = named.split_whitespace().chain(["fenhamper"]);
+    let names = lower.split_whitespace().chain(["fenhamper"]);
     let parts = names.flat_map(|name| {
         let folder = root.join("crates").join(name);
         ["src", "specs", "proofs"].map(|part| folder.join(part))
@@ -99,11 +99,10 @@ fn of_repository(package: &Path) -> PathBuf {
     }
     let folder = root.join("target/staticlib");
     let archive = folder.join(ARCHIVE);
-    if archive.is_file() {
-        tell_stale(&root, &archive);
-    } else {
+    if !archive.is_file() {
         make(&root);
     }
+    tell_stale(&root, &archive);
     folder
 }
 
