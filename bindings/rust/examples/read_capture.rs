@@ -2,7 +2,7 @@
 //! each reading with names:
 //!
 //!     cargo run --example read_capture ../../samples/first.capture
-use fenhamper::{limits, records, Counted, Outcome, Station};
+use fenhamper::{limits, records, Counted, Outcome, Station, Status};
 use std::error::Error;
 use std::io::{self, Write};
 use std::{env, fs};
@@ -38,11 +38,10 @@ pub fn print(records: &[u8], out: &mut impl Write) -> Result<(), Box<dyn Error>>
 // Place, outcome, status, and what the frame has of addresses, tags and field.
 fn print_counted(counted: &Counted, out: &mut impl Write) -> io::Result<()> {
     let frame = counted.frame();
-    write!(
-        out,
-        "{:6} {}: {}",
-        counted.start, counted.outcome, counted.status
-    )?;
+    write!(out, "{:6} {}", counted.start, counted.outcome)?;
+    if counted.status != Status::default() {
+        write!(out, ": {}", counted.status)?;
+    }
     if let Some(destination) = frame.destination() {
         write!(out, "; to {destination}")?;
     }
