@@ -101,8 +101,12 @@ impl Outcome {
     /// ```
     #[must_use]
     pub fn from_number(number: u8) -> Option<Outcome> {
-        let place = number.checked_sub(1)?;
-        Outcome::ALL.get(usize::from(place)).copied()
+        Outcome::of(number.into())
+    }
+
+    // Of a number as wide as an answer's. That before 0 is the largest, and no outcome's place.
+    pub(crate) fn of(number: u64) -> Option<Outcome> {
+        Outcome::ALL.get(number.wrapping_sub(1) as usize).copied()
     }
 }
 

@@ -76,12 +76,11 @@ impl<'a> Capture<'a> {
         let start = r[sys::READING_START] as usize;
         match r[sys::READING_KIND] {
             sys::COUNTED => {
-                let number = u8::try_from(r[sys::READING_OUTCOME]).unwrap_or(0);
                 let at = r[sys::READING_AT] as usize;
                 Ok(Reading::Counted(Counted {
                     start,
                     next: r[sys::READING_NEXT] as usize,
-                    outcome: Outcome::from_number(number).ok_or(Refusal::Unknown(0))?,
+                    outcome: Outcome::of(r[sys::READING_OUTCOME]).ok_or(Refusal::Unknown(0))?,
                     status: Status::new(r[sys::READING_STATUS]),
                     at,
                     data: self.part(at, r[sys::READING_LENGTH] as usize),

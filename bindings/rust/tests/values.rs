@@ -300,3 +300,12 @@ fn what_is_written_ends_at_the_place() {
     let sender = sender.at(3);
     assert_eq!(sender.written(), Capture::new(&[1; 3], &[2; 3]));
 }
+
+#[test]
+fn outcomes_have_the_numbers_1_to_11() {
+    for number in 0..=u8::MAX {
+        let outcome = Outcome::from_number(number);
+        assert_eq!(outcome.is_some(), (1..=11).contains(&number));
+        assert_eq!(outcome.map_or(number, Outcome::number), number);
+    }
+}
