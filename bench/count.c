@@ -9,15 +9,16 @@
 
 #include "fenhamper.h"
 
-#define LINE FENHAMPER_SYMBOLS
+#define LINE FENHAMPER_MOST_SYMBOLS
 #define BESIDE_DATA 18 /* addresses, field and FCS */
-#define MOST_DATA 1500
 
-static const uint8_t own[6] = {0x02, 0x00, 0x00, 0x00, 0x00, 0x01};
+static const fenhamper_address own = {{0x02, 0x00, 0x00, 0x00, 0x00, 0x01}};
 
-static uint8_t settings[FENHAMPER_SETTINGS], client[FENHAMPER_CLIENT], data[MOST_DATA];
+static fenhamper_settings settings;
+static fenhamper_state state;
+static fenhamper_client client;
+static uint8_t data[FENHAMPER_MOST_LENGTH];
 static uint8_t octets[LINE], marks[LINE];
-static uint64_t state[FENHAMPER_STATE];
 
 static void expect(int holds, const char *what) {
   if (holds) return;
@@ -35,24 +36,19 @@ static size_t number(const char *digits) {
 /* The printing program's settings, and frames to itself. */
 static void set_up(void) {
   size_t i;
-  memcpy(settings + FENHAMPER_OWN, own, sizeof own);
-  settings[FENHAMPER_BROADCAST] = 1;
-  settings[FENHAMPER_CHECKING] = 1;
-  settings[FENHAMPER_LIMIT] = 1518 >> 8;
-  settings[FENHAMPER_LIMIT + 1] = 1518 & 0xFF;
-  memcpy(client + FENHAMPER_CLIENT_DESTINATION, own, sizeof own);
-  client[FENHAMPER_CLIENT_FORM] = 1;
-  client[FENHAMPER_CLIENT_TYPE] = 0x08;
+  settings = fenhamper_settings_for(own);
+  client = fenhamper_client_to(own);
+  fenhamper_set_type(&client, 0x0800);
   for (i = 0; i < sizeof data; i++) data[i] = (uint8_t)(i * 37 + 11);
-  fenhamper_fresh_state(state);
+  fenhamper_fresh_state(&state);
 }
 
 /* Writes a frame; gives the place after it. */
 static size_t send_one(size_t place, size_t length) {
-  uint64_t sent[FENHAMPER_SENT];
-  fenhamper_send_client(settings, state, octets, LINE, marks, LINE, place, client, data, length, sent);
-  expect(sent[FENHAMPER_SENT_REFUSAL] == 0, "a frame is refused");
-  return (size_t)sent[FENHAMPER_SENT_PLACE];
+  fenhamper_sent sent;
+  fenhamper_send_client(&settings, &state, octets, LINE, marks, LINE, place, &client, data, length, &sent);
+  expect(sent.refusal == 0, "a frame is refused");
+  return sent.place;
 }
 
 /* Fills the line with copies of one frame and its gap; gives their symbols. */
@@ -71,21 +67,21 @@ static void send_frames(size_t frames, size_t length) {
 }
 
 static void read_frames(size_t frames) {
-  uint64_t reading[FENHAMPER_READING];
+  fenhamper_reading reading;
   size_t place = 0;
   while (frames-- > 0) {
-    fenhamper_read(settings, state, octets, LINE, marks, LINE, place, reading);
-    expect(reading[FENHAMPER_READING_OUTCOME] == FENHAMPER_HANDED_OUT, "a frame is not handed out");
-    place = (size_t)reading[FENHAMPER_READING_NEXT];
+    fenhamper_read(&settings, &state, octets, LINE, marks, LINE, place, &reading);
+    expect(reading.outcome == FENHAMPER_HANDED_OUT, "a frame is not handed out");
+    place = reading.next;
   }
 }
 
 static void walk_frames(size_t frames, size_t symbols) {
-  uint64_t walk[FENHAMPER_WALK];
+  fenhamper_walked walked;
   if (frames == 0) return; /* so that a whole call can be counted too */
-  fenhamper_walk(settings, state, octets, symbols, marks, symbols, walk);
-  expect(walk[FENHAMPER_WALK_REFUSAL] == 0 && walk[FENHAMPER_WALK_STARTS] == frames, "the walk counts other Starts");
-  expect(state[FENHAMPER_COUNTERS + FENHAMPER_HANDED_OUT - 1] == frames, "a frame is not handed out");
+  fenhamper_walk(&settings, &state, octets, symbols, marks, symbols, &walked);
+  expect(walked.refusal == 0 && walked.starts == frames, "the walk counts other Starts");
+  expect(fenhamper_counter(&state, FENHAMPER_HANDED_OUT) == frames, "a frame is not handed out");
 }
 
 int main(int words, char **word) {
@@ -93,7 +89,7 @@ int main(int words, char **word) {
   expect(words == 4, "count walk|read|send OCTETS FRAMES");
   size = number(word[2]);
   frames = number(word[3]);
-  expect(size >= 64 && size <= BESIDE_DATA + MOST_DATA, "a frame has 64 to 1518 octets");
+  expect(size >= FENHAMPER_LEAST_FRAME && size <= BESIDE_DATA + sizeof data, "a frame has 64 to 1518 octets");
   set_up();
   frame = fill_line(size - BESIDE_DATA);
   expect(frames <= LINE / frame, "so many frames do not fit");

@@ -39,10 +39,10 @@ def frame(to=OWN, field=0x0800, n=46, body=(), tagged=False, tags=(), bad=0):
     return covered + list(wrong)
 
 
-def reading_line(name, before, r):
+def reading_line(name, before, r, worn=False):
     answer = {"refused": f"refused {r.refusal}", "none": "none", "open": "open",
               "counted": f"outcome {r.outcome} status {r.status:010x} part {r.part[0]} of {r.part[1]} data {len(r.data)} sum {checksum(r.data)}"}[r.kind]
-    TAPE.tell(name, f"{answer} start {r.start} next {r.next}", before, r.state)
+    TAPE.tell(name, f"{answer} start {r.start} next {r.next}", r.refusal, before, r.state, worn)
 
 
 def one(name, s, octets, marks, place):
@@ -50,16 +50,16 @@ def one(name, s, octets, marks, place):
     reading_line(name, FRESH, reading(s, FRESH, octets, marks, place))
 
 
-def every(name, s, octets, marks, state=FRESH):
-    TAPE.call(READINGS, name, s, state, 0, MOST_READINGS, octets, marks)
+def every(name, s, octets, marks, state=FRESH, worn=False):
+    TAPE.call(READINGS, name, s, state, 0, MOST_READINGS, octets, marks, worn=worn)
     readings = walk(s, state, octets, marks)
     before = state
-    for r in readings[:MOST_READINGS]:
-        reading_line(name, before, r)
+    for i, r in enumerate(readings[:MOST_READINGS]):
+        reading_line(name, before, r, worn and i == 0)
         before = r.state
     last = readings[-1]
     end = f"walk refused {last.refusal}" if last.kind == "refused" else f"walk {len(readings) - 1} open {int(last.kind == 'open')}"
-    TAPE.tell(name, end, state, last.state)
+    TAPE.tell(name, end, last.refusal, state, last.state, worn)
 
 
 def symbols(name, octets, marks):
@@ -111,6 +111,8 @@ def refusal_cases():
     one("place 1 of none", settings(), [], [], 1)
     one("1 before 2 and 3", settings(limit=0), [0xFB, 0xFD], [1], 9)
     one("1 before 3", settings(limit=0), [0xFB, 0xFD], [1, 1], 9)
+    for name, s in [("worn state", settings()), ("worn state, refused", settings(limit=0))]:
+        every(name, s, [0xFB, 0xFD], [1, 1], USED, worn=True)
 
 
 def frame_cases():

@@ -28,6 +28,7 @@ class Call:
     marks: int = 1700
     changes: tuple = ()
     state: State = State()
+    worn: bool = False
 
     def buffers(self):
         return [0xA5] * self.octets, [0x5A] * self.marks
@@ -40,32 +41,32 @@ def of(n, place, flow="none", **changes):
     return Call(place, flow, n, n, **changes)
 
 
-def report(name, before, r):
+def report(name, call, r):
     answer = f"refused {r.refusal}" if r.refusal else "wrote"
     octets, marks = [f"{len(buffer)} {checksum(buffer)}" for buffer in (r.octets, r.marks)]
-    TAPE.tell(name, f"{answer} place {r.place} octets {octets} marks {marks}", before, r.state)
+    TAPE.tell(name, f"{answer} place {r.place} octets {octets} marks {marks}", r.refusal, call.state, r.state, call.worn)
 
 
 def client(name, call, n, kind=None, cls=0, tag=None, to=station(2)):
     data = LONGEST[:n]
     c = Client(to, tag, kind, cls, data)
-    TAPE.call(CLIENT, name, call.settings(), call.state, call.place, 0, *call.buffers(), client=client_octets(c), data=data)
-    report(name, call.state, client_sending(call.settings(), call.state, *call.buffers(), call.place, c))
+    TAPE.call(CLIENT, name, call.settings(), call.state, call.place, 0, *call.buffers(), client=client_octets(c), data=data, worn=call.worn)
+    report(name, call, client_sending(call.settings(), call.state, *call.buffers(), call.place, c))
 
 
 def pause(name, call, quanta=9):
-    TAPE.call(PAUSE, name, call.settings(), call.state, call.place, quanta, *call.buffers())
-    report(name, call.state, pause_sending(call.settings(), call.state, *call.buffers(), call.place, quanta))
+    TAPE.call(PAUSE, name, call.settings(), call.state, call.place, quanta, *call.buffers(), worn=call.worn)
+    report(name, call, pause_sending(call.settings(), call.state, *call.buffers(), call.place, quanta))
 
 
 def pfc(name, call, named=9):
-    TAPE.call(PFC, name, call.settings(), call.state, call.place, named, *call.buffers(), quanta=QUANTA)
-    report(name, call.state, pfc_sending(call.settings(), call.state, *call.buffers(), call.place, named, QUANTA))
+    TAPE.call(PFC, name, call.settings(), call.state, call.place, named, *call.buffers(), quanta=QUANTA, worn=call.worn)
+    report(name, call, pfc_sending(call.settings(), call.state, *call.buffers(), call.place, named, QUANTA))
 
 
 def idle(name, call, n):
-    TAPE.call(IDLE, name, None, call.state, call.place, n, *call.buffers())
-    report(name, call.state, idle_sending(call.state, *call.buffers(), call.place, n))
+    TAPE.call(IDLE, name, None, call.state, call.place, n, *call.buffers(), worn=call.worn)
+    report(name, call, idle_sending(call.state, *call.buffers(), call.place, n))
 
 
 def wide(limit):
@@ -245,6 +246,10 @@ def order_cases():
     idle("Idle, 2 before 3", bad("none", 501), 1)
     idle("Idle, 2 before 8", bad("none", 500), 9)
     idle("Idle, 3 before 8", Call(1701), 9)
+    worn = of(9, 3, state=State([2**32 - 1] * 11, [1000] * 8), worn=True)
+    client("worn state, client refused", worn, 46)
+    idle("worn state, Idle refused", worn, 9)
+    idle("worn state, Idle", worn, 5)
 
 
 def cases():

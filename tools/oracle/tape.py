@@ -11,6 +11,7 @@ import zlib
 READINGS, CLIENT, PAUSE, PFC, IDLE = range(5)
 MOST_READINGS = 16
 LONGEST = 65536  # what the program reads
+ONES = 2**64 - 1
 KINDS = {0x8100: 0, 0x88A8: 1}
 FLOWS = {"none": 0, "pause": 1, "PFC": 2}
 
@@ -35,18 +36,21 @@ def runs(octets):
 def settings_octets(s):
     flags = [s.broadcast, s.promiscuous, s.checking, s.pass_control]
     listed = [octet for address in s.listed for octet in address]
-    return bytes(s.own + listed + [s.count] + [int(flag) for flag in flags] + [FLOWS[s.flow]]) + s.limit.to_bytes(2, "big") + bytes(2)
+    return bytes(s.own + listed + [s.count] + [int(flag) for flag in flags] + [FLOWS[s.flow]]) + s.limit.to_bytes(2, "little") + bytes(10)
 
 
 def client_octets(c):
     tags = c.tags
-    head = bytes(c.destination + [c.cls, int(c.type is not None)]) + (c.type or 0).to_bytes(2, "big") + bytes([len(tags), 0])
-    run = b"".join(bytes([KINDS[kind], 0]) + control.to_bytes(2, "big") for kind, control in tags[:8])
+    head = bytes(c.destination + [c.cls, int(c.type is not None)]) + (c.type or 0).to_bytes(2, "little") + bytes([len(tags), 0])
+    run = b"".join(bytes([KINDS[kind], 0]) + control.to_bytes(2, "little") for kind, control in tags[:8])
     return (head + run).ljust(44, b"\0")
 
 
-def state_numbers(state):
-    return b"".join(number(n) for n in list(state.counters) + list(state.timers) + [0] * 5)
+def state_numbers(state, worn=False):
+    """Counters, timers and what is kept for later. A worn state has ones above the 32 bits of each number, and in what is kept: no call looks at them, and a
+    refused one leaves them."""
+    above = ONES - 0xFFFFFFFF if worn else 0
+    return [above + n for n in list(state.counters) + list(state.timers)] + [ONES if worn else 0] * 5
 
 
 class Tape:
@@ -64,8 +68,9 @@ class Tape:
     def part(self, octets, coded=None):
         return self.place(octets if coded is None else coded) << 32 | len(octets)
 
-    def call(self, kind, name, s, state, place, n, octets, marks, client=bytes(44), quanta=(0,) * 8, data=b""):
-        self.calls.append([kind, self.part(name.encode() + b":"), self.place(runs(settings_octets(s) if s else bytes(40))), self.place(state_numbers(state)),
+    def call(self, kind, name, s, state, place, n, octets, marks, client=bytes(44), quanta=(0,) * 8, data=b"", worn=False):
+        numbers = b"".join(number(n) for n in state_numbers(state, worn))
+        self.calls.append([kind, self.part(name.encode() + b":"), self.place(runs(settings_octets(s) if s else bytes(48))), self.place(numbers),
                            self.place(runs(client)), self.place(b"".join(number(q) for q in quanta)), place, n, self.part(octets, runs(octets)),
                            self.part(marks, runs(marks)), self.part(bytes(data)), 0])
 
@@ -77,13 +82,15 @@ class Tape:
     def text(self):
         return "".join(line + "\n" for line in self.lines).encode()
 
-    def tell(self, name, what, before, after):
-        """A line that the program must print: what was answered, and what changed of the state."""
-        self.lines.append(f"{name}: {what}" + changed("counters", before.counters, after.counters, 1) + changed("timers", before.timers, after.timers, 0))
+    def tell(self, name, what, refused, before, after, worn=False):
+        """A line that the program must print: what was answered, and what changed of the state's numbers."""
+        was = state_numbers(before, worn)
+        now = was if refused else state_numbers(after)
+        self.lines.append(f"{name}: {what} counters" + changed(was[:11], now[:11], 1) + " timers" + changed(was[11:19], now[11:19], 0) + changed(was[19:], now[19:], 19))
 
 
-def changed(word, before, after, first):
-    return f" {word}" + "".join(f" {first + i}={b}" for i, (a, b) in enumerate(zip(before, after)) if a != b)
+def changed(before, after, first):
+    return "".join(f" {first + i}={b}" for i, (a, b) in enumerate(zip(before, after)) if a != b)
 
 
 def checksum(octets):

@@ -1,4 +1,5 @@
 //! Addresses of stations and groups.
+use crate::sys;
 use core::array::TryFromSliceError;
 use core::error::Error;
 use core::fmt;
@@ -39,6 +40,16 @@ impl Address {
     #[must_use]
     pub const fn is_group(self) -> bool {
         self.0[0] & 1 == 1
+    }
+
+    // As the header lays it out.
+    pub(crate) const fn record(self) -> sys::Address {
+        sys::Address { octets: self.0 }
+    }
+
+    // The address that the header lays out so.
+    pub(crate) const fn of(record: sys::Address) -> Address {
+        Address(record.octets)
     }
 }
 

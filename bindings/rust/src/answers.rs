@@ -276,44 +276,44 @@ impl Status {
         self.0
     }
 
-    const fn bit(self, number: u32) -> bool {
-        self.0 >> number & 1 == 1
+    const fn has(self, mask: u64) -> bool {
+        self.0 & mask != 0
     }
 
     /// Bit 39: PFC taken.
     #[must_use]
     pub const fn pfc(self) -> bool {
-        self.bit(sys::STATUS_PFC)
+        self.has(sys::STATUS_PFC)
     }
 
     /// Bit 38: to one station.
     #[must_use]
     pub const fn unicast(self) -> bool {
-        self.bit(sys::STATUS_UNICAST)
+        self.has(sys::STATUS_UNICAST)
     }
 
     /// Bit 37: to a group other than broadcast.
     #[must_use]
     pub const fn multicast(self) -> bool {
-        self.bit(sys::STATUS_MULTICAST)
+        self.has(sys::STATUS_MULTICAST)
     }
 
     /// Bit 36: broadcast.
     #[must_use]
     pub const fn broadcast(self) -> bool {
-        self.bit(sys::STATUS_BROADCAST)
+        self.has(sys::STATUS_BROADCAST)
     }
 
     /// Bit 35: pause taken.
     #[must_use]
     pub const fn pause(self) -> bool {
-        self.bit(sys::STATUS_PAUSE)
+        self.has(sys::STATUS_PAUSE)
     }
 
     /// Bit 34: a control frame.
     #[must_use]
     pub const fn control(self) -> bool {
-        self.bit(sys::STATUS_CONTROL)
+        self.has(sys::STATUS_CONTROL)
     }
 
     /// Bit 33: exactly one tag.
@@ -328,13 +328,13 @@ impl Status {
     /// ```
     #[must_use]
     pub const fn tagged(self) -> bool {
-        self.bit(sys::STATUS_TAGGED)
+        self.has(sys::STATUS_TAGGED)
     }
 
     /// Bit 32: two tags or more.
     #[must_use]
     pub const fn stacked(self) -> bool {
-        self.bit(sys::STATUS_STACKED)
+        self.has(sys::STATUS_STACKED)
     }
 
     /// Bits 31 to 16: octets from destination to FCS.

@@ -48,4 +48,4 @@ pub use view::{FrameView, Tags};
 /// let walk = capture.walk(&Settings::default(), &mut State::default());
 /// assert_eq!(walk, Err(Refusal::BadBuffers));
 /// ```
-pub const SYMBOLS: usize = sys::SYMBOLS;
+pub const SYMBOLS: usize = limits::MOST_SYMBOLS;

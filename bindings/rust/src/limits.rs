@@ -8,12 +8,13 @@
 //! let jumbo = Settings::default().limit(limits::MOST_LIMIT);
 //! assert_eq!(jumbo.frame_limit(), 9618);
 //! ```
+use crate::sys;
 
 /// The most symbols of a capture or of line buffers: 65,536.
-pub const MOST_SYMBOLS: usize = crate::SYMBOLS;
+pub const MOST_SYMBOLS: usize = sys::MOST_SYMBOLS;
 
 /// The least that the limit M can be: 1518 octets.
-pub const LEAST_LIMIT: u16 = 1518;
+pub const LEAST_LIMIT: u16 = sys::LEAST_LIMIT;
 
 /// The most that the limit M can be: 9618 octets.
 pub const MOST_LIMIT: u16 = 9618;
@@ -34,51 +35,13 @@ pub const LEAST_TYPE: u16 = 1536;
 pub const QUANTUM: u64 = 64;
 
 /// The most addresses that can be listed beside the own one: 4.
-pub const MOST_LISTED: usize = 4;
+pub const MOST_LISTED: usize = sys::MOST_LISTED;
 
 /// The most tags of a frame: 8. A ninth is an ordinary type.
-pub const MOST_TAGS: usize = crate::sys::MOST_TAGS;
+pub const MOST_TAGS: usize = sys::MOST_TAGS;
 
 /// How many classes there are, 0 to 7, with a timer each: 8.
-pub const CLASSES: usize = 8;
+pub const CLASSES: usize = sys::CLASSES;
 
 /// How many outcomes there are, 1 to 11, with a counter each: 11.
-pub const OUTCOMES: usize = 11;
-
-#[cfg(test)]
-mod tests {
-    use std::vec::Vec;
-
-    const HEADER: &str = include_str!("../fenhamper.h");
-    const LIMITS: &str = include_str!("limits.rs");
-
-    // What the header defines a name as.
-    fn of_header(name: &str) -> Option<u64> {
-        HEADER.lines().find_map(|line| {
-            let mut words = line.strip_prefix("#define FENHAMPER_")?.split_whitespace();
-            (words.next()? == name).then(|| words.next()?.parse().ok())?
-        })
-    }
-
-    // Those of this file whose value is written out here.
-    fn of_this_file() -> Vec<(&'static str, u64)> {
-        let lines = LIMITS.lines().filter_map(|line| {
-            let (name, rest) = line.strip_prefix("pub const ")?.split_once(':')?;
-            let value = rest.split_once("= ")?.1.trim_end_matches(';');
-            Some((name, value.parse().ok()?))
-        });
-        lines.collect()
-    }
-
-    #[test]
-    fn limits_are_the_headers() {
-        let ours = of_this_file();
-        assert_eq!(ours.len(), 10);
-        // a header names all of them or none
-        if ours.iter().any(|(name, _)| of_header(name).is_some()) {
-            for (name, value) in ours {
-                assert_eq!(of_header(name), Some(value), "{name}");
-            }
-        }
-    }
-}
+pub const OUTCOMES: usize = sys::OUTCOMES;

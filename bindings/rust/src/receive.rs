@@ -61,29 +61,20 @@ impl<'a> Capture<'a> {
         state: &mut State,
         place: usize,
     ) -> Result<Reading<'a>, Refusal> {
-        self.read_as(settings.octets(), state, place)
-    }
-
-    // A reading with settings that are laid out already.
-    fn read_as(
-        &self,
-        settings: &[u8; sys::SETTINGS],
-        state: &mut State,
-        place: usize,
-    ) -> Result<Reading<'a>, Refusal> {
-        let r = sys::read(settings, state.numbers(), self.octets, self.marks, place);
-        Refusal::check(r[sys::READING_REFUSAL])?;
-        let start = r[sys::READING_START] as usize;
-        match r[sys::READING_KIND] {
+        let (settings, state) = (settings.record(), state.record());
+        let r = sys::read(settings, state, self.octets, self.marks, place);
+        Refusal::check(r.refusal)?;
+        let start = r.start as usize;
+        match r.kind {
             sys::COUNTED => {
-                let at = r[sys::READING_AT] as usize;
+                let at = r.data_place as usize;
                 Ok(Reading::Counted(Counted {
                     start,
-                    next: r[sys::READING_NEXT] as usize,
-                    outcome: Outcome::of(r[sys::READING_OUTCOME]).ok_or(Refusal::Unknown(0))?,
-                    status: Status::new(r[sys::READING_STATUS]),
+                    next: r.next as usize,
+                    outcome: Outcome::of(r.outcome).ok_or(Refusal::Unknown(0))?,
+                    status: Status::new(r.status),
                     at,
-                    data: self.part(at, r[sys::READING_LENGTH] as usize),
+                    data: self.part(at, r.data_length as usize),
                     capture: self.octets,
                 }))
             }
@@ -95,8 +86,9 @@ impl<'a> Capture<'a> {
 
     // The octets of a part; none where it does not lie inside.
     fn part(&self, at: usize, length: usize) -> &'a [u8] {
-        let [at, length] = sys::client_data(self.octets.len(), at, length).map(|n| n as usize);
-        let inside = self.octets.get(at..).and_then(|from| from.get(..length));
+        let part = sys::client_data(self.octets.len(), at, length);
+        let from = self.octets.get(part.place as usize..);
+        let inside = from.and_then(|from| from.get(..part.length as usize));
         inside.unwrap_or_default()
     }
 
@@ -116,11 +108,11 @@ impl<'a> Capture<'a> {
     ///
     /// Refusals 1 and 2, as a reading at place 0 has them.
     pub fn walk(&self, settings: &Settings, state: &mut State) -> Result<Walk, Refusal> {
-        let w = sys::walk(settings.octets(), state.numbers(), self.octets, self.marks);
-        Refusal::check(w[sys::WALK_REFUSAL])?;
+        let w = sys::walk(settings.record(), state.record(), self.octets, self.marks);
+        Refusal::check(w.refusal)?;
         Ok(Walk {
-            starts: w[sys::WALK_STARTS] as usize,
-            open: w[sys::WALK_OPEN] != 0,
+            starts: w.starts as usize,
+            open: w.open != 0,
         })
     }
 
@@ -145,7 +137,7 @@ impl<'a> Capture<'a> {
     pub fn readings<'s>(&self, settings: &Settings, state: &'s mut State) -> Readings<'a, 's> {
         Readings {
             capture: *self,
-            settings: *settings.octets(),
+            settings: *settings,
             state,
             place: 0,
             stage: Stage::Going,
@@ -322,7 +314,7 @@ enum Stage {
 #[must_use]
 pub struct Readings<'a, 's> {
     capture: Capture<'a>,
-    settings: [u8; sys::SETTINGS],
+    settings: Settings,
     state: &'s mut State,
     place: usize,
     stage: Stage,
@@ -363,7 +355,7 @@ impl<'a> Iterator for Readings<'a, '_> {
         if self.stage != Stage::Going {
             return None;
         }
-        let reading = self.capture.read_as(&self.settings, self.state, self.place);
+        let reading = self.capture.read(&self.settings, self.state, self.place);
         match reading {
             Ok(Reading::Counted(counted)) => {
                 self.place = counted.next;

@@ -6,7 +6,6 @@ use crate::settings::Settings;
 use crate::state::State;
 use crate::sys;
 use crate::tag::{List, Tag};
-use core::array;
 use core::fmt;
 
 /// The form of a client frame: what its field is.
@@ -48,16 +47,23 @@ pub enum Form {
 #[must_use]
 pub struct Frame {
     // as the header lays it out: a call lends it as it is; zeros where there is no tag or type
-    octets: [u8; sys::CLIENT],
+    record: sys::Client,
 }
 
 impl Frame {
     /// A frame to this destination.
     pub const fn to(destination: Address) -> Frame {
-        let frame = Frame {
-            octets: [0; sys::CLIENT],
-        };
-        frame.with(sys::CLIENT_DESTINATION, &destination.0)
+        Frame {
+            record: sys::Client {
+                destination: destination.record(),
+                traffic_class: 0,
+                form: sys::FORM_LENGTH,
+                r#type: 0,
+                tag_count: 0,
+                spare: 0,
+                tags: [NO_TAG; sys::MOST_TAGS],
+            },
+        }
     }
 
     /// With one more tag, inside those named before: the first named is the outermost. There is
@@ -85,15 +91,14 @@ impl Frame {
     /// assert_eq!(r.data, b"data");
     /// # Ok::<(), fenhamper::Refusal>(())
     /// ```
-    pub const fn tag(self, tag: Tag) -> Frame {
-        let count = self.octets[sys::CLIENT_TAGS];
-        // 255 stands for more, too
-        let named = self.with(sys::CLIENT_TAGS, &[count.saturating_add(1)]);
+    pub const fn tag(mut self, tag: Tag) -> Frame {
+        let count = self.record.tag_count;
         if (count as usize) < sys::MOST_TAGS {
-            named.with(sys::CLIENT_TAG + sys::TAG * count as usize, &tag.octets())
-        } else {
-            named
+            self.record.tags[count as usize] = tag.record();
         }
+        // 255 stands for more, too
+        self.record.tag_count = count.saturating_add(1);
+        self
     }
 
     /// With these tags, the outermost first, in place of those named before. More than eight are
@@ -114,35 +119,37 @@ impl Frame {
     /// assert_eq!(send(&[Tag::customer(5); 8]), Ok(84 + 8 * 4));
     /// assert_eq!(send(&[Tag::customer(5); 9]), Err(Refusal::ManyTags));
     /// ```
-    pub const fn tags(self, tags: &[Tag]) -> Frame {
-        let mut frame = self
-            .with(sys::CLIENT_TAGS, &[0])
-            .with(sys::CLIENT_TAG, &[0; sys::TAG * sys::MOST_TAGS]);
+    pub const fn tags(mut self, tags: &[Tag]) -> Frame {
+        self.record.tag_count = 0;
+        self.record.tags = [NO_TAG; sys::MOST_TAGS];
         let mut k = 0;
         while k < tags.len() {
-            frame = frame.tag(tags[k]);
+            self = self.tag(tags[k]);
             k += 1;
         }
-        frame
+        self
     }
 
     /// In the type form: the field is this type. Under 1536, 0x8100, 0x8808 and 0x88A8 are refused
     /// (6). Data under 46 octets comes out at the other end followed by zeros to 46.
-    pub const fn by_type(self, field: u16) -> Frame {
-        self.with(sys::CLIENT_FORM, &[1])
-            .with(sys::CLIENT_TYPE, &field.to_be_bytes())
+    pub const fn by_type(mut self, field: u16) -> Frame {
+        self.record.form = sys::FORM_TYPE;
+        self.record.r#type = field;
+        self
     }
 
     /// In the length form: the field is the data's length, and the data comes out at the other end
     /// as it went in.
-    pub const fn by_length(self) -> Frame {
-        self.with(sys::CLIENT_FORM, &[0])
-            .with(sys::CLIENT_TYPE, &[0; 2])
+    pub const fn by_length(mut self) -> Frame {
+        self.record.form = sys::FORM_LENGTH;
+        self.record.r#type = 0;
+        self
     }
 
     /// Of this class, whose timer can hold it. Above 7 is refused (5).
-    pub const fn class(self, class: u8) -> Frame {
-        self.with(sys::CLIENT_CLASS, &[class])
+    pub const fn class(mut self, class: u8) -> Frame {
+        self.record.traffic_class = class;
+        self
     }
 
     /// The destination.
@@ -157,55 +164,43 @@ impl Frame {
     /// assert_eq!((frame.form(), frame.class_number()), (Form::Length, 3));
     /// ```
     #[must_use]
-    pub fn destination(&self) -> Address {
-        let place = sys::CLIENT_DESTINATION;
-        Address(array::from_fn(|k| self.octets[place + k]))
+    pub const fn destination(&self) -> Address {
+        Address::of(self.record.destination)
     }
 
     /// The tags, the outermost first: none beyond the eighth, though more are refused.
-    pub fn tag_list(&self) -> impl Iterator<Item = Tag> + Clone + '_ {
-        let places = self.octets[sys::CLIENT_TAG..].chunks_exact(sys::TAG);
-        places
-            .take(self.octets[sys::CLIENT_TAGS].into())
-            .map(Tag::of)
+    #[must_use]
+    pub fn tag_list(&self) -> impl ExactSizeIterator<Item = Tag> + Clone + '_ {
+        let tags = self.record.tags.iter();
+        tags.take(self.record.tag_count.into())
+            .map(|tag| Tag::of(*tag))
     }
 
     /// The form.
     #[must_use]
     pub const fn form(&self) -> Form {
-        let field = [
-            self.octets[sys::CLIENT_TYPE],
-            self.octets[sys::CLIENT_TYPE + 1],
-        ];
-        match self.octets[sys::CLIENT_FORM] {
-            0 => Form::Length,
-            _ => Form::Type(u16::from_be_bytes(field)),
+        match self.record.form {
+            sys::FORM_LENGTH => Form::Length,
+            _ => Form::Type(self.record.r#type),
         }
     }
 
     /// The class.
     #[must_use]
     pub const fn class_number(&self) -> u8 {
-        self.octets[sys::CLIENT_CLASS]
-    }
-
-    // With these octets from a place of the record on.
-    const fn with(mut self, place: usize, octets: &[u8]) -> Frame {
-        let mut k = 0;
-        while k < octets.len() {
-            self.octets[place + k] = octets[k];
-            k += 1;
-        }
-        self
+        self.record.traffic_class
     }
 }
+
+// What stands beyond the count.
+const NO_TAG: sys::Tag = Tag::customer(0).record();
 
 impl fmt::Debug for Frame {
     fn fmt(&self, f: &mut fmt::Formatter<'_>) -> fmt::Result {
         f.debug_struct("Frame")
             .field("to", &self.destination())
             .field("tags", &List(self.tag_list()))
-            .field("tag_count", &self.octets[sys::CLIENT_TAGS])
+            .field("tag_count", &self.record.tag_count)
             .field("form", &self.form())
             .field("class", &self.class_number())
             .finish()
@@ -346,12 +341,12 @@ impl<'b> Sender<'b> {
         data: &[u8],
     ) -> Result<usize, Refusal> {
         let sent = sys::send_client(
-            settings.octets(),
-            state.numbers(),
+            settings.record(),
+            state.record(),
             self.octets,
             self.marks,
             self.place,
-            &frame.octets,
+            &frame.record,
             data,
         );
         self.moved(sent)
@@ -384,8 +379,8 @@ impl<'b> Sender<'b> {
         quanta: u16,
     ) -> Result<usize, Refusal> {
         let sent = sys::send_pause(
-            settings.octets(),
-            state.numbers(),
+            settings.record(),
+            state.record(),
             self.octets,
             self.marks,
             self.place,
@@ -427,8 +422,8 @@ impl<'b> Sender<'b> {
         quanta: [u16; 8],
     ) -> Result<usize, Refusal> {
         let sent = sys::send_pfc(
-            settings.octets(),
-            state.numbers(),
+            settings.record(),
+            state.record(),
             self.octets,
             self.marks,
             self.place,
@@ -444,14 +439,14 @@ impl<'b> Sender<'b> {
     ///
     /// Refusals 2, 3 and 8, the lowest number first.
     pub fn idle(&mut self, state: &mut State, n: usize) -> Result<usize, Refusal> {
-        let sent = sys::fill_idle(state.numbers(), self.octets, self.marks, self.place, n);
+        let sent = sys::fill_idle(state.record(), self.octets, self.marks, self.place, n);
         self.moved(sent)
     }
 
     // Moves the place on unless the call was refused.
-    fn moved(&mut self, sent: [u64; sys::SENT]) -> Result<usize, Refusal> {
-        Refusal::check(sent[sys::SENT_REFUSAL])?;
-        self.place = sent[sys::SENT_PLACE] as usize;
+    fn moved(&mut self, sent: sys::Sent) -> Result<usize, Refusal> {
+        Refusal::check(sent.refusal)?;
+        self.place = sent.place as usize;
         Ok(self.place)
     }
 }
@@ -460,52 +455,90 @@ impl<'b> Sender<'b> {
 mod tests {
     use super::*;
 
-    // What a record sends, and the answer.
-    fn sent(client: &[u8; sys::CLIENT]) -> ([u64; sys::SENT], [u8; 200]) {
+    // What a record sends, and the answer, with settings changed as well.
+    fn sent_by(client: sys::Client, settings: sys::Settings) -> (sys::Sent, [u8; 200]) {
         let (mut octets, mut marks) = ([0; 200], [0; 200]);
-        let (settings, mut state) = (*Settings::default().octets(), State::default());
-        let numbers = state.numbers();
-        let sent = sys::send_client(
-            &settings,
-            numbers,
-            &mut octets,
-            &mut marks,
-            0,
-            client,
-            b"data",
-        );
+        let mut state = State::default();
+        let (o, m) = (&mut octets, &mut marks);
+        let sent = sys::send_client(&settings, state.record(), o, m, 0, &client, b"data");
         (sent, octets)
     }
 
-    // The record with another octet at a place.
-    fn with(mut client: [u8; sys::CLIENT], place: usize, octet: u8) -> [u8; sys::CLIENT] {
-        client[place] = octet;
+    fn sent(client: sys::Client) -> (sys::Sent, [u8; 200]) {
+        sent_by(client, *Settings::default().record())
+    }
+
+    // The record with one thing changed.
+    fn with(mut client: sys::Client, change: impl Fn(&mut sys::Client)) -> sys::Client {
+        change(&mut client);
         client
     }
 
-    // Octets that the header says are not looked at, are not; of a kind only whether it is 0.
+    // What the header says is not looked at, is not; of a kind only whether it is 0.
     #[test]
     fn the_record_is_the_headers() {
         let tags = [Tag::service(0x1234), Tag::customer(0x5678)];
-        let client = Frame::to(Address::BROADCAST).tags(&tags).octets;
-        let expected = sent(&client);
-        assert_eq!(expected.0, [0, 92]);
-        let tag = |k| sys::CLIENT_TAG + sys::TAG * k;
-        let in_tags = [tag(0) + 1, tag(1) + 1].into_iter();
-        // the type in the length form, what stands behind the count, the tags beyond it
-        for place in [8, 9, 11].into_iter().chain(in_tags).chain(tag(2)..44) {
-            assert_eq!(sent(&with(client, place, 0xFF)), expected, "{place}");
+        let client = Frame::to(Address::BROADCAST).tags(&tags).record;
+        let expected = sent(client);
+        let written = sys::Sent {
+            refusal: 0,
+            place: 92,
+        };
+        assert_eq!(expected.0, written);
+        let mut settings = *Settings::default().record();
+        settings.spare = [0xFF; 10];
+        assert_eq!(sent_by(client, settings), expected);
+        // the type in the length form, what is spare, the tags beyond the count
+        assert_eq!(sent(with(client, |c| c.r#type = 0xFFFF)), expected);
+        assert_eq!(sent(with(client, |c| c.spare = 0xFF)), expected);
+        for k in 0..2 {
+            let spare = with(client, |c| c.tags[k].spare = 0xFF);
+            assert_eq!(sent(spare), expected, "{k}");
         }
-        let first_customer = sent(&with(client, tag(0), 0));
-        assert_ne!(first_customer, expected);
+        for k in 2..8 {
+            let beyond = with(client, |c| c.tags[k] = Tag::service(0xFFFF).record());
+            assert_eq!(sent(beyond), expected, "{k}");
+        }
+        assert_ne!(sent(with(client, |c| c.tags[0].kind = 0)), expected);
         for kind in 1..=255 {
-            assert_eq!(sent(&with(client, tag(0), kind)), expected);
-            assert_ne!(sent(&with(client, tag(1), kind)), expected);
+            assert_eq!(sent(with(client, |c| c.tags[0].kind = kind)), expected);
+            assert_ne!(sent(with(client, |c| c.tags[1].kind = kind)), expected);
         }
         for count in 0..=255 {
-            let (answer, _) = sent(&with(client, sys::CLIENT_TAGS, count));
+            let (answer, _) = sent(with(client, |c| c.tag_count = count));
             let refused = if count > 8 { 10 } else { 0 };
-            assert_eq!(answer[sys::SENT_REFUSAL], refused, "{count}");
+            assert_eq!(answer.refusal, refused, "{count}");
         }
+    }
+
+    // A refused call leaves the state to the bit, what is not looked at included.
+    #[test]
+    fn a_refused_call_leaves_the_state() {
+        let worn = || sys::State {
+            counters: [u64::MAX; 11],
+            timers: [u64::MAX; 8],
+            spare: [u64::MAX; 5],
+        };
+        let (mut octets, mut marks) = ([0; 8], [0; 8]);
+        let (settings, client) = (*Settings::default().record(), Frame::to(Address::BROADCAST));
+        let mut state = worn();
+        let (o, m, s) = (&mut octets, &mut marks, &mut state);
+        assert_eq!(sys::read(&settings, s, o, m, 9).refusal, 3);
+        assert_eq!(sys::walk(&settings, s, o, &m[1..]).refusal, 2);
+        let data = b"data";
+        assert_eq!(
+            sys::send_client(&settings, s, o, m, 0, &client.record, data).refusal,
+            8
+        );
+        assert_eq!(sys::send_pause(&settings, s, o, m, 0, 1).refusal, 4);
+        assert_eq!(sys::send_pfc(&settings, s, o, m, 0, 1, &[1; 8]).refusal, 4);
+        assert_eq!(sys::fill_idle(s, o, m, 0, 9).refusal, 8);
+        assert!(state == worn());
+        // one that is not refused leaves it in the header's form
+        assert_eq!(sys::fill_idle(&mut state, o, m, 0, 1).refusal, 0);
+        let low = u64::from(u32::MAX);
+        assert!(
+            state.counters == [low; 11] && state.timers == [low - 1; 8] && state.spare == [0; 5]
+        );
     }
 }

@@ -1,8 +1,6 @@
 //! What a station is set to.
 use crate::address::Address;
-use crate::limits;
 use crate::sys;
-use core::array;
 use core::fmt;
 
 /// The flow mode: which control frames can be sent, and which are taken and set timers.
@@ -24,7 +22,7 @@ pub enum Flow {
 }
 
 impl Flow {
-    // Of the number in a settings' octets.
+    // Of the number in the record.
     const fn of(number: u8) -> Flow {
         match number {
             sys::FLOW_PAUSE => Flow::Pause,
@@ -51,23 +49,27 @@ impl Flow {
 #[must_use]
 pub struct Settings {
     // as the header lays them out: a call lends them as they are
-    octets: [u8; sys::SETTINGS],
+    record: sys::Settings,
 }
 
 impl Settings {
     /// The printing program's settings with this own address: none listed, broadcast on,
     /// promiscuous off, lengths checked, control frames not passed, flow mode none, M 1518.
     pub const fn new(own: Address) -> Settings {
-        let mut octets = [0; sys::SETTINGS];
-        let mut k = 0;
-        while k < own.0.len() {
-            octets[sys::OWN + k] = own.0[k];
-            k += 1;
+        Settings {
+            record: sys::Settings {
+                own: own.record(),
+                listed: [Address([0; 6]).record(); sys::MOST_LISTED],
+                listed_count: 0,
+                broadcast: 1,
+                promiscuous: 0,
+                checking: 1,
+                pass_control: 0,
+                flow: sys::FLOW_NONE,
+                limit: sys::LEAST_LIMIT,
+                spare: [0; 10],
+            },
         }
-        Settings { octets }
-            .broadcast(true)
-            .checking(true)
-            .limit(limits::LEAST_LIMIT)
     }
 
     /// Accepts these addresses too, in place of those listed before. There is room for four; with
@@ -85,57 +87,59 @@ impl Settings {
     /// );
     /// ```
     pub fn listed(mut self, addresses: &[Address]) -> Settings {
-        let listed = &mut self.octets[sys::LISTED..][..24];
-        listed.fill(0);
-        for (entry, address) in listed.chunks_exact_mut(6).zip(addresses) {
-            entry.copy_from_slice(&address.0);
+        self.record.listed = [Address([0; 6]).record(); sys::MOST_LISTED];
+        for (entry, address) in self.record.listed.iter_mut().zip(addresses) {
+            *entry = address.record();
         }
         self.listed_count(u8::try_from(addresses.len()).unwrap_or(u8::MAX))
     }
 
     /// How many of the four listed addresses count, from the front; above 4 the settings are
     /// refused (1). [`listed`](Settings::listed) sets it already: this one is for tests.
-    pub const fn listed_count(self, count: u8) -> Settings {
-        self.with(sys::LISTED_COUNT, count)
+    pub const fn listed_count(mut self, count: u8) -> Settings {
+        self.record.listed_count = count;
+        self
     }
 
     /// Whether broadcast is accepted.
-    pub const fn broadcast(self, on: bool) -> Settings {
-        self.with(sys::BROADCAST, on as u8)
+    pub const fn broadcast(mut self, on: bool) -> Settings {
+        self.record.broadcast = on as u8;
+        self
     }
 
     /// Whether every destination is accepted.
-    pub const fn promiscuous(self, on: bool) -> Settings {
-        self.with(sys::PROMISCUOUS, on as u8)
+    pub const fn promiscuous(mut self, on: bool) -> Settings {
+        self.record.promiscuous = on as u8;
+        self
     }
 
     /// Whether lengths are checked, and padding is left off what is handed out.
-    pub const fn checking(self, on: bool) -> Settings {
-        self.with(sys::CHECKING, on as u8)
+    pub const fn checking(mut self, on: bool) -> Settings {
+        self.record.checking = on as u8;
+        self
     }
 
     /// The limit M on a frame's octets from destination to FCS, which grows by 4 for each tag of a
     /// frame; outside 1518 to 9618 the settings are refused (1).
-    pub const fn limit(self, limit: u16) -> Settings {
-        let [high, low] = limit.to_be_bytes();
-        self.with(sys::LIMIT, high).with(sys::LIMIT + 1, low)
+    pub const fn limit(mut self, limit: u16) -> Settings {
+        self.record.limit = limit;
+        self
     }
 
     /// The flow mode.
-    pub const fn flow(self, flow: Flow) -> Settings {
-        self.with(
-            sys::FLOW,
-            match flow {
-                Flow::Off => sys::FLOW_NONE,
-                Flow::Pause => sys::FLOW_PAUSE,
-                Flow::Pfc => sys::FLOW_PFC,
-            },
-        )
+    pub const fn flow(mut self, flow: Flow) -> Settings {
+        self.record.flow = match flow {
+            Flow::Off => sys::FLOW_NONE,
+            Flow::Pause => sys::FLOW_PAUSE,
+            Flow::Pfc => sys::FLOW_PFC,
+        };
+        self
     }
 
     /// Whether control frames that are not taken are handed out.
-    pub const fn pass_control(self, on: bool) -> Settings {
-        self.with(sys::PASS_CONTROL, on as u8)
+    pub const fn pass_control(mut self, on: bool) -> Settings {
+        self.record.pass_control = on as u8;
+        self
     }
 
     /// The own address.
@@ -152,77 +156,67 @@ impl Settings {
     /// assert_eq!((settings.frame_limit(), settings.flow_mode()), (1518, Flow::Off));
     /// ```
     #[must_use]
-    pub fn own(&self) -> Address {
-        self.address(sys::OWN)
+    pub const fn own(&self) -> Address {
+        Address::of(self.record.own)
     }
 
     /// The listed addresses that count: none beyond the fourth, though a count above 4 is refused.
     #[must_use]
     pub fn listed_addresses(&self) -> impl ExactSizeIterator<Item = Address> + Clone + '_ {
-        let count = usize::from(self.octets[sys::LISTED_COUNT]).min(limits::MOST_LISTED);
-        (0..count).map(|k| self.address(sys::LISTED + 6 * k))
+        let listed = self.record.listed.iter();
+        listed
+            .take(self.record.listed_count.into())
+            .map(|record| Address::of(*record))
     }
 
     /// Whether broadcast is accepted.
     #[must_use]
     pub const fn accepts_broadcast(&self) -> bool {
-        self.octets[sys::BROADCAST] != 0
+        self.record.broadcast != 0
     }
 
     /// Whether every destination is accepted.
     #[must_use]
     pub const fn is_promiscuous(&self) -> bool {
-        self.octets[sys::PROMISCUOUS] != 0
+        self.record.promiscuous != 0
     }
 
     /// Whether lengths are checked, and padding is left off what is handed out.
     #[must_use]
     pub const fn checks_lengths(&self) -> bool {
-        self.octets[sys::CHECKING] != 0
+        self.record.checking != 0
     }
 
     /// Whether control frames that are not taken are handed out.
     #[must_use]
     pub const fn passes_control(&self) -> bool {
-        self.octets[sys::PASS_CONTROL] != 0
+        self.record.pass_control != 0
     }
 
     /// The flow mode.
     #[must_use]
     pub const fn flow_mode(&self) -> Flow {
-        Flow::of(self.octets[sys::FLOW])
+        Flow::of(self.record.flow)
     }
 
     /// The limit M.
     #[must_use]
     pub const fn frame_limit(&self) -> u16 {
-        u16::from_be_bytes([self.octets[sys::LIMIT], self.octets[sys::LIMIT + 1]])
-    }
-
-    // The address at a place of the record.
-    fn address(&self, place: usize) -> Address {
-        Address(array::from_fn(|k| self.octets[place + k]))
-    }
-
-    const fn with(mut self, place: usize, octet: u8) -> Settings {
-        self.octets[place] = octet;
-        self
+        self.record.limit
     }
 
     // As the header lays them out.
-    pub(crate) const fn octets(&self) -> &[u8; sys::SETTINGS] {
-        &self.octets
+    pub(crate) const fn record(&self) -> &sys::Settings {
+        &self.record
     }
 }
 
 impl fmt::Debug for Settings {
     fn fmt(&self, f: &mut fmt::Formatter<'_>) -> fmt::Result {
-        let listed: [Address; limits::MOST_LISTED] =
-            array::from_fn(|k| self.address(sys::LISTED + 6 * k));
         f.debug_struct("Settings")
             .field("own", &self.own())
-            .field("listed", &listed)
-            .field("listed_count", &self.octets[sys::LISTED_COUNT])
+            .field("listed", &self.record.listed.map(Address::of))
+            .field("listed_count", &self.record.listed_count)
             .field("broadcast", &self.accepts_broadcast())
             .field("promiscuous", &self.is_promiscuous())
             .field("checking", &self.checks_lengths())

@@ -23,8 +23,8 @@ use core::fmt;
 /// ```
 #[derive(Clone, PartialEq, Eq, Hash)]
 pub struct State {
-    // as the header lays them out
-    numbers: [u64; sys::STATE],
+    // as the header lays it out
+    record: sys::State,
 }
 
 impl State {
@@ -43,16 +43,16 @@ impl State {
     /// ```
     #[must_use]
     pub fn with(counters: [u64; OUTCOMES], timers: [u64; CLASSES]) -> State {
-        let mut numbers = sys::fresh_state();
-        numbers[sys::COUNTERS..][..OUTCOMES].copy_from_slice(&counters);
-        numbers[sys::TIMERS..][..CLASSES].copy_from_slice(&timers);
-        State { numbers }
+        let mut record = sys::fresh_state();
+        record.counters = counters;
+        record.timers = timers;
+        State { record }
     }
 
     /// How many Starts had this outcome, modulo 2^32.
     #[must_use]
     pub fn counter(&self, outcome: Outcome) -> u64 {
-        self.numbers[sys::COUNTERS + usize::from(outcome.number() - 1)]
+        self.record.counters[usize::from(outcome.number() - 1)]
     }
 
     /// All counters, in the order of the outcomes.
@@ -72,20 +72,18 @@ impl State {
     /// ```
     #[must_use]
     pub fn timer(&self, class: u8) -> Option<u64> {
-        self.timers().get(usize::from(class)).copied()
+        self.record.timers.get(usize::from(class)).copied()
     }
 
     /// The timers of classes 0 to 7, in slots. A slot is one symbol written: a class is let go once
     /// its timer's slots are written.
     #[must_use]
     pub fn timers(&self) -> [u64; CLASSES] {
-        let mut timers = [0; CLASSES];
-        timers.copy_from_slice(&self.numbers[sys::TIMERS..][..CLASSES]);
-        timers
+        self.record.timers
     }
 
-    pub(crate) fn numbers(&mut self) -> &mut [u64; sys::STATE] {
-        &mut self.numbers
+    pub(crate) fn record(&mut self) -> &mut sys::State {
+        &mut self.record
     }
 }
 
@@ -93,7 +91,7 @@ impl State {
 impl Default for State {
     fn default() -> State {
         State {
-            numbers: sys::fresh_state(),
+            record: sys::fresh_state(),
         }
     }
 }

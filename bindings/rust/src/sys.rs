@@ -6,156 +6,223 @@
 //! call writes is lent to it alone.
 #![allow(unsafe_code)]
 
-// Names and values are the header's; the tests hold them, and the declarations below, to it.
-pub const SYMBOLS: usize = 65536;
+use core::mem::size_of;
 
-pub const SETTINGS: usize = 40;
-pub const OWN: usize = 0;
-pub const LISTED: usize = 6;
-pub const LISTED_COUNT: usize = 30;
-pub const BROADCAST: usize = 31;
-pub const PROMISCUOUS: usize = 32;
-pub const CHECKING: usize = 33;
-pub const PASS_CONTROL: usize = 34;
-pub const FLOW: usize = 35;
-pub const LIMIT: usize = 36;
+// Numbers and records are the header's, each under its name there; the tests hold them, and the
+// declarations below, to it.
+pub const MOST_SYMBOLS: usize = 65536;
+pub const LEAST_LIMIT: u16 = 1518;
+pub const MOST_LISTED: usize = 4;
+pub const MOST_TAGS: usize = 8;
+pub const CLASSES: usize = 8;
+pub const OUTCOMES: usize = 11;
 
 pub const FLOW_NONE: u8 = 0;
 pub const FLOW_PAUSE: u8 = 1;
 pub const FLOW_PFC: u8 = 2;
 
-pub const STATE: usize = 24;
-pub const COUNTERS: usize = 0;
-pub const TIMERS: usize = 11;
-
 pub const COUNTED: u64 = 0;
 pub const NONE: u64 = 1;
 pub const OPEN: u64 = 2;
 
-pub const READING: usize = 8;
-pub const READING_REFUSAL: usize = 0;
-pub const READING_KIND: usize = 1;
-pub const READING_OUTCOME: usize = 2;
-pub const READING_START: usize = 3;
-pub const READING_NEXT: usize = 4;
-pub const READING_STATUS: usize = 5;
-pub const READING_AT: usize = 6;
-pub const READING_LENGTH: usize = 7;
+pub const STATUS_PFC: u64 = 1 << 39;
+pub const STATUS_UNICAST: u64 = 1 << 38;
+pub const STATUS_MULTICAST: u64 = 1 << 37;
+pub const STATUS_BROADCAST: u64 = 1 << 36;
+pub const STATUS_PAUSE: u64 = 1 << 35;
+pub const STATUS_CONTROL: u64 = 1 << 34;
+pub const STATUS_TAGGED: u64 = 1 << 33;
+pub const STATUS_STACKED: u64 = 1 << 32;
 
-pub const STATUS_PFC: u32 = 39;
-pub const STATUS_UNICAST: u32 = 38;
-pub const STATUS_MULTICAST: u32 = 37;
-pub const STATUS_BROADCAST: u32 = 36;
-pub const STATUS_PAUSE: u32 = 35;
-pub const STATUS_CONTROL: u32 = 34;
-pub const STATUS_TAGGED: u32 = 33;
-pub const STATUS_STACKED: u32 = 32;
-
-pub const WALK: usize = 3;
-pub const WALK_REFUSAL: usize = 0;
-pub const WALK_STARTS: usize = 1;
-pub const WALK_OPEN: usize = 2;
-
-pub const SENT: usize = 2;
-pub const SENT_REFUSAL: usize = 0;
-pub const SENT_PLACE: usize = 1;
-
-pub const CLIENT: usize = 44;
-pub const CLIENT_DESTINATION: usize = 0;
-pub const CLIENT_CLASS: usize = 6;
-pub const CLIENT_FORM: usize = 7;
-pub const CLIENT_TYPE: usize = 8;
-pub const CLIENT_TAGS: usize = 10;
-pub const CLIENT_TAG: usize = 12;
-
-pub const TAG: usize = 4;
-pub const TAG_KIND: usize = 0;
-pub const TAG_CONTROL: usize = 2;
-pub const MOST_TAGS: usize = 8;
+pub const FORM_LENGTH: u8 = 0;
+pub const FORM_TYPE: u8 = 1;
 
 pub const TAG_CUSTOMER: u8 = 0;
 pub const TAG_SERVICE: u8 = 1;
 
+#[repr(C)]
+#[derive(Clone, Copy, PartialEq, Eq, Hash)]
+pub struct Address {
+    pub octets: [u8; 6],
+}
+
+#[repr(C)]
+#[derive(Clone, Copy, PartialEq, Eq, Hash)]
+pub struct Settings {
+    pub own: Address,
+    pub listed: [Address; MOST_LISTED],
+    pub listed_count: u8,
+    pub broadcast: u8,
+    pub promiscuous: u8,
+    pub checking: u8,
+    pub pass_control: u8,
+    pub flow: u8,
+    pub limit: u16,
+    pub spare: [u8; 10],
+}
+
+#[repr(C)]
+#[derive(Clone, PartialEq, Eq, Hash)]
+pub struct State {
+    pub counters: [u64; OUTCOMES],
+    pub timers: [u64; CLASSES],
+    pub spare: [u64; 5],
+}
+
+#[repr(C)]
+#[derive(Default)]
+pub struct Reading {
+    pub refusal: u64,
+    pub kind: u64,
+    pub outcome: u64,
+    pub start: u64,
+    pub next: u64,
+    pub status: u64,
+    pub data_place: u64,
+    pub data_length: u64,
+    pub spare: [u64; 4],
+}
+
+#[repr(C)]
+#[derive(Default)]
+pub struct Walked {
+    pub refusal: u64,
+    pub starts: u64,
+    pub open: u64,
+    pub spare: u64,
+}
+
+#[repr(C)]
+#[derive(Clone, Copy, Debug, Default, PartialEq, Eq)]
+pub struct Sent {
+    pub refusal: u64,
+    pub place: u64,
+}
+
+#[repr(C)]
+#[derive(Default)]
+pub struct Part {
+    pub place: u64,
+    pub length: u64,
+}
+
+#[repr(C)]
+#[derive(Clone, Copy, PartialEq, Eq, Hash)]
+pub struct Tag {
+    pub kind: u8,
+    pub spare: u8,
+    pub control: u16,
+}
+
+#[repr(C)]
+#[derive(Clone, Copy, PartialEq, Eq, Hash)]
+pub struct Client {
+    pub destination: Address,
+    pub traffic_class: u8,
+    pub form: u8,
+    pub r#type: u16,
+    pub tag_count: u8,
+    pub spare: u8,
+    pub tags: [Tag; MOST_TAGS],
+}
+
+// Members of the same names, order and numbers in the layout of C: with the sizes, all is the same.
+const _: () = assert!(size_of::<Settings>() == 48 && size_of::<State>() == 192);
+const _: () = assert!(size_of::<Reading>() == 96 && size_of::<Walked>() == 32);
+const _: () = assert!(size_of::<Sent>() == 16 && size_of::<Part>() == 16);
+const _: () = assert!(size_of::<Tag>() == 4 && size_of::<Client>() == 44);
+
 extern "C" {
+    fn fenhamper_layout_2() -> u32;
     fn fenhamper_read(
-        settings: &[u8; SETTINGS],
-        state: &mut [u64; STATE],
+        settings: &Settings,
+        state: &mut State,
         octets: *const u8,
         octets_length: usize,
         marks: *const u8,
         marks_length: usize,
         place: usize,
-        reading: &mut [u64; READING],
+        reading: &mut Reading,
     );
-    fn fenhamper_client_data(octets_length: usize, at: usize, length: usize, part: &mut [u64; 2]);
     fn fenhamper_walk(
-        settings: &[u8; SETTINGS],
-        state: &mut [u64; STATE],
+        settings: &Settings,
+        state: &mut State,
         octets: *const u8,
         octets_length: usize,
         marks: *const u8,
         marks_length: usize,
-        walk: &mut [u64; WALK],
+        walked: &mut Walked,
     );
+    fn fenhamper_client_data(octets_length: usize, place: usize, length: usize, part: &mut Part);
     fn fenhamper_send_client(
-        settings: &[u8; SETTINGS],
-        state: &mut [u64; STATE],
+        settings: &Settings,
+        state: &mut State,
         octets: *mut u8,
         octets_length: usize,
         marks: *mut u8,
         marks_length: usize,
         place: usize,
-        client: &[u8; CLIENT],
+        client: &Client,
         data: *const u8,
         data_length: usize,
-        sent: &mut [u64; SENT],
+        sent: &mut Sent,
     );
     fn fenhamper_send_pause(
-        settings: &[u8; SETTINGS],
-        state: &mut [u64; STATE],
+        settings: &Settings,
+        state: &mut State,
         octets: *mut u8,
         octets_length: usize,
         marks: *mut u8,
         marks_length: usize,
         place: usize,
         quanta: u16,
-        sent: &mut [u64; SENT],
+        sent: &mut Sent,
     );
     fn fenhamper_send_pfc(
-        settings: &[u8; SETTINGS],
-        state: &mut [u64; STATE],
+        settings: &Settings,
+        state: &mut State,
         octets: *mut u8,
         octets_length: usize,
         marks: *mut u8,
         marks_length: usize,
         place: usize,
         named: u8,
-        quanta: &[u16; 8],
-        sent: &mut [u64; SENT],
+        quanta: &[u16; CLASSES],
+        sent: &mut Sent,
     );
     fn fenhamper_fill_idle(
-        state: &mut [u64; STATE],
+        state: &mut State,
         octets: *mut u8,
         octets_length: usize,
         marks: *mut u8,
         marks_length: usize,
         place: usize,
         idles: usize,
-        sent: &mut [u64; SENT],
+        sent: &mut Sent,
     );
     fn fenhamper_fcs(octets: *const u8, length: usize) -> u32;
     fn fenhamper_fcs_update(from: u32, octets: *const u8, length: usize) -> u32;
-    fn fenhamper_fresh_state(state: &mut [u64; STATE]);
+    fn fenhamper_fresh_state(state: &mut State);
+}
+
+// An archive of another layout has no such symbol, and does not link.
+#[used]
+static THE_LAYOUT: unsafe extern "C" fn() -> u32 = fenhamper_layout_2;
+
+#[cfg(test)]
+pub fn layout() -> u32 {
+    // SAFETY: nothing passes.
+    unsafe { fenhamper_layout_2() }
 }
 
 pub fn read(
-    settings: &[u8; SETTINGS],
-    state: &mut [u64; STATE],
+    settings: &Settings,
+    state: &mut State,
     octets: &[u8],
     marks: &[u8],
     place: usize,
-) -> [u64; READING] {
-    let mut reading = [0; READING];
+) -> Reading {
+    let mut reading = Reading::default();
     // SAFETY: each pointer and length is one slice's.
     unsafe {
         fenhamper_read(
@@ -172,20 +239,15 @@ pub fn read(
     reading
 }
 
-pub fn client_data(octets_length: usize, at: usize, length: usize) -> [u64; 2] {
-    let mut part = [0; 2];
+pub fn client_data(octets_length: usize, place: usize, length: usize) -> Part {
+    let mut part = Part::default();
     // SAFETY: only numbers pass, but for the part written.
-    unsafe { fenhamper_client_data(octets_length, at, length, &mut part) };
+    unsafe { fenhamper_client_data(octets_length, place, length, &mut part) };
     part
 }
 
-pub fn walk(
-    settings: &[u8; SETTINGS],
-    state: &mut [u64; STATE],
-    octets: &[u8],
-    marks: &[u8],
-) -> [u64; WALK] {
-    let mut walk = [0; WALK];
+pub fn walk(settings: &Settings, state: &mut State, octets: &[u8], marks: &[u8]) -> Walked {
+    let mut walked = Walked::default();
     // SAFETY: each pointer and length is one slice's.
     unsafe {
         fenhamper_walk(
@@ -195,22 +257,22 @@ pub fn walk(
             octets.len(),
             marks.as_ptr(),
             marks.len(),
-            &mut walk,
+            &mut walked,
         );
     }
-    walk
+    walked
 }
 
 pub fn send_client(
-    settings: &[u8; SETTINGS],
-    state: &mut [u64; STATE],
+    settings: &Settings,
+    state: &mut State,
     octets: &mut [u8],
     marks: &mut [u8],
     place: usize,
-    client: &[u8; CLIENT],
+    client: &Client,
     data: &[u8],
-) -> [u64; SENT] {
-    let mut sent = [0; SENT];
+) -> Sent {
+    let mut sent = Sent::default();
     // SAFETY: each pointer and length is one slice's, and the written ones are lent alone.
     unsafe {
         fenhamper_send_client(
@@ -231,14 +293,14 @@ pub fn send_client(
 }
 
 pub fn send_pause(
-    settings: &[u8; SETTINGS],
-    state: &mut [u64; STATE],
+    settings: &Settings,
+    state: &mut State,
     octets: &mut [u8],
     marks: &mut [u8],
     place: usize,
     quanta: u16,
-) -> [u64; SENT] {
-    let mut sent = [0; SENT];
+) -> Sent {
+    let mut sent = Sent::default();
     // SAFETY: each pointer and length is one slice's, and the written ones are lent alone.
     unsafe {
         fenhamper_send_pause(
@@ -257,15 +319,15 @@ pub fn send_pause(
 }
 
 pub fn send_pfc(
-    settings: &[u8; SETTINGS],
-    state: &mut [u64; STATE],
+    settings: &Settings,
+    state: &mut State,
     octets: &mut [u8],
     marks: &mut [u8],
     place: usize,
     named: u8,
-    quanta: &[u16; 8],
-) -> [u64; SENT] {
-    let mut sent = [0; SENT];
+    quanta: &[u16; CLASSES],
+) -> Sent {
+    let mut sent = Sent::default();
     // SAFETY: each pointer and length is one slice's, and the written ones are lent alone.
     unsafe {
         fenhamper_send_pfc(
@@ -285,13 +347,13 @@ pub fn send_pfc(
 }
 
 pub fn fill_idle(
-    state: &mut [u64; STATE],
+    state: &mut State,
     octets: &mut [u8],
     marks: &mut [u8],
     place: usize,
     idles: usize,
-) -> [u64; SENT] {
-    let mut sent = [0; SENT];
+) -> Sent {
+    let mut sent = Sent::default();
     // SAFETY: each pointer and length is one slice's, and the written ones are lent alone.
     unsafe {
         fenhamper_fill_idle(
@@ -318,8 +380,12 @@ pub fn fcs_update(from: u32, octets: &[u8]) -> u32 {
     unsafe { fenhamper_fcs_update(from, octets.as_ptr(), octets.len()) }
 }
 
-pub fn fresh_state() -> [u64; STATE] {
-    let mut state = [0; STATE];
+pub fn fresh_state() -> State {
+    let mut state = State {
+        counters: [0; OUTCOMES],
+        timers: [0; CLASSES],
+        spare: [0; 5],
+    };
     // SAFETY: only the state passes, and it is lent alone.
     unsafe { fenhamper_fresh_state(&mut state) };
     state

@@ -79,27 +79,25 @@ impl Tag {
     }
 
     // As the header lays it out.
-    pub(crate) const fn octets(self) -> [u8; sys::TAG] {
-        let mut octets = [0; sys::TAG];
-        octets[sys::TAG_KIND] = match self.kind {
-            TagKind::Customer => sys::TAG_CUSTOMER,
-            TagKind::Service => sys::TAG_SERVICE,
-        };
-        let [high, low] = self.control.to_be_bytes();
-        octets[sys::TAG_CONTROL] = high;
-        octets[sys::TAG_CONTROL + 1] = low;
-        octets
+    pub(crate) const fn record(self) -> sys::Tag {
+        sys::Tag {
+            kind: match self.kind {
+                TagKind::Customer => sys::TAG_CUSTOMER,
+                TagKind::Service => sys::TAG_SERVICE,
+            },
+            spare: 0,
+            control: self.control,
+        }
     }
 
     // The tag that the header lays out so.
-    pub(crate) fn of(octets: &[u8]) -> Tag {
-        let control = [octets[sys::TAG_CONTROL], octets[sys::TAG_CONTROL + 1]];
+    pub(crate) const fn of(record: sys::Tag) -> Tag {
         Tag {
-            kind: match octets[sys::TAG_KIND] {
+            kind: match record.kind {
                 sys::TAG_CUSTOMER => TagKind::Customer,
                 _ => TagKind::Service,
             },
-            control: u16::from_be_bytes(control),
+            control: record.control,
         }
     }
 }

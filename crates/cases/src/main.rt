@@ -149,7 +149,7 @@ fn pair(k: usize, before: u64, after: u64) {
 
 // The numbers of a state that differ, from `at` on, of which the first is called `first`.
 fn changed(before: &[u64; 24], after: &[u64; 24], at: usize, n: usize, first: usize)
-    requires { ⌜ (at + n < 24) × (first < 2) ⌝ }
+    requires { ⌜ (at + n ≤ 24) × (first < 20) ⌝ }
 {
     let mut k: usize = 0;
     while k < n {
@@ -163,6 +163,8 @@ fn changes(before: &[u64; 24], after: &[u64; 24]) {
     changed(before, after, 0, 11, 1);
     io::write_all(1, b" timers");
     changed(before, after, 11, 8, 0);
+    // what is kept for later, by its place among the numbers
+    changed(before, after, 19, 5, 19);
     io::write_all(1, b"\n");
 }
 
@@ -172,14 +174,14 @@ struct Call {
     kind: u64,
     place: usize,
     n: u64,
-    settings: [u8; 40],
+    settings: [u8; 48],
     state: [u64; 24],
     client: [u8; 44],
     quanta: [u16; 8],
 }
 
 fn call_at(t: &[u8], r: usize) -> Call {
-    let mut settings = [0u8; 40];
+    let mut settings = [0u8; 48];
     let mut state = [0u64; 24];
     let mut client = [0u8; 44];
     let mut quanta = [0u16; 8];
@@ -209,7 +211,7 @@ struct Turn {
     next: u64,
 }
 
-fn answer(a: &[u64; 8], o: &[u8]) -> Turn {
+fn answer(a: &[u64; 12], o: &[u8]) -> Turn {
     let which = which(a[0], a[1]);
     told(
         b" outcome 2 status P part 6 of 7| none| open| refused 0",
@@ -225,9 +227,9 @@ fn answer(a: &[u64; 8], o: &[u8]) -> Turn {
     Turn { which, next: a[4] }
 }
 
-fn read(s: &[u8; 40], state: &mut [u64; 24], o: &[u8], m: &[u8], at: u64) -> Turn {
+fn read(s: &[u8; 48], state: &mut [u64; 24], o: &[u8], m: &[u8], at: u64) -> Turn {
     let before = *state;
-    let mut a = [0u64; 8];
+    let mut a = [0u64; 12];
     fenhamper::fenhamper_read(s, state, o, m, at as usize, &mut a);
     let r = answer(&a, o);
     changes(&before, state);
@@ -241,13 +243,13 @@ fn left(turns: u64, which: u64) -> u64
     if which == 0 { turns - 1 } else { 0 }
 }
 
-fn walked(a: &[u64; 3]) {
+fn walked(a: &[u64; 4]) {
     told(b" walk 1 open 2||| walk refused 0", which(a[0], 0), a);
 }
 
-fn walk(s: &[u8; 40], before: &[u64; 24], o: &[u8], m: &[u8]) {
+fn walk(s: &[u8; 48], before: &[u64; 24], o: &[u8], m: &[u8]) {
     let mut state = *before;
-    let mut a = [0u64; 3];
+    let mut a = [0u64; 4];
     fenhamper::fenhamper_walk(s, &mut state, o, m, &mut a);
     walked(&a);
     changes(before, &state);

@@ -1,11 +1,10 @@
--- The C face (include/fenhamper.h): what the arrays that cross stand for, and how answers and states cross back. Decoding is total: any
--- numbers are some settings, some state, some client frame.
+-- The C face (include/fenhamper.h): what the records that cross stand for, and how answers and states cross back. A record crosses as its octets, or as
+-- its numbers of 64 bits. Decoding is total: any are some settings, some state, some client frame.
 use Prim.Native.Nat.{ℕ, zero, suc, _+_, _-_, _*_, _%_}
 use mathlib.Core.Bool.{Bool, true, false, cond, not, _&&_}
 use mathlib.Core.List.{List, [], _∷_, _++_}
 use lib.ListN.{length, getD, replicate}
 use lib.Dec.{eqb, leb, ltb}
-use Rattle.line.specs.Octets.{highFirstAt}
 use Rattle.station.specs.declared.Address.{Address}
 use Rattle.station.specs.declared.Flow.{Flow}
 use Rattle.station.specs.declared.Flow.the-variants.{Off, Pause, Pfc}
@@ -17,10 +16,8 @@ use Rattle.flow.specs.Timers.{timer}
 use Rattle.receive.specs.declared.Answer.{Answer}
 use Rattle.receive.specs.declared.Answer.the-variants.{Nothing, Open, Counted}
 use Rattle.receive.specs.declared.Reading.{Reading}
-use Rattle.receive.specs.declared.Walked.{Walked}
-use Rattle.receive.specs.declared.Walked.the-variants.{Ended}
 use Rattle.receive.specs.declared.WalkEnd.{WalkEnd}
-use Rattle.receive.specs.Values.{answerOutcome, answerRefusal, answerStatus, answerPart, walkedRefusal}
+use Rattle.receive.specs.Values.{answerOutcome, answerRefusal, answerStatus, answerPart, walkedRefusal, walkedStarts, walkedOpen}
 use Rattle.writing.specs.declared.Client.{Client}
 use Rattle.writing.specs.declared.Classes.{Classes}
 use Rattle.writing.specs.declared.Kind.{Kind}
@@ -36,20 +33,28 @@ unfoldable pub each : {A : Type 0} → (ℕ → A) → ℕ → ℕ → List A
 each f at zero = []
 each f at (suc n) = f at ∷ each f (at + 1) n
 
+-- the layout of the records, by its number: the name of an exported symbol has it, and it is what that function gives
+abbrev pub layout : ℕ
+layout = 2
+
 -- ---- what crosses to the module
 
--- "0 off, anything else on"
+-- a number of 16 bits in its two octets, "low octet first, as x86-64 does"
+unfoldable pub lowPairAt : List ℕ → ℕ → ℕ
+lowPairAt o at = getD o at 0 + getD o (at + 1) 0 * 256
+
+-- "0 no, anything else yes"
 unfoldable pub isOn : List ℕ → ℕ → Bool
 isOn o i = not (eqb (getD o i 0) 0)
 
 unfoldable pub addressAt : List ℕ → ℕ → Address
 addressAt o at = record { 0 = each (λ (i : ℕ). getD o i 0) at 6 }
 
--- "1 pause, 2 PFC, anything else none"
+-- 1 pause, 2 PFC; "anything else is NONE"
 unfoldable pub flowOf : ℕ → Flow
 flowOf n = cond (eqb n 1) Pause (cond (eqb n 2) Pfc Off)
 
--- settings, of 40 octets
+-- settings, of 48 octets
 unfoldable pub settingsOf : List ℕ → Settings
 settingsOf o =
     record {
@@ -59,12 +64,12 @@ settingsOf o =
       broadcast = isOn o 31;
       promiscuous = isOn o 32;
       checking = isOn o 33;
-      limit = highFirstAt o 36;
+      limit = lowPairAt o 36;
       flow = flowOf (getD o 35 0);
       passing = isOn o 34;
     }
 
--- "Of a counter and of a timer the low 32 bits are read"
+-- "Of each counter and timer the low 32 bits are read"
 unfoldable pub lowAt : List ℕ → ℕ → ℕ
 lowAt l i = getD l i 0 % 4294967296
 
@@ -78,14 +83,14 @@ timersOf l = each (λ (i : ℕ). record { 0 = lowAt l i }) 11 8
 unfoldable pub stateOf : List ℕ → State
 stateOf l = record { counters = countersOf l; timers = timersOf l }
 
--- a client frame, of 44 octets: of each tag "0 for 0x8100, anything else for 0x88A8"; "0 the data's length, anything else a type"
+-- a client frame, of 44 octets: of a tag's kind "anything but 0 is SERVICE"; of the form "anything but 0 is TYPE"
 unfoldable pub kindOf : ℕ → Kind
 kindOf n = cond (eqb n 0) Customer Service
 
 unfoldable pub tagAt : List ℕ → ℕ → Tag
-tagAt o at = record { kind = kindOf (getD o at 0); control = highFirstAt o (at + 2) }
+tagAt o at = record { kind = kindOf (getD o at 0); control = lowPairAt o (at + 2) }
 
--- "eight tags of 4 octets, the outermost first; those beyond the count are not looked at"
+-- eight tags of 4 octets, "the outermost first; those beyond the count are not looked at"
 abbrev pub noTag : Tag
 noTag = record { kind = Customer; control = 0 }
 
@@ -96,7 +101,7 @@ unfoldable pub tagsOf : List ℕ → List Tag
 tagsOf o = each (countedTag o) 0 8
 
 unfoldable pub formOf : List ℕ → Form
-formOf o = cond (eqb (getD o 7 0) 0) ByLength (ByType (highFirstAt o 8))
+formOf o = cond (eqb (getD o 7 0) 0) ByLength (ByType (lowPairAt o 8))
 
 unfoldable pub clientOf : List ℕ → Client
 clientOf o = record { dest = addressAt o 0; tags = tagsOf o; count = getD o 10 0; form = formOf o; class = getD o 6 0 }
@@ -121,7 +126,8 @@ answerKind Nothing = 1
 answerKind Open = 2
 answerKind (Counted o w p) = 0
 
--- a reading: refusal, kind, outcome, the Start's place, the next place, status word, and the client data's place and length
+-- a reading, as 12 numbers: refusal, kind, outcome, the Start's place, the next place, status word, the client data's place and length, and zeros for what is
+-- kept for later
 unfoldable pub readingNumbers : Reading → List ℕ
 readingNumbers r =
     answerRefusal (r .answer)
@@ -132,20 +138,13 @@ readingNumbers r =
     ∷ answerStatus (r .answer)
     ∷ answerPart (r .answer) .at
     ∷ answerPart (r .answer) .len
-    ∷ []
+    ∷ replicate 4 0
 
--- how a walk that was not refused ended: counted Starts, and 1 if open
-abbrev pub walkedStarts : Walked → ℕ
-walkedStarts (Walked.Refused x) = 0
-walkedStarts (Ended n b) = n
-
-abbrev pub walkedOpen : Walked → ℕ
-walkedOpen (Walked.Refused x) = 0
-walkedOpen (Ended n b) = cond b 1 0
-
+-- a walk, as 4 numbers: refusal, counted Starts, 1 if it ended open, and a zero
 unfoldable pub walkNumbers : WalkEnd → List ℕ
-walkNumbers w = walkedRefusal (w .answer) ∷ walkedStarts (w .answer) ∷ walkedOpen (w .answer) ∷ []
+walkNumbers w = walkedRefusal (w .answer) ∷ walkedStarts (w .answer) ∷ walkedOpen (w .answer) ∷ 0 ∷ []
 
+-- a sending call, as 2 numbers: refusal, and the place behind what was written
 unfoldable pub sentNumbers : Sent → List ℕ
 sentNumbers s = wentRefusal (s .answer) ∷ s .place ∷ []
 
@@ -155,6 +154,10 @@ partWithin n at len = cond (leb at n && leb len (n - at)) (at ∷ len ∷ []) (0
 
 -- ---- what a call leaves behind its pointers: a record, so that a promise is one equation
 
+-- "A refused call returns the state it was given": of its refusal's number, 0 if none, of the numbers before it, and of the state after it
+unfoldable pub stateLeft : ℕ → List ℕ → State → List ℕ
+stateLeft refusal before st = cond (eqb refusal 0) (stateNumbers st) before
+
 pub record Told : Type 0 where
   pub answer : List ℕ
   pub state : List ℕ
@@ -162,12 +165,12 @@ pub record Told : Type 0 where
 abbrev pub told : List ℕ → List ℕ → Told
 told a st = record { answer = a; state = st }
 
--- of a reading, and of a walk
-unfoldable pub readTold : Reading → Told
-readTold r = told (readingNumbers r) (stateNumbers (r .state))
+-- of a reading, and of a walk, each with the numbers of the state before it
+unfoldable pub readTold : List ℕ → Reading → Told
+readTold before r = told (readingNumbers r) (stateLeft (answerRefusal (r .answer)) before (r .state))
 
-unfoldable pub walkTold : WalkEnd → Told
-walkTold w = told (walkNumbers w) (stateNumbers (w .state))
+unfoldable pub walkTold : List ℕ → WalkEnd → Told
+walkTold before w = told (walkNumbers w) (stateLeft (walkedRefusal (w .answer)) before (w .state))
 
 pub record Wrote : Type 0 where
   pub answer : List ℕ
@@ -178,6 +181,6 @@ pub record Wrote : Type 0 where
 abbrev pub wrote : List ℕ → List ℕ → List ℕ → List ℕ → Wrote
 wrote a st os ms = record { answer = a; state = st; octets = os; marks = ms }
 
--- of a sending call
-unfoldable pub sendTold : Sending → Wrote
-sendTold x = wrote (sentNumbers (x .given)) (stateNumbers (x .given .state)) (x .octets) (x .marks)
+-- of a sending call, likewise
+unfoldable pub sendTold : List ℕ → Sending → Wrote
+sendTold before x = wrote (sentNumbers (x .given)) (stateLeft (wentRefusal (x .given .answer)) before (x .given .state)) (x .octets) (x .marks)

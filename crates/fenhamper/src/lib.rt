@@ -1,5 +1,5 @@
-// The C face (include/fenhamper.h): each exported function decodes its arrays, calls the module's function of that name, and encodes what
-// comes back. Meaning: specs/Face.antt.
+// The C face (include/fenhamper.h): each exported function decodes its records, calls the module's function of that name, and encodes what
+// comes back. A record crosses as the array of its octets, or of its numbers of 64 bits. Meaning: specs/Face.antt.
 use receive::Answer;
 use receive::Reading;
 use receive::WalkEnd;
@@ -29,15 +29,30 @@ ghost use Rattle.flow.specs.Timers.{timer};
 ghost use Rattle.receive.specs.Reading.{reading};
 ghost use Rattle.receive.specs.Walk.{walked};
 ghost use Rattle.send.specs.Sending.{clientSending, pauseSending, pfcSending, idleSending};
-ghost use Rattle.fenhamper.specs.Face.{flowOf, addressAt, settingsOf, countersOf, timersOf, stateOf, kindOf, tagAt, countedTag, tagsOf, formOf, clientOf, quantaOf, classesOf, stateNumbers, readingNumbers, walkNumbers, sentNumbers, partWithin, told, readTold, walkTold, wrote, sendTold};
+ghost use Rattle.fenhamper.specs.Face.{layout, lowPairAt, flowOf, addressAt, settingsOf, countersOf, timersOf, stateOf, kindOf, tagAt, countedTag, tagsOf, formOf, clientOf, quantaOf, classesOf, stateNumbers, readingNumbers, walkNumbers, sentNumbers, partWithin, stateLeft, told, readTold, walkTold, wrote, sendTold};
 
 // ---- what crosses to the module
 
-// 0 off, anything else on.
+// 0 no, anything else yes.
 fn is_on(x: u8) -> bool
     ensures { λ r. ⌜ r ≡ not (eqb x 0) ⌝ }
 {
     x != 0
+}
+
+// An octet as a number of 16 bits.
+fn wide(x: u8) -> u16
+    ensures { λ r. ⌜ (r ≡ x) × (r < 256) ⌝ }
+{
+    x as u16
+}
+
+// The number in two octets from `at` on, low octet first.
+fn low_pair(o: &[u8], at: usize) -> u16
+    requires { ⌜ at + 2 ≤ length (now o) ⌝ }
+    ensures { λ r. ⌜ r ≡ lowPairAt (now (o .entry)) at ⌝ }
+{
+    wide(o[at]) + wide(o[at + 1]) * 256
 }
 
 fn flow_mode(n: u8) -> Flow
@@ -60,7 +75,7 @@ fn address(o: &[u8], at: usize) -> Address
     Address([o[at], o[at + 1], o[at + 2], o[at + 3], o[at + 4], o[at + 5]])
 }
 
-fn settings(o: &[u8; 40]) -> Settings
+fn settings(o: &[u8; 48]) -> Settings
     ensures { λ r. ⌜ r ≡ settingsOf (now (o .entry)) ⌝ }
 {
     let own = address(o, 0);
@@ -71,7 +86,7 @@ fn settings(o: &[u8; 40]) -> Settings
         address(o, 24),
     ];
     let flow = flow_mode(o[35]);
-    let limit = fields::high_first(o, 36);
+    let limit = low_pair(o, 36);
     Settings {
         own,
         listed,
@@ -142,7 +157,7 @@ fn tag(o: &[u8; 44], at: usize) -> Tag
     ensures { λ r. ⌜ r ≡ tagAt (now (o .entry)) at ⌝ }
 {
     let kind = kind(o[at]);
-    let control = fields::high_first(o, at + 2);
+    let control = low_pair(o, at + 2);
     Tag { kind, control }
 }
 
@@ -189,7 +204,7 @@ fn form(o: &[u8; 44]) -> Form
     if o[7] == 0 {
         return Form::ByLength;
     }
-    Form::ByType(fields::high_first(o, 8))
+    Form::ByType(low_pair(o, 8))
 }
 
 fn client(o: &[u8; 44]) -> Client
@@ -269,7 +284,7 @@ fn state_numbers(state: State) -> [u64; 24]
     ]
 }
 
-fn reading_numbers(r: Reading) -> [u64; 8]
+fn reading_numbers(r: Reading) -> [u64; 12]
     ensures { λ n. ⌜ n ≡ readingNumbers r ⌝ }
 {
     let answer = r.answer;
@@ -278,10 +293,10 @@ fn reading_numbers(r: Reading) -> [u64; 8]
     match answer {
         Answer::Refused(x) => {
             let n = station::refusal_number(x) as u64;
-            [n, 0, 0, start, next, 0, 0, 0]
+            [n, 0, 0, start, next, 0, 0, 0, 0, 0, 0, 0]
         }
-        Answer::Nothing => [0, 1, 0, start, next, 0, 0, 0],
-        Answer::Open => [0, 2, 0, start, next, 0, 0, 0],
+        Answer::Nothing => [0, 1, 0, start, next, 0, 0, 0, 0, 0, 0, 0],
+        Answer::Open => [0, 2, 0, start, next, 0, 0, 0, 0, 0, 0, 0],
         Answer::Counted(outcome, status, part) => {
             let n = station::outcome_number(outcome) as u64;
             [
@@ -293,23 +308,27 @@ fn reading_numbers(r: Reading) -> [u64; 8]
                 status,
                 part.at as u64,
                 part.len as u64,
+                0,
+                0,
+                0,
+                0,
             ]
         }
     }
 }
 
-fn walk_numbers(w: WalkEnd) -> [u64; 3]
+fn walk_numbers(w: WalkEnd) -> [u64; 4]
     ensures { λ n. ⌜ n ≡ walkNumbers w ⌝ }
 {
     let answer = w.answer;
     match answer {
         Walked::Refused(x) => {
             let n = station::refusal_number(x) as u64;
-            [n, 0, 0]
+            [n, 0, 0, 0]
         }
         Walked::Ended(starts, open) => {
             let n = starts as u64;
-            if open { [0, n, 1] } else { [0, n, 0] }
+            if open { [0, n, 1, 0] } else { [0, n, 0, 0] }
         }
     }
 }
@@ -341,7 +360,26 @@ fn part_within(n: usize, at: usize, len: usize) -> [u64; 2]
     [at as u64, len as u64]
 }
 
+// A refused call leaves the state's numbers as they were, to the bit.
+fn leave(state: &mut [u64; 24], refusal: u64, after: State)
+    ensures { λ _. ⌜ now (state .exit) ≡ stateLeft refusal (now (state .entry)) after ⌝ }
+{
+    if refusal == 0 {
+        *state = state_numbers(after);
+    }
+}
+
 // ---- the exported functions
+
+// FENHAMPER_LAYOUT of the header. The symbol's name has it too, so that what was compiled for another layout does not link.
+const LAYOUT: u32 = 2;
+
+#[no_mangle]
+pub extern "C" fn fenhamper_layout_2() -> u32
+    ensures { λ r. ⌜ r ≡ layout ⌝ }
+{
+    LAYOUT
+}
 
 #[no_mangle]
 pub extern "C" fn fenhamper_fresh_state(state: &mut [u64; 24])
@@ -366,19 +404,19 @@ pub extern "C" fn fenhamper_fcs_update(from: u32, octets: &[u8]) -> u32
 
 #[no_mangle]
 pub extern "C" fn fenhamper_read(
-    s: &[u8; 40],
+    s: &[u8; 48],
     state: &mut [u64; 24],
     octets: &[u8],
     marks: &[u8],
     place: usize,
-    answer: &mut [u64; 8],
+    answer: &mut [u64; 12],
 )
     ensures { λ _. ⌜ told (now (answer .exit)) (now (state .exit))
-        ≡ readTold (reading (settingsOf (now (s .entry))) (stateOf (now (state .entry))) (now (octets .entry)) (now (marks .entry)) place) ⌝ }
+        ≡ readTold (now (state .entry)) (reading (settingsOf (now (s .entry))) (stateOf (now (state .entry))) (now (octets .entry)) (now (marks .entry)) place) ⌝ }
 {
     let r = receive::read(settings(s), state_of(state), octets, marks, place);
     *answer = reading_numbers(r);
-    *state = state_numbers(r.state);
+    leave(state, answer[0], r.state);
 }
 
 #[no_mangle]
@@ -395,23 +433,23 @@ pub extern "C" fn fenhamper_client_data(
 
 #[no_mangle]
 pub extern "C" fn fenhamper_walk(
-    s: &[u8; 40],
+    s: &[u8; 48],
     state: &mut [u64; 24],
     octets: &[u8],
     marks: &[u8],
-    answer: &mut [u64; 3],
+    answer: &mut [u64; 4],
 )
     ensures { λ _. ⌜ told (now (answer .exit)) (now (state .exit))
-        ≡ walkTold (walked (settingsOf (now (s .entry))) (stateOf (now (state .entry))) (now (octets .entry)) (now (marks .entry))) ⌝ }
+        ≡ walkTold (now (state .entry)) (walked (settingsOf (now (s .entry))) (stateOf (now (state .entry))) (now (octets .entry)) (now (marks .entry))) ⌝ }
 {
     let w = receive::walk(settings(s), state_of(state), octets, marks);
     *answer = walk_numbers(w);
-    *state = state_numbers(w.state);
+    leave(state, answer[0], w.state);
 }
 
 #[no_mangle]
 pub extern "C" fn fenhamper_send_client(
-    s: &[u8; 40],
+    s: &[u8; 48],
     state: &mut [u64; 24],
     octets: &mut [u8],
     marks: &mut [u8],
@@ -421,7 +459,7 @@ pub extern "C" fn fenhamper_send_client(
     answer: &mut [u64; 2],
 )
     ensures { λ _. ⌜ wrote (now (answer .exit)) (now (state .exit)) (now (octets .exit)) (now (marks .exit))
-        ≡ sendTold (clientSending (settingsOf (now (s .entry))) (stateOf (now (state .entry))) (now (octets .entry)) (now (marks .entry)) place (clientOf (now (frame .entry))) (now («data» .entry))) ⌝ }
+        ≡ sendTold (now (state .entry)) (clientSending (settingsOf (now (s .entry))) (stateOf (now (state .entry))) (now (octets .entry)) (now (marks .entry)) place (clientOf (now (frame .entry))) (now («data» .entry))) ⌝ }
 {
     let r = send::send_client(
         settings(s),
@@ -433,12 +471,12 @@ pub extern "C" fn fenhamper_send_client(
         data,
     );
     *answer = sent_numbers(r);
-    *state = state_numbers(r.state);
+    leave(state, answer[0], r.state);
 }
 
 #[no_mangle]
 pub extern "C" fn fenhamper_send_pause(
-    s: &[u8; 40],
+    s: &[u8; 48],
     state: &mut [u64; 24],
     octets: &mut [u8],
     marks: &mut [u8],
@@ -447,7 +485,7 @@ pub extern "C" fn fenhamper_send_pause(
     answer: &mut [u64; 2],
 )
     ensures { λ _. ⌜ wrote (now (answer .exit)) (now (state .exit)) (now (octets .exit)) (now (marks .exit))
-        ≡ sendTold (pauseSending (settingsOf (now (s .entry))) (stateOf (now (state .entry))) (now (octets .entry)) (now (marks .entry)) place (quantaOf quanta)) ⌝ }
+        ≡ sendTold (now (state .entry)) (pauseSending (settingsOf (now (s .entry))) (stateOf (now (state .entry))) (now (octets .entry)) (now (marks .entry)) place (quantaOf quanta)) ⌝ }
 {
     let r = send::send_pause(
         settings(s),
@@ -458,12 +496,12 @@ pub extern "C" fn fenhamper_send_pause(
         Quanta(quanta),
     );
     *answer = sent_numbers(r);
-    *state = state_numbers(r.state);
+    leave(state, answer[0], r.state);
 }
 
 #[no_mangle]
 pub extern "C" fn fenhamper_send_pfc(
-    s: &[u8; 40],
+    s: &[u8; 48],
     state: &mut [u64; 24],
     octets: &mut [u8],
     marks: &mut [u8],
@@ -473,7 +511,7 @@ pub extern "C" fn fenhamper_send_pfc(
     answer: &mut [u64; 2],
 )
     ensures { λ _. ⌜ wrote (now (answer .exit)) (now (state .exit)) (now (octets .exit)) (now (marks .exit))
-        ≡ sendTold (pfcSending (settingsOf (now (s .entry))) (stateOf (now (state .entry))) (now (octets .entry)) (now (marks .entry)) place (classesOf named (now (quanta .entry)))) ⌝ }
+        ≡ sendTold (now (state .entry)) (pfcSending (settingsOf (now (s .entry))) (stateOf (now (state .entry))) (now (octets .entry)) (now (marks .entry)) place (classesOf named (now (quanta .entry)))) ⌝ }
 {
     let r = send::send_pfc(
         settings(s),
@@ -484,7 +522,7 @@ pub extern "C" fn fenhamper_send_pfc(
         classes(named, quanta),
     );
     *answer = sent_numbers(r);
-    *state = state_numbers(r.state);
+    leave(state, answer[0], r.state);
 }
 
 #[no_mangle]
@@ -497,9 +535,9 @@ pub extern "C" fn fenhamper_fill_idle(
     answer: &mut [u64; 2],
 )
     ensures { λ _. ⌜ wrote (now (answer .exit)) (now (state .exit)) (now (octets .exit)) (now (marks .exit))
-        ≡ sendTold (idleSending (stateOf (now (state .entry))) (now (octets .entry)) (now (marks .entry)) place idles) ⌝ }
+        ≡ sendTold (now (state .entry)) (idleSending (stateOf (now (state .entry))) (now (octets .entry)) (now (marks .entry)) place idles) ⌝ }
 {
     let r = send::fill_idle(state_of(state), octets, marks, place, idles);
     *answer = sent_numbers(r);
-    *state = state_numbers(r.state);
+    leave(state, answer[0], r.state);
 }

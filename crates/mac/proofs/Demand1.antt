@@ -31,7 +31,7 @@ use Rattle.receive.specs.Values.{answerRefusal, walkedRefusal}
 use Rattle.receive.specs.Walk.{walkOf, walked}
 use Rattle.writing.specs.declared.Client.{Client}
 use Rattle.writing.specs.declared.Classes.{Classes}
-use Rattle.writing.specs.Frames.{clientSymbols, pauseSymbols, pfcSymbols, idleSymbols}
+use Rattle.writing.specs.Frames.{plainIdles, clientSymbols, pauseSymbols, pfcSymbols, idleSymbols}
 use Rattle.send.specs.Sending.{wentRefusal, sendChecked, clientRefusals, controlRefusals, idleRefusals, clientChecked, pauseChecked, pfcChecked, idleChecked, clientSending, pauseSending, pfcSending, idleSending}
 use Rattle.mac.specs.Demand1.{numbersOf, rowHolds, placeIn, NoneBefore, Exactly, ReadRefused, SendRefused, ReadsOrRefuses, SendsOrRefuses}
 use Rattle.receive.proofs.Walks.{through, walk-through, walked-refused}
@@ -257,7 +257,7 @@ module _ (s : Settings) (st : State) (os ms : List ℕ) (place : ℕ) where
   pub client-refuses : (c : Client) (d : List ℕ)
       → SendsOrRefuses (clientRefusals s st os ms place c d) (1 ∷ 2 ∷ 3 ∷ 5 ∷ 6 ∷ 10 ∷ 7 ∷ 8 ∷ 9 ∷ []) st os ms place (clientSending s st os ms place c d)
   unfolding clientSending clientChecked
-  client-refuses c d = send-refuses (client-listed c d) st os ms place (clientSymbols s c d)
+  client-refuses c d = send-refuses (client-listed c d) st os ms place (clientSymbols plainIdles s c d)
 
   -- "pause and PFC 1 to 4 and 8"
   control-listed : (inMode : Bool) (new : List Symbol) → Listed (controlRefusals s os ms place inMode new) (1 ∷ 2 ∷ 3 ∷ 4 ∷ 8 ∷ [])
@@ -265,16 +265,16 @@ module _ (s : Settings) (st : State) (os ms : List ℕ) (place : ℕ) where
   control-listed inMode new = (refl, refl)
 
   pub pause-refuses : (q : Quanta)
-      → SendsOrRefuses (controlRefusals s os ms place (isPauseMode (s .flow)) (pauseSymbols s q)) (1 ∷ 2 ∷ 3 ∷ 4 ∷ 8 ∷ [])
+      → SendsOrRefuses (controlRefusals s os ms place (isPauseMode (s .flow)) (pauseSymbols plainIdles s q)) (1 ∷ 2 ∷ 3 ∷ 4 ∷ 8 ∷ [])
       st os ms place (pauseSending s st os ms place q)
   unfolding pauseSending pauseChecked
-  pause-refuses q = send-refuses (control-listed (isPauseMode (s .flow)) (pauseSymbols s q)) st os ms place (pauseSymbols s q)
+  pause-refuses q = send-refuses (control-listed (isPauseMode (s .flow)) (pauseSymbols plainIdles s q)) st os ms place (pauseSymbols plainIdles s q)
 
   pub pfc-refuses : (k : Classes)
-      → SendsOrRefuses (controlRefusals s os ms place (isPfcMode (s .flow)) (pfcSymbols s k)) (1 ∷ 2 ∷ 3 ∷ 4 ∷ 8 ∷ [])
+      → SendsOrRefuses (controlRefusals s os ms place (isPfcMode (s .flow)) (pfcSymbols plainIdles s k)) (1 ∷ 2 ∷ 3 ∷ 4 ∷ 8 ∷ [])
       st os ms place (pfcSending s st os ms place k)
   unfolding pfcSending pfcChecked
-  pfc-refuses k = send-refuses (control-listed (isPfcMode (s .flow)) (pfcSymbols s k)) st os ms place (pfcSymbols s k)
+  pfc-refuses k = send-refuses (control-listed (isPfcMode (s .flow)) (pfcSymbols plainIdles s k)) st os ms place (pfcSymbols plainIdles s k)
 
 idle-listed : (os ms : List ℕ) (place : ℕ) (new : List Symbol) → Listed (idleRefusals os ms place new) (2 ∷ 3 ∷ 8 ∷ [])
 unfolding idleRefusals numbersOf repeats isIn

@@ -1,14 +1,30 @@
 -- `fenhamper::fenhamper_send_pause` meets its contract. Assumes nothing.
-use Rattle.fenhamper.specs.Face.{quantaOf}
 use denote.Ref.{now}
-use Rattle.fenhamper.proofs.Crossing.{send-crosses}
-use Rattle.send.specs.Sending.{pauseSending}
+use mathlib.Core.Path.{ap₂, _∙_}
 use Rattle.station.specs.declared.State.{State}
 use Rattle.station.specs.declared.Settings.{Settings}
-use mathlib.Core.Path.{ap₂, _∙_}
+use Rattle.send.specs.Sending.{pauseSending}
+use Rattle.fenhamper.specs.Face.{quantaOf}
+use Rattle.fenhamper.proofs.Crossing.{send-crosses}
 use borrow.Author.Needs.{needs}
 use Rattle.fenhamper.proofs.fenhamper_send_pause.Statement.{statement}
 use Rattle.fenhamper.proofs.fenhamper_send_pause.Tie as tie
+
+-- the places behind its calls
+abbrev told : tie.After-leave → tie.After-sent-numbers
+told c = c .before .before .before
+
+abbrev called : tie.After-leave → tie.After-send-pause
+called c = told c .before .before .before .before .before
+
+abbrev decoded : tie.After-leave → tie.After-state-of
+decoded c = called c .before .before .before
+
+abbrev set : tie.After-leave → tie.After-settings
+set c = decoded c .before .before
+
+abbrev start : tie.After-leave → tie.Start
+start c = set c .before .before .before
 
 settings-requires : tie.Need-settings-requires
 settings-requires c κs = search needs
@@ -22,8 +38,11 @@ send-pause-requires c κs = search needs
 sent-numbers-requires : tie.Need-sent-numbers-requires
 sent-numbers-requires c κs = search needs
 
-state-numbers-requires : tie.Need-state-numbers-requires
-state-numbers-requires c κs = search needs
+element-copy-out-leave : tie.Need-element-copy-out-leave
+element-copy-out-leave c = search needs
+
+leave-requires : tie.Need-leave-requires
+leave-requires c κs = search needs
 
 same-length : tie.Need-same-length
 same-length c = search needs
@@ -33,9 +52,10 @@ same-length-2 c = search needs
 
 returns : tie.Need-returns
 returns c =
-    let a = c .before .before .before .before .before .before .before .before .before .before .before .before .before .before .args in
-    send-crosses (c .before .sent-numbers .ensures) (c .state-numbers .ensures)
-    (c .before .before .before .before .before .before .send-pause .ensures ∙ ap₂ (λ (s : Settings) (st : State). pauseSending s st (now (a .octets)) (now (a .marks)) (a .place) (quantaOf (a .quanta))) (c .before .before .before .before .before .before .before .before .before .before .before .settings .ensures) (c .before .before .before .before .before .before .before .before .before .state-of .ensures))
+    let a = start c .args in
+    send-crosses _ (told c .sent-numbers .ensures) (c .leave .ensures)
+    (called c .send-pause .ensures
+    ∙ ap₂ (λ (s : Settings) (st : State). pauseSending s st (now (a .octets)) (now (a .marks)) (a .place) (quantaOf (a .quanta))) (set c .settings .ensures) (decoded c .state-of .ensures))
 
 pub fenhamper-send-pause-spec : {M : Type 1} → statement M
 fenhamper-send-pause-spec =
@@ -45,7 +65,8 @@ fenhamper-send-pause-spec =
     state-of-requires
     send-pause-requires
     sent-numbers-requires
-    state-numbers-requires
+    element-copy-out-leave
+    leave-requires
     same-length
     same-length-2
     returns)

@@ -1,15 +1,34 @@
 -- `fenhamper::fenhamper_send_pfc` meets its contract. Assumes nothing.
-use Rattle.fenhamper.specs.Face.{settingsOf, stateOf}
 use denote.Ref.{now}
-use Rattle.writing.specs.declared.Classes.{Classes}
-use Rattle.fenhamper.proofs.Crossing.{send-crosses}
-use Rattle.send.specs.Sending.{pfcSending}
+use mathlib.Core.Path.{ap, ap₂, _∙_}
 use Rattle.station.specs.declared.State.{State}
 use Rattle.station.specs.declared.Settings.{Settings}
-use mathlib.Core.Path.{ap, ap₂, _∙_}
+use Rattle.writing.specs.declared.Classes.{Classes}
+use Rattle.send.specs.Sending.{pfcSending}
+use Rattle.fenhamper.specs.Face.{settingsOf, stateOf}
+use Rattle.fenhamper.proofs.Crossing.{send-crosses}
 use borrow.Author.Needs.{needs}
 use Rattle.fenhamper.proofs.fenhamper_send_pfc.Statement.{statement}
 use Rattle.fenhamper.proofs.fenhamper_send_pfc.Tie as tie
+
+-- the places behind its calls
+abbrev told : tie.After-leave → tie.After-sent-numbers
+told c = c .before .before .before
+
+abbrev called : tie.After-leave → tie.After-send-pfc
+called c = told c .before .before .before .before .before
+
+abbrev framed : tie.After-leave → tie.After-classes
+framed c = called c .before
+
+abbrev decoded : tie.After-leave → tie.After-state-of
+decoded c = framed c .before .before .before
+
+abbrev set : tie.After-leave → tie.After-settings
+set c = decoded c .before .before
+
+abbrev start : tie.After-leave → tie.Start
+start c = set c .before .before .before
 
 settings-requires : tie.Need-settings-requires
 settings-requires c κs = search needs
@@ -26,8 +45,11 @@ send-pfc-requires c κs = search needs
 sent-numbers-requires : tie.Need-sent-numbers-requires
 sent-numbers-requires c κs = search needs
 
-state-numbers-requires : tie.Need-state-numbers-requires
-state-numbers-requires c κs = search needs
+element-copy-out-leave : tie.Need-element-copy-out-leave
+element-copy-out-leave c = search needs
+
+leave-requires : tie.Need-leave-requires
+leave-requires c κs = search needs
 
 same-length : tie.Need-same-length
 same-length c = search needs
@@ -37,10 +59,11 @@ same-length-2 c = search needs
 
 returns : tie.Need-returns
 returns c =
-    let a = c .before .before .before .before .before .before .before .before .before .before .before .before .before .before .before .args in
-    send-crosses (c .before .sent-numbers .ensures) (c .state-numbers .ensures)
-    (c .before .before .before .before .before .before .send-pfc .ensures ∙ ap₂ (λ (s : Settings) (st : State). pfcSending s st (now (a .octets)) (now (a .marks)) (a .place) (c .before .before .before .before .before .before .before .classes .result)) (c .before .before .before .before .before .before .before .before .before .before .before .before .settings .ensures) (c .before .before .before .before .before .before .before .before .before .before .state-of .ensures)
-    ∙ ap (λ (k : Classes). pfcSending (settingsOf (now (a .s))) (stateOf (now (a .state))) (now (a .octets)) (now (a .marks)) (a .place) k) (c .before .before .before .before .before .before .before .classes .ensures))
+    let a = start c .args in
+    send-crosses _ (told c .sent-numbers .ensures) (c .leave .ensures)
+    (called c .send-pfc .ensures
+    ∙ ap₂ (λ (s : Settings) (st : State). pfcSending s st (now (a .octets)) (now (a .marks)) (a .place) (framed c .classes .result)) (set c .settings .ensures) (decoded c .state-of .ensures)
+    ∙ ap (λ (k : Classes). pfcSending (settingsOf (now (a .s))) (stateOf (now (a .state))) (now (a .octets)) (now (a .marks)) (a .place) k) (framed c .classes .ensures))
 
 pub fenhamper-send-pfc-spec : {M : Type 1} → statement M
 fenhamper-send-pfc-spec =
@@ -51,7 +74,8 @@ fenhamper-send-pfc-spec =
     classes-requires
     send-pfc-requires
     sent-numbers-requires
-    state-numbers-requires
+    element-copy-out-leave
+    leave-requires
     same-length
     same-length-2
     returns)

@@ -14,12 +14,12 @@ returns : tie.Need-returns
 unfolding formOf
 returns c = rw (eq-eqb _ _ (c .if1 .taken))
 
-high-first-requires : tie.Need-high-first-requires
-high-first-requires c κs = search needs
+low-pair-requires : tie.Need-low-pair-requires
+low-pair-requires c κs = search needs
 
 returns-2 : tie.Need-returns-2
 unfolding formOf
-returns-2 c = rw (ne-eqb _ _ (c .before .before .if1 .left)) (ap ByType (c .high-first .ensures))
+returns-2 c = rw (ne-eqb _ _ (c .before .before .if1 .left)) (ap ByType (c .low-pair .ensures))
 
 pub form-spec : {M : Type 1} → statement M
-form-spec = tie.close (tie.spec element-copy-out-if1 returns high-first-requires returns-2)
+form-spec = tie.close (tie.spec element-copy-out-if1 returns low-pair-requires returns-2)

@@ -4,6 +4,37 @@ use borrow.Author.Needs.{needs}
 use Rattle.fenhamper.proofs.settings.Statement.{statement}
 use Rattle.fenhamper.proofs.settings.Tie as tie
 
+-- the places behind its calls, from the last to the first
+abbrev on3 : tie.After-is-on4 → tie.After-is-on3
+on3 c = c .before .before
+
+abbrev on2 : tie.After-is-on4 → tie.After-is-on2
+on2 c = on3 c .before .before
+
+abbrev on1 : tie.After-is-on4 → tie.After-is-on
+on1 c = on2 c .before .before
+
+abbrev limit : tie.After-is-on4 → tie.After-low-pair
+limit c = on1 c .before .before .before
+
+abbrev flow : tie.After-is-on4 → tie.After-flow-mode
+flow c = limit c .before .before
+
+abbrev fourth : tie.After-is-on4 → tie.After-address5
+fourth c = flow c .before .before
+
+abbrev third : tie.After-is-on4 → tie.After-address4
+third c = fourth c .before .before
+
+abbrev second : tie.After-is-on4 → tie.After-address3
+second c = third c .before .before
+
+abbrev first : tie.After-is-on4 → tie.After-address2
+first c = second c .before .before
+
+abbrev own : tie.After-is-on4 → tie.After-address
+own c = first c .before .before
+
 address-requires : tie.Need-address-requires
 address-requires c κs = search needs
 
@@ -25,8 +56,8 @@ element-copy-out-flow-mode c = search needs
 flow-mode-requires : tie.Need-flow-mode-requires
 flow-mode-requires c κs = search needs
 
-high-first-requires : tie.Need-high-first-requires
-high-first-requires c κs = search needs
+low-pair-requires : tie.Need-low-pair-requires
+low-pair-requires c κs = search needs
 
 element-copy-out-t22 : tie.Need-element-copy-out-t22
 element-copy-out-t22 c = search needs
@@ -57,7 +88,20 @@ is-on-requires-4 c κs = search needs
 
 returns : tie.Need-returns
 unfolding settingsOf isOn
-returns c = simp (c .is-on4 .ensures, c .before .before .is-on3 .ensures, c .before .before .before .before .is-on2 .ensures, c .before .before .before .before .before .before .is-on .ensures, c .before .before .before .before .before .before .before .before .before .high-first .ensures, c .before .before .before .before .before .before .before .before .before .before .before .flow-mode .ensures, c .before .before .before .before .before .before .before .before .before .before .before .before .before .address5 .ensures, c .before .before .before .before .before .before .before .before .before .before .before .before .before .before .before .address4 .ensures, c .before .before .before .before .before .before .before .before .before .before .before .before .before .before .before .before .before .address3 .ensures, c .before .before .before .before .before .before .before .before .before .before .before .before .before .before .before .before .before .before .before .address2 .ensures, c .before .before .before .before .before .before .before .before .before .before .before .before .before .before .before .before .before .before .before .before .before .address .ensures)
+returns c =
+    simp (
+      c .is-on4 .ensures,
+      on3 c .is-on3 .ensures,
+      on2 c .is-on2 .ensures,
+      on1 c .is-on .ensures,
+      limit c .low-pair .ensures,
+      flow c .flow-mode .ensures,
+      fourth c .address5 .ensures,
+      third c .address4 .ensures,
+      second c .address3 .ensures,
+      first c .address2 .ensures,
+      own c .address .ensures,
+    )
 
 pub settings-spec : {M : Type 1} → statement M
 settings-spec =
@@ -70,7 +114,7 @@ settings-spec =
     address-requires-5
     element-copy-out-flow-mode
     flow-mode-requires
-    high-first-requires
+    low-pair-requires
     element-copy-out-t22
     element-copy-out-is-on
     is-on-requires

@@ -10,17 +10,17 @@ element-copy-out-kind c = search needs
 kind-requires : tie.Need-kind-requires
 kind-requires c κs = search needs
 
-add-high-first : tie.Need-add-high-first
-add-high-first c = search needs
+add-low-pair : tie.Need-add-low-pair
+add-low-pair c = search needs
 
-high-first-requires : tie.Need-high-first-requires
-high-first-requires c κs = search needs
+low-pair-requires : tie.Need-low-pair-requires
+low-pair-requires c κs = search needs
 
 returns : tie.Need-returns
 unfolding tagAt
-returns c = rw (c .before .before .kind .ensures, c .high-first .ensures)
+returns c = rw (c .before .before .kind .ensures, c .low-pair .ensures)
 
 pub tag-spec : {M : Type 1} → statement M
 tag-spec =
     tie.close
-    (tie.spec element-copy-out-kind kind-requires add-high-first high-first-requires returns)
+    (tie.spec element-copy-out-kind kind-requires add-low-pair low-pair-requires returns)
