@@ -21,7 +21,7 @@ pub fn settings(s: &Settings) -> fenhamper::Settings {
 
 /// A state for the library. Two of them are equal only if all that the library keeps is.
 pub fn state(state: &State) -> fenhamper::State {
-    fenhamper::State::with(state.counters, state.timers)
+    fenhamper::State::with(state.counters.map(u64::from), state.timers.map(u64::from))
 }
 
 /// A tag for the library.
