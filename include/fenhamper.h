@@ -389,10 +389,12 @@ static inline fenhamper_walked fenhamper_capture_walk(const fenhamper_settings *
   return walked;
 }
 
+/* Here data of no octets may be null. */
 static inline fenhamper_sent fenhamper_line_client(const fenhamper_settings *settings, fenhamper_state *state,
                                                    fenhamper_line line, size_t place, const fenhamper_client *client,
                                                    const uint8_t *data, size_t data_length) {
   fenhamper_sent sent;
+  if (data_length == 0) data = client->destination.octets;
   fenhamper_send_client(settings, state, line.octets, line.length, line.marks, line.length, place, client, data,
                         data_length, &sent);
   return sent;

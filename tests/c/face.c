@@ -67,7 +67,7 @@ static void a_ninth_tag_is_refused(void) {
   fenhamper_line line = fresh_line();
   unsigned n;
   for (n = 0; n <= 300; n++) {
-    fenhamper_sent sent = fenhamper_line_client(&s, &state, line, 0, &client, octets, 0);
+    fenhamper_sent sent = fenhamper_line_client(&s, &state, line, 0, &client, NULL, 0);
     CHECK(sent.refusal == (n > FENHAMPER_MOST_TAGS ? FENHAMPER_MANY_TAGS : 0));
     CHECK(sent.place == (n > FENHAMPER_MOST_TAGS ? 0 : 84 + 4 * n));
     fenhamper_add_tag(&client, FENHAMPER_TAG_CUSTOMER, 5);
@@ -161,7 +161,7 @@ static void a_refused_call_leaves_all(void) {
   memset(&worn, 0xFF, sizeof worn);
   memset(&state, 0xFF, sizeof state);
   CHECK(fenhamper_capture_read(&s, &state, fenhamper_captured(line, 9), 10).refusal == FENHAMPER_BAD_PLACE);
-  CHECK(fenhamper_line_client(&s, &state, line, 0, &client, octets, 0).refusal == FENHAMPER_HELD);
+  CHECK(fenhamper_line_client(&s, &state, line, 0, &client, NULL, 0).refusal == FENHAMPER_HELD);
   CHECK(fenhamper_line_pause(&s, &state, line, 0, 1).refusal == FENHAMPER_OTHER_FLOW);
   CHECK(fenhamper_line_pfc(&s, &state, line, 0, 1, quanta).refusal == FENHAMPER_OTHER_FLOW);
   CHECK(fenhamper_line_idle(&state, none, 0, 1).refusal == FENHAMPER_NO_ROOM);
