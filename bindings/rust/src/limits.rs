@@ -1,4 +1,4 @@
-//! The limits of documents 01 and 02, by name.
+//! The limits of documents 01 and 02, and how much stack a call takes, by name.
 //!
 //! The names are the header's, without its `FENHAMPER_`, and a test holds their values to it.
 //!
@@ -45,3 +45,12 @@ pub const CLASSES: usize = sys::CLASSES;
 
 /// How many outcomes there are, 1 to 11, with a counter each: 11.
 pub const OUTCOMES: usize = sys::OUTCOMES;
+
+/// Octets of stack that a reading takes at most: 1024.
+pub const STACK_READ: usize = 1024;
+
+/// Octets of stack that a sending call or an Idle fill takes at most: 512.
+pub const STACK_SEND: usize = 512;
+
+/// Octets of stack that a walk takes at most: 18,432, of which 16,384 are for tables.
+pub const STACK_WALK: usize = 18432;
