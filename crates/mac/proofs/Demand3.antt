@@ -48,7 +48,8 @@ module _ (rx : Settings) where
   unfolding onLine clients
   one-line at idles body rest =
       let os : List ℕ = preamble ++ (body ++ fcs body) in
-      let e : onLine idles body ++ rest ≡ asControl start ∷ (map asData os ++ (gap idles ++ rest)) = ap (λ (l : List Symbol). asControl start ∷ l) (append-assoc (map asData os) (gap idles) rest) in
+      let e : onLine idles body ++ rest ≡ asControl start ∷ (map asData os ++ (gap idles ++ rest)) =
+      ap (λ (l : List Symbol). asControl start ∷ l) (append-assoc (map asData os) (gap idles) rest) in
       ap (λ (l : List Symbol). clients rx (metStarts at l)) e
       ∙ ap (clients rx) (met-start at (asControl start) (map asData os ++ (gap idles ++ rest)) (unfold isStart isControl isData asControl in refl))
       ∙ ap₂ (λ (l : AfterStart) (ms : List MetStart). clientOf rx l ++ clients rx ms)
@@ -59,7 +60,8 @@ module _ (rx : Settings) where
   module _ (tx : Settings) (checks : rx .checking ≡ true) where
     -- one client frame: its data
     one-frame : (at : ℕ) (f : Frame) → Carried tx rx f → (rest : List Symbol)
-        → clients rx (metStarts at (clientSymbols (f .idles) tx (f .client) (f .octets) ++ rest)) ≡ delivered (f .client .form) (f .octets) ∷ clients rx (metStarts at rest)
+        → clients rx (metStarts at (clientSymbols (f .idles) tx (f .client) (f .octets) ++ rest))
+        ≡ delivered (f .client .form) (f .octets) ∷ clients rx (metStarts at rest)
     unfolding clientSymbols clientOf frameOf preamble
     one-frame at f w rest =
         let body : List ℕ = clientBody tx (f .client) (f .octets) in

@@ -83,16 +83,18 @@ module _ (tx : Settings) where
 -- ---- read back
 
 -- frames that the sender does not refuse, and that the receiver's settings welcome
-carried : (tx rx : Settings) (x : Sending) (asked : List Asked) → NoneRefused tx x asked → AllWelcome tx rx (rowFrames asked) → AllCarried tx rx (rowFrames asked)
+carried : (tx rx : Settings) (x : Sending) (asked : List Asked) → NoneRefused tx x asked → AllWelcome tx rx (rowFrames asked)
+    → AllCarried tx rx (rowFrames asked)
 unfolding NoneRefused AllWelcome AllCarried
 carried tx rx x [] w v = tt
 carried tx rx x (a ∷ asked) w v =
     let k = passed tx (x .given .state) (x .octets) (x .marks) (x .given .place) (a .client) (a .octets) (w .0) in
-    (record { welcome = v .0; form = k .type; few = (unfold manyTags in le-ltb 8 (a .client .count) (k .tags)); short = k .short }, carried tx rx (sendNext tx x a) asked (w .1) (v .1))
+    let few : manyTags (a .client) ≡ false = (unfold manyTags in le-ltb 8 (a .client .count) (k .tags)) in
+    (record { welcome = v .0; form = k .type; few = few; short = k .short }, carried tx rx (sendNext tx x a) asked (w .1) (v .1))
 
 -- a sender tx and a receiver rx with settings of its own, which are valid and check lengths; one frame or more, from a place of any buffers on
-module _ (tx rx : Settings) (valid : badSettings rx ≡ false) (checks : rx .checking ≡ true) (st : State) (os ms : List ℕ) (place : ℕ) (a : Asked) (asked : List Asked)
-    (w : NoneRefused tx (rowFrom st os ms place) (a ∷ asked)) (v : AllWelcome tx rx (rowFrames (a ∷ asked))) where
+module _ (tx rx : Settings) (valid : badSettings rx ≡ false) (checks : rx .checking ≡ true) (st : State) (os ms : List ℕ) (place : ℕ)
+    (a : Asked) (asked : List Asked) (w : NoneRefused tx (rowFrom st os ms place) (a ∷ asked)) (v : AllWelcome tx rx (rowFrames (a ∷ asked))) where
   -- the symbols that are written, and what the calls leave
   abbrev new : List Symbol
   new = rowSymbols tx (rowFrames (a ∷ asked))

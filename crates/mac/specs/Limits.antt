@@ -140,7 +140,8 @@ starred =
     ∷ eqb (slotsOf (record { 0 = 65535 }) .0) 4194240
     -- "pause to the reserved group, 64 octets: status 0x2C0040002E; PFC: 0xA40040002E"
     ∷ sameOctets (reads Pause (pauseSymbols plainIdles (settings Pause) (record { 0 = 5 }))) (8 ∷ 0x2C0040002E ∷ 0 ∷ [])
-    ∷ sameOctets (reads Pfc (pfcSymbols plainIdles (settings Pfc) (record { named = 0x81; quanta = replicate 8 (record { 0 = 5 }) }))) (9 ∷ 0xA40040002E ∷ 0 ∷ [])
+    ∷ sameOctets (reads Pfc (pfcSymbols plainIdles (settings Pfc) (record { named = 0x81; quanta = replicate 8 (record { 0 = 5 }) })))
+    (9 ∷ 0xA40040002E ∷ 0 ∷ [])
     -- "unicast, length form, data 0, handed out: 0x4000400000"
     ∷ sameOctets (readsTagged Customer 0) (11 ∷ 0x4000400000 ∷ 0 ∷ [])
     -- document 02, item 1, of one tag of either kind, two and eight tags: 4 symbols each; "Status bit 33 means exactly one tag, bit 32 two or more"

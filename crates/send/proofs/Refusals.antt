@@ -87,8 +87,8 @@ unfolding noRoom
 room-by os place need new e = ap (λ (n : ℕ). ltb (length os - place) n) (sym e)
 
 -- the flow mode, as the code asked for it
-pub in-mode : (s : Settings) (os ms : List ℕ) (place : ℕ) (new : List Symbol) {r : Checked} {b asked : Bool} → r ≡ first (controlRefusals s os ms place b new) → b ≡ asked
-    → r ≡ first (controlRefusals s os ms place asked new)
+pub in-mode : (s : Settings) (os ms : List ℕ) (place : ℕ) (new : List Symbol) {r : Checked} {b asked : Bool}
+    → r ≡ first (controlRefusals s os ms place b new) → b ≡ asked → r ≡ first (controlRefusals s os ms place asked new)
 in-mode s os ms place new h e = rw e at h
 
 -- ---- what a call that is not refused knows

@@ -168,7 +168,8 @@ frame-laid idles body {os} {ms} {os₁} {os′} {ms′} {e} {r} front end marks 
     let size = line-size idles body in
     let n : length (lead ++ body) ≡ 8 + length body = simp (length-append, lead-size) in
     let whole = front ⨾ rw (covered front (omega (arith, front .goes))) at end in
-    let k : length ((lead ++ body) ++ (fcs body ++ gapOctets idles)) ≡ length (onLine idles body) = ap length (sym (line-octets idles body)) ∙ length-octetsOf (onLine idles body) in
+    let k : length ((lead ++ body) ++ (fcs body ++ gapOctets idles)) ≡ length (onLine idles body) =
+    ap length (sym (line-octets idles body)) ∙ length-octetsOf (onLine idles body) in
     let last : r ≡ 13 + idles + length body = omega (arith, whole .goes) in
     let m = marks-size idles r (omega arith) in
     record {

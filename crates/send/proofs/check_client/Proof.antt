@@ -93,7 +93,8 @@ tags-8 : (c : tie.Start) → length (c .args .client .tags) ≡ 8
 tags-8 c = search (length-mapped, needs)
 
 -- the room that is asked for is that of the frame's symbols
-room : (c : tie.After-no-room) → let a = at7 (c .before .before) .args in c .no-room .result ≡ noRoom (now (a .octets)) (a .place) (clientSymbols plainIdles (a .s) (a .client) (now (a .d)))
+room : (c : tie.After-no-room) → let a = at7 (c .before .before) .args in
+    c .no-room .result ≡ noRoom (now (a .octets)) (a .place) (clientSymbols plainIdles (a .s) (a .client) (now (a .d)))
 room c =
     let s = at7 (c .before .before) in
     let a = s .args in
