@@ -35,6 +35,12 @@ module _ (f : List ℕ) (tags all handed : ℕ) where
   no-status ControlDropped h = absurd (miss oneToSeven 9 tt h)
   no-status HandedOut h = absurd (miss oneToSeven 10 tt h)
 
+-- ---- the word of a frame, from what was found to be the frame's
+
+pub word-of : (o : Outcome) {word : ℕ} {f g : List ℕ} {tags tags′ all all′ handed handed′ : ℕ} → word ≡ statusOf o f tags all handed
+    → f ≡ g → tags ≡ tags′ → all ≡ all′ → handed ≡ handed′ → word ≡ statusOf o g tags′ all′ handed′
+word-of o w e t a h = cc
+
 -- ---- the group bit
 
 pub group-octet : (f : List ℕ) → isGroup (destination f) ≡ eqb (getD f 0 0 % 2) 1

@@ -6,7 +6,7 @@ use denote.Ref.{now}
 use mathlib.Core.Path.{_≡_, ap, ap₂, _∙_}
 use mathlib.Core.List.{List}
 use borrow.Author.Needs.{needs}
-use Rattle.station.specs.declared.Settings.{Settings}
+use Rattle.station.specs.declared.Part.{Part}
 use Rattle.fields.specs.Places.{layoutOf}
 use Rattle.fields.proofs.Tags.{dataPlace-small}
 use Rattle.fields.proofs.Places.{layout-tags, layout-field, layout-place}
@@ -14,7 +14,9 @@ use Rattle.frame.specs.Frame.{dataFrom, frameData}
 use Rattle.frame.specs.Length.{handedOf, clientData, handedLength}
 use Rattle.frame.proofs.Length.{data-length, handed-le}
 use Rattle.outcome.specs.Outcomes.{frameOf}
-use Rattle.outcome.specs.Status.{statusOf, status}
+use Rattle.outcome.specs.Status.{status}
+use Rattle.outcome.proofs.Words.{word-of}
+use Rattle.receive.specs.declared.Answer.the-variants.{Counted}
 use Rattle.receive.specs.Reading.{handedPart}
 use Rattle.receive.specs.Steps.{partAt, sightOf}
 use Rattle.receive.proofs.look_run.Statement.{statement}
@@ -100,26 +102,23 @@ word-is : (c : tie.After-status) → let a = call (c .before) .args in c .status
 unfolding status
 word-is c =
     let p = c .before in
-    let f = framed p .frame-of .ensures in
-    let tags = layout-tags _ (frame p) (layout-is p) in
-    let all = ap length (data-is p) in
-    let handed = handed-is p in
-    let word = c .status .ensures in
-    cc
+    word-of (call p .args .o) (c .status .ensures) (framed p .frame-of .ensures) (layout-tags _ (frame p) (layout-is p)) (ap length (data-is p)) (handed-is p)
 
 part-is : (c : tie.After-handed-part)
     → let a = call (found c) .args in c .handed-part .result ≡ handedPart (a .s) (a .o) (a .start + 8) (frame (found c))
 unfolding handedPart partAt
 part-is c =
     let p = found c in
-    let place = layout-place _ (frame p) (layout-is p) in
-    let handed = handed-is p in
-    let part = c .handed-part .ensures in
-    cc
+    let a = call p .args in
+    c .handed-part .ensures ∙ ap₂ (λ (d n : ℕ). partAt (a .o) (a .start + 8 + d) n) (layout-place _ (frame p) (layout-is p)) (handed-is p)
 
 returns : tie.Need-returns
 unfolding sightOf
-returns c = let word = word-is (c .before .before) in let part = part-is c in cc
+returns c =
+    let a = call (found c) .args in
+    ap₂ (λ (word : ℕ) (part : Part). record { answer = Counted (a .o) word part; start = a .start; next = a .start + 1 + length (now (a .run)) })
+    (word-is (c .before .before))
+    (part-is c)
 
 pub look-run-spec : {M : Type 1} → statement M
 look-run-spec =
