@@ -84,7 +84,7 @@ static void print_data(const uint8_t *data, size_t length) {
 
 static void print_reading(fenhamper_capture capture, const fenhamper_reading *r) {
   printf("read at %u: outcome %u, %s, status 0x%010" PRIX64 ", ", (unsigned)r->start, (unsigned)r->outcome, fenhamper_outcome_name(r->outcome), r->status);
-  if (r->status & FENHAMPER_STATUS_STACKED) printf("two tags or more, ");
+  if (fenhamper_status_has(r->status, FENHAMPER_STATUS_STACKED)) printf("two tags or more, ");
   print_data(capture.octets + r->data_place, r->data_length);
 }
 

@@ -134,7 +134,7 @@ static void a_reading_says_whose_frame_it_is(void) {
   CHECK(memcmp(fenhamper_destination(capture, &r), other.octets, 6) == 0);
   CHECK(memcmp(fenhamper_source(capture, &r), own.octets, 6) == 0);
   CHECK(r.data_length == 4 && memcmp(capture.octets + r.data_place, "data", 4) == 0);
-  CHECK((r.status & FENHAMPER_STATUS_UNICAST) && !(r.status & FENHAMPER_STATUS_TAGGED));
+  CHECK(fenhamper_status_has(r.status, FENHAMPER_STATUS_UNICAST) == 1 && !fenhamper_status_has(r.status, FENHAMPER_STATUS_TAGGED));
   CHECK(fenhamper_frame_length(r.status) == 64 && fenhamper_data_length(r.status) == 4);
   CHECK(r.spare[0] == 0 && r.spare[1] == 0 && r.spare[2] == 0 && r.spare[3] == 0);
   /* not of a frame under 64 octets, nor beyond the capture, whatever the record says */
