@@ -188,9 +188,9 @@ FENHAMPER_HOLDS(offsetof(fenhamper_reading, data_length) == 56);
 FENHAMPER_HOLDS(offsetof(fenhamper_reading, spare) == 64);
 
 /*
- * The status word, by masks: status & FENHAMPER_STATUS_TAGGED. Bits 31 to 16 are the frame's octets from destination
- * to FCS, bits 15 to 0 those of its data (handed out for outcome 11; all of it for 8 to 10). For outcomes 1 to 7 the
- * whole word is 0.
+ * The status word, by masks: fenhamper_status_has(status, FENHAMPER_STATUS_TAGGED). Bits 31 to 16 are the frame's octets
+ * from destination to FCS, bits 15 to 0 those of its data (handed out for outcome 11; all of it for 8 to 10). For
+ * outcomes 1 to 7 the whole word is 0.
  */
 #define FENHAMPER_STATUS_PFC (UINT64_C(1) << 39)       /* PFC taken */
 #define FENHAMPER_STATUS_UNICAST (UINT64_C(1) << 38)   /* to one station */
@@ -447,6 +447,9 @@ static inline const uint8_t *fenhamper_source(fenhamper_capture capture, const f
   const uint8_t *destination = fenhamper_destination(capture, reading);
   return destination ? destination + 6 : NULL;
 }
+
+/* Whether a status word has this bit. (An int is narrower than the masks: what status & mask gives does not fit.) */
+static inline int fenhamper_status_has(uint64_t status, uint64_t mask) { return (status & mask) != 0; }
 
 /* Of a status word: the frame's octets from destination to FCS, and those of its data. */
 static inline uint16_t fenhamper_frame_length(uint64_t status) { return (uint16_t)(status >> 16 & 0xFFFF); }
