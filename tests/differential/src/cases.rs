@@ -5,9 +5,9 @@ use crate::generate::{self, Sending, Symbols, IDLE, START, TERMINATE};
 use crate::prng::Prng;
 use reference::{Client, Flow, Form, Settings};
 
-/// Makes the calls of one case.
-pub fn run(bench: &mut Bench, case: u64) -> Result<(), Difference> {
-    let mut prng = bench.begin(case);
+/// Makes the calls of one case of a seed.
+pub fn run(bench: &mut Bench, seed: u64, case: u64) -> Result<(), Difference> {
+    let mut prng = bench.begin(seed, case);
     match prng.below(16) {
         0..=7 => reading(bench, &mut prng),
         8..=13 => sending(bench, &mut prng),

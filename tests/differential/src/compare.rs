@@ -100,10 +100,10 @@ pub struct Bench {
 }
 
 impl Bench {
-    /// A bench for this seed.
-    pub fn new(seed: u64, whole: bool) -> Bench {
+    /// A bench before any call.
+    pub fn new(whole: bool) -> Bench {
         Bench {
-            seed,
+            seed: 0,
             case: 0,
             calls: 0,
             whole,
@@ -117,10 +117,10 @@ impl Bench {
         self.calls
     }
 
-    /// Begins a case: its numbers, and how the reference checks in it.
-    pub fn begin(&mut self, case: u64) -> Prng {
-        let mut prng = Prng::new(self.seed, case);
-        self.case = case;
+    /// Begins a case of a seed: its numbers, and how the reference checks in it.
+    pub fn begin(&mut self, seed: u64, case: u64) -> Prng {
+        let mut prng = Prng::new(seed, case);
+        (self.seed, self.case) = (seed, case);
         self.check = prng.pick(&[Check::Bitwise, Check::ByteTable, Check::Slicing16]);
         prng
     }

@@ -8,6 +8,7 @@ pub mod compare;
 pub mod coverage;
 pub mod generate;
 pub mod prng;
+pub mod seed;
 pub mod show;
 
 mod face;

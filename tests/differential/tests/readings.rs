@@ -1,6 +1,7 @@
 //! The printing program against the reference's printer.
 use differential::generate::{capture, IDLE, START};
 use differential::prng::Prng;
+use differential::seed::seeds;
 use differential::show;
 use reference::Settings;
 use std::collections::BTreeSet;
@@ -16,7 +17,7 @@ use std::time::Duration;
 const RUN: &str = "../../tools/run_x86_64";
 /// Most records that the program reads.
 const RECORDS: usize = 32_768;
-/// Inputs drawn, besides those at the limits.
+/// Inputs drawn with each seed, besides those at the limits.
 const DRAWN: u64 = 500;
 
 /// The program, or nothing if it is to be left out.
@@ -144,14 +145,18 @@ fn prints_what_the_reference_prints() {
     let Some(program) = program() else {
         return;
     };
-    let seed = env::var("FENHAMPER_SEED").map_or(1, |seed| seed.parse().expect("a number"));
     let mut seen = BTreeSet::new();
     for (i, input) in edges().iter().enumerate() {
         let piece = input.len().max(1);
         let text = compare(&program, &format!("edge {i}"), input, piece);
         seen.extend(kinds(&text));
     }
-    for i in 0..DRAWN {
+    let drawn_with = seeds();
+    println!("seeds {drawn_with:?}");
+    let all = drawn_with
+        .iter()
+        .flat_map(|&seed| (0..DRAWN).map(move |i| (seed, i)));
+    for (seed, i) in all {
         let mut prng = Prng::new(seed, i);
         let input = drawn(&mut prng);
         // one in eight comes in up to four pieces
