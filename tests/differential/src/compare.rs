@@ -3,8 +3,8 @@ use crate::coverage::Coverage;
 use crate::generate::{Sending, Symbols};
 use crate::prng::Prng;
 use crate::seen::{By, FcsSeen, ReadingSeen, SendingSeen, WalkSeen};
-use crate::{face, show};
-use fenhamper::{Capture, Fcs, Sender};
+use crate::{face, names, show};
+use fenhamper::{Capture, Counted, Fcs, Refusal, Sender};
 use reference::{Answer, Check, Reading, Sent, Settings, State};
 use std::fmt;
 
@@ -149,6 +149,41 @@ impl Bench {
         )))
     }
 
+    /// What a counted reading hands out, and how it is told: the data, the outcome's name and the
+    /// status word's parts.
+    fn counted(
+        &self,
+        call: &str,
+        counted: &Counted,
+        octets: &[u8],
+        expected: Reading,
+        inputs: impl Fn() -> String,
+    ) -> Result<(), Difference> {
+        let parts = parts(counted.data, octets, expected);
+        self.same((call, "data"), parts, &inputs)?;
+        let Answer::Counted {
+            outcome, status, ..
+        } = expected.answer
+        else {
+            return Ok(());
+        };
+        let names = (counted.outcome.name(), names::outcome(outcome));
+        self.same((call, "outcome's name"), names, &inputs)?;
+        let statuses = (face::status(counted.status), names::status(status));
+        self.same((call, "status"), statuses, &inputs)
+    }
+
+    /// How a refusal, whose number was compared, is told.
+    fn refused(
+        &self,
+        call: &str,
+        refusal: Refusal,
+        inputs: impl FnOnce() -> String,
+    ) -> Result<(), Difference> {
+        let names = (refusal.name(), names::refusal(refusal.number()));
+        self.same((call, "refusal's name"), names, inputs)
+    }
+
     /// One reading; the state goes on to that after it.
     pub fn read(
         &mut self,
@@ -168,9 +203,12 @@ impl Bench {
         let inputs = || inputs(s, &before, lent, place, self.whole);
         let readings = (face::reading(place, &answer), expected);
         self.same(("read", "reading"), readings, inputs)?;
-        if let Ok(fenhamper::Reading::Counted(counted)) = &answer {
-            let parts = parts(counted.data, octets, expected);
-            self.same(("read", "data"), parts, inputs)?;
+        match &answer {
+            Ok(fenhamper::Reading::Counted(counted)) => {
+                self.counted("read", counted, octets, expected, inputs)?;
+            }
+            Ok(_) => {}
+            Err(refusal) => self.refused("read", *refusal, inputs)?,
         }
         let states = (library_state, face::state(state));
         self.same(("read", "state"), states, inputs)?;
@@ -211,9 +249,10 @@ impl Bench {
                 Answer::Refused(_) | Answer::Counted { .. } => Some(expected),
             };
             self.same(("readings", "item"), (handed, item_expected), inputs)?;
-            if let Some(Ok(counted)) = &item {
-                let parts = parts(counted.data, octets, expected);
-                self.same(("readings", "data"), parts, inputs)?;
+            match &item {
+                Some(Ok(counted)) => self.counted("readings", counted, octets, expected, inputs)?,
+                Some(Err(refusal)) => self.refused("readings", *refusal, inputs)?,
+                None => {}
             }
             let (symbols, states) = ((octets, marks, at), (&earlier, &*state));
             let seen = ReadingSeen::new(By::Readings, s, symbols, states, expected);
@@ -245,6 +284,9 @@ impl Bench {
         let inputs = || inputs(s, &before, lent, 0, self.whole);
         let walks = (face::walked(answer), expected);
         self.same(("walk", "walk"), walks, inputs)?;
+        if let Err(refusal) = answer {
+            self.refused("walk", refusal, inputs)?;
+        }
         let states = (library_state, face::state(state));
         self.same(("walk", "state"), states, inputs)?;
         self.coverage.walk(&WalkSeen {
@@ -290,6 +332,9 @@ impl Bench {
             format!("{sending}\n{others}")
         };
         self.same((call, "answer"), (face::sent(answer), expected), inputs)?;
+        if let Err(refusal) = answer {
+            self.refused(call, refusal, inputs)?;
+        }
         let places = (place_after, written.unwrap_or(place));
         self.same((call, "place"), places, inputs)?;
         let states = (library_state, face::state(state));

@@ -7,6 +7,7 @@ pub mod cases;
 pub mod compare;
 pub mod coverage;
 pub mod generate;
+pub mod names;
 pub mod prng;
 pub mod seed;
 pub mod show;

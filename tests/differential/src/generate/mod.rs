@@ -12,6 +12,8 @@ pub use settings::{settings, state, valid_settings, BROADCAST, RESERVED_GROUP};
 
 /// The most symbols that a call takes.
 pub const SYMBOLS: usize = 65_536;
+/// A walk over so many symbols makes tables of the FCS for itself; one over fewer does not.
+pub const TABLES_FROM: usize = 8_192;
 /// The most tags that a frame has.
 pub const MOST_TAGS: usize = 8;
 

@@ -1,27 +1,16 @@
 //! Answers of readings and walks; settings, captures, places, ends and preambles.
 use super::Table;
-use crate::generate::{BEYOND_32_BITS, ERROR, IDLE, PREAMBLE, SEQUENCE, START, SYMBOLS, TERMINATE};
-use crate::seen::{By, Fcs, ReadingSeen};
+use crate::generate::{
+    BEYOND_32_BITS, ERROR, IDLE, PREAMBLE, SEQUENCE, START, SYMBOLS, TABLES_FROM, TERMINATE,
+};
+use crate::names::OUTCOMES;
+use crate::seen::{By, Fcs, ReadingSeen, WalkSeen};
 use reference::Walked;
-
-/// Document 01's names of the outcomes 1 to 11.
-const OUTCOMES: [&str; 11] = [
-    "cut",
-    "bad preamble",
-    "undersized",
-    "oversized",
-    "wrong FCS",
-    "wrong length",
-    "filtered",
-    "pause taken",
-    "PFC taken",
-    "control dropped",
-    "handed out",
-];
 
 pub fn rows(t: &mut Table) {
     reading_answers(t);
     walk_answers(t);
+    walk_tables(t);
     settings(t);
     captures(t);
     places(t);
@@ -89,6 +78,35 @@ fn walk_answers(t: &mut Table) {
         let rolled = |&i: &usize| w.after.counters[i] < w.before.counters[i];
         (0..11).filter(rolled).count() > 1
     });
+}
+
+/// Each answer of walk on both sides of the number of symbols from which on it makes tables of the
+/// FCS for itself.
+fn walk_tables(t: &mut Table) {
+    let under = |w: &WalkSeen| w.lengths.0 < TABLES_FROM;
+    let from = |w: &WalkSeen| w.lengths.0 >= TABLES_FROM;
+    let last_under = |w: &WalkSeen| w.lengths.0 == TABLES_FROM - 1;
+    let first_from = |w: &WalkSeen| w.lengths.0 == TABLES_FROM;
+    let sides: [(_, fn(&WalkSeen) -> bool); 4] = [
+        (format!("under {TABLES_FROM} symbols"), under),
+        (format!("{TABLES_FROM} symbols or more"), from),
+        (format!("{} symbols", TABLES_FROM - 1), last_under),
+        (format!("{TABLES_FROM} symbols"), first_from),
+    ];
+    for (symbols, side) in sides {
+        for (outcome, name) in (1..).zip(OUTCOMES) {
+            let name = format!("walk, {symbols}: {outcome} {name}");
+            t.walk(name, move |w| side(w) && w.risen(outcome) > 0);
+        }
+        for (end, open) in [("none", false), ("open", true)] {
+            t.walk(format!("walk, {symbols}: {end}"), move |w| {
+                side(w) && matches!(w.walked, Walked::Ended { open: o, .. } if o == open)
+            });
+        }
+        t.walk(format!("walk, {symbols}: refusal 1"), move |w| {
+            side(w) && w.refusal() == 1
+        });
+    }
 }
 
 /// Both sides of refusal 1.
