@@ -351,6 +351,8 @@ impl Bench {
             lengths: (lent.octets().len(), lent.marks().len()),
             place,
             before: &before,
+            after: state,
+            octets: lent.octets(),
             sent: expected,
         });
         Ok(written)

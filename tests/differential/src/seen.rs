@@ -361,6 +361,10 @@ pub struct SendingSeen<'a> {
     pub place: usize,
     /// The state given.
     pub before: &'a State,
+    /// The state after.
+    pub after: &'a State,
+    /// The octets after.
+    pub octets: &'a [u8],
     /// The answer.
     pub sent: Sent,
 }
@@ -390,6 +394,20 @@ impl SendingSeen<'_> {
             Sent::Wrote(after) => Some(after - self.place),
             Sent::Refused(_) => None,
         }
+    }
+
+    /// The frame that was written, from destination to FCS; nothing where none was.
+    pub fn frame(&self) -> &[u8] {
+        match (self.sent, self.call) {
+            (Sent::Refused(_), _) | (_, Sending::Idle(_)) => &[],
+            // behind Start and preamble, before Terminate and gap
+            (Sent::Wrote(after), _) => &self.octets[self.place + 8..after - 12],
+        }
+    }
+
+    /// Are these the octets from here on in the frame that was written?
+    pub fn frame_has(&self, at: usize, octets: &[u8]) -> bool {
+        self.frame().get(at..at + octets.len()) == Some(octets)
     }
 
     /// The symbols from the place to the end.

@@ -8,7 +8,7 @@ mod tags;
 
 pub use captures::{capture, place, Symbols};
 pub use sendings::{blank_line, sending, sending_place, timed, Sending};
-pub use settings::{settings, state, valid_settings, BROADCAST, RESERVED_GROUP};
+pub use settings::{settings, state, valid_settings, BROADCAST, HIGHEST_BIT, RESERVED_GROUP};
 
 /// The most symbols that a call takes.
 pub const SYMBOLS: usize = 65_536;

@@ -80,8 +80,8 @@ fn walk_answers(t: &mut Table) {
     });
 }
 
-/// Each answer of walk on both sides of the number of symbols from which on it makes tables of the
-/// FCS for itself.
+/// Each outcome and end of a walk, on both sides of the number of symbols from which on it makes
+/// tables of the FCS for itself.
 fn walk_tables(t: &mut Table) {
     let under = |w: &WalkSeen| w.lengths.0 < TABLES_FROM;
     let from = |w: &WalkSeen| w.lengths.0 >= TABLES_FROM;
@@ -103,9 +103,6 @@ fn walk_tables(t: &mut Table) {
                 side(w) && matches!(w.walked, Walked::Ended { open: o, .. } if o == open)
             });
         }
-        t.walk(format!("walk, {symbols}: refusal 1"), move |w| {
-            side(w) && w.refusal() == 1
-        });
     }
 }
 
