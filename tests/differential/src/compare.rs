@@ -39,7 +39,8 @@ impl Lent {
         &self.marks[AROUND..self.marks.len() - AROUND]
     }
 
-    fn both(&mut self) -> (&mut [u8], &mut [u8]) {
+    /// Both, to be written into.
+    pub(crate) fn both(&mut self) -> (&mut [u8], &mut [u8]) {
         let (octets, marks) = (self.octets.len() - AROUND, self.marks.len() - AROUND);
         (
             &mut self.octets[AROUND..octets],
@@ -90,11 +91,11 @@ impl fmt::Display for Difference {
 pub struct Bench {
     seed: u64,
     case: u64,
-    calls: u64,
+    pub(crate) calls: u64,
     /// A difference shows its inputs in full.
-    whole: bool,
+    pub(crate) whole: bool,
     /// How the reference checks.
-    check: Check,
+    pub(crate) check: Check,
     /// What was hit so far.
     pub coverage: Coverage,
 }
@@ -126,7 +127,7 @@ impl Bench {
     }
 
     /// Compares one thing that came out of a call; the inputs are written out only if it differs.
-    fn same<T: PartialEq + fmt::Debug>(
+    pub(crate) fn same<T: PartialEq + fmt::Debug>(
         &self,
         (call, thing): (&str, &str),
         (library, reference): (T, T),
@@ -147,6 +148,22 @@ impl Bench {
              cargo test --release --offline --test calls",
             inputs()
         )))
+    }
+
+    /// Compares buffers, each whole.
+    pub(crate) fn same_lent(
+        &self,
+        call: &str,
+        (library, reference): (&Lent, &Lent),
+        inputs: impl Fn() -> String,
+    ) -> Result<(), Difference> {
+        if library == reference {
+            return Ok(());
+        }
+        let octets = first_other(&library.octets, &reference.octets);
+        self.same((call, "octets, first other"), (octets, None), &inputs)?;
+        let marks = first_other(&library.marks, &reference.marks);
+        self.same((call, "marks, first other"), (marks, None), &inputs)
     }
 
     /// What a counted reading hands out, and how it is told: the data, the outcome's name and the
@@ -339,12 +356,7 @@ impl Bench {
         self.same((call, "place"), places, inputs)?;
         let states = (library_state, face::state(state));
         self.same((call, "state"), states, inputs)?;
-        if library_lent != *lent {
-            let octets = first_other(&library_lent.octets, &lent.octets);
-            self.same((call, "octets, first other"), (octets, None), inputs)?;
-            let marks = first_other(&library_lent.marks, &lent.marks);
-            self.same((call, "marks, first other"), (marks, None), inputs)?;
-        }
+        self.same_lent(call, (&library_lent, lent), inputs)?;
         self.coverage.sending(&SendingSeen {
             call: sending,
             s,
@@ -388,7 +400,13 @@ impl Bench {
 }
 
 /// A call's inputs, to be shown if the two sides differ.
-fn inputs(s: &Settings, state: &State, lent: &Lent, place: usize, whole: bool) -> String {
+pub(crate) fn inputs(
+    s: &Settings,
+    state: &State,
+    lent: &Lent,
+    place: usize,
+    whole: bool,
+) -> String {
     let symbols = show::symbols(lent.octets(), lent.marks(), whole);
     format!("{s:?}\n{state:?}\nplace {place}\nsymbols: {symbols}")
 }
@@ -407,7 +425,8 @@ fn parts(
     ((handed.as_ptr(), handed.len()), (part.as_ptr(), part.len()))
 }
 
-fn by_reference(
+/// A sending by the reference.
+pub(crate) fn by_reference(
     check: Check,
     s: &Settings,
     state: &mut State,

@@ -2,11 +2,13 @@
 
 mod captures;
 mod frames;
+mod records;
 mod sendings;
 mod settings;
 mod tags;
 
 pub use captures::{capture, place, Symbols};
+pub use records::{client_record, settings_record, spoil, state_record};
 pub use sendings::{blank_line, sending, sending_place, timed, Sending};
 pub use settings::{settings, state, valid_settings, BROADCAST, HIGHEST_BIT, RESERVED_GROUP};
 
