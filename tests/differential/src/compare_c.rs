@@ -124,11 +124,11 @@ impl Bench {
             (Sending::Idle(n), _) => raw::fill_idle(numbers, line, place, *n),
         };
 
-        let call = sending.name();
+        let call = &format!("{} in C", sending.name());
         let inputs = || {
             let sending = show::sending(sending, self.whole);
             let meant = inputs(&s, &state_before, &lent_before, place, self.whole);
-            format!("in C: {settings:?}\nstate {before:X?}\n{client:?}\nmeant: {sending}\n{meant}")
+            format!("{settings:?}\nstate {before:X?}\n{client:?}\nmeant: {sending}\n{meant}")
         };
         let answers = (answer, records::sent(expected, place));
         self.same((call, "answer"), answers, inputs)?;

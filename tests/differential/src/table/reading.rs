@@ -4,7 +4,7 @@ use crate::generate::{
     BEYOND_32_BITS, ERROR, IDLE, PREAMBLE, SEQUENCE, START, SYMBOLS, TABLES_FROM, TERMINATE,
 };
 use crate::names::OUTCOMES;
-use crate::seen::{By, Fcs, ReadingSeen, WalkSeen};
+use crate::seen::{By, Fcs, ReadingSeen};
 use reference::Walked;
 
 pub fn rows(t: &mut Table) {
@@ -83,24 +83,35 @@ fn walk_answers(t: &mut Table) {
 /// Each outcome and end of a walk, on both sides of the number of symbols from which on it makes
 /// tables of the FCS for itself.
 fn walk_tables(t: &mut Table) {
-    let under = |w: &WalkSeen| w.lengths.0 < TABLES_FROM;
-    let from = |w: &WalkSeen| w.lengths.0 >= TABLES_FROM;
-    let last_under = |w: &WalkSeen| w.lengths.0 == TABLES_FROM - 1;
-    let first_from = |w: &WalkSeen| w.lengths.0 == TABLES_FROM;
-    let sides: [(_, fn(&WalkSeen) -> bool); 4] = [
-        (format!("under {TABLES_FROM} symbols"), under),
-        (format!("{TABLES_FROM} symbols or more"), from),
-        (format!("{} symbols", TABLES_FROM - 1), last_under),
-        (format!("{TABLES_FROM} symbols"), first_from),
-    ];
-    for (symbols, side) in sides {
+    for (symbols, lengths) in [
+        (format!("under {TABLES_FROM} symbols"), 0..TABLES_FROM),
+        (
+            format!("{} symbols", TABLES_FROM - 1),
+            TABLES_FROM - 1..TABLES_FROM,
+        ),
+        (
+            format!("{TABLES_FROM} symbols"),
+            TABLES_FROM..TABLES_FROM + 1,
+        ),
+        (
+            format!("{TABLES_FROM} symbols or more"),
+            TABLES_FROM..SYMBOLS + 1,
+        ),
+    ] {
         for (outcome, name) in (1..).zip(OUTCOMES) {
-            let name = format!("walk, {symbols}: {outcome} {name}");
-            t.walk(name, move |w| side(w) && w.risen(outcome) > 0);
+            let (name, lengths) = (
+                format!("walk, {symbols}: {outcome} {name}"),
+                lengths.clone(),
+            );
+            t.walk(name, move |w| {
+                lengths.contains(&w.lengths.0) && w.risen(outcome) > 0
+            });
         }
-        for (end, open) in [("none", false), ("open", true)] {
-            t.walk(format!("walk, {symbols}: {end}"), move |w| {
-                side(w) && matches!(w.walked, Walked::Ended { open: o, .. } if o == open)
+        for (end, at_end) in [("none", false), ("open", true)] {
+            let (name, lengths) = (format!("walk, {symbols}: {end}"), lengths.clone());
+            t.walk(name, move |w| {
+                let ended = matches!(w.walked, Walked::Ended { open, .. } if open == at_end);
+                lengths.contains(&w.lengths.0) && ended
             });
         }
     }
