@@ -116,6 +116,10 @@ fn kinds(text: &str) -> impl Iterator<Item = String> + '_ {
 fn compare(program: &Path, name: &str, input: &[u8], piece: usize) -> String {
     let (library, reference) = (printed(program, input, piece), reference::print(input));
     if library == reference {
+        // refused exactly if it ends in half a record or has too many, whatever both sides say
+        let whole = input.chunks_exact(2).remainder().is_empty();
+        let taken = whole && input.len() <= 2 * RECORDS;
+        assert_eq!(reference != "bad input\n", taken, "{name}");
         return reference;
     }
     let kept = Path::new(env!("CARGO_TARGET_TMPDIR")).join("input");

@@ -103,6 +103,11 @@ fn high_bits(t: &mut Table) {
             let next = (c.before[i] as u32).wrapping_add(1);
             high(c.before[i]) && c.after[i] == u64::from(next) && c.read(|r| r.outcome == outcome)
         });
+        let name = format!("C: counter of outcome {outcome} at 2^32 - 1 and high bits: 0");
+        t.c(name, move |c| {
+            let most = high(c.before[i]) && c.before[i] as u32 == u32::MAX;
+            most && c.after[i] == 0 && c.read(|r| r.outcome == outcome)
+        });
     }
     let its_timer = |c: &CSeen| {
         let record = c.client.filter(|record| record.0[raw::CLASS] < 8)?;
@@ -191,7 +196,11 @@ fn client_octets(t: &mut Table) {
             c.client(|record, w| {
                 let field = on_line(record, raw::TYPE);
                 let at = 12 + 4 * usize::from(record[raw::TAG_COUNT]);
-                record[raw::FORM] == value && field[0] != field[1] && w.frame_has(at, &field)
+                // no length has so high an octet
+                record[raw::FORM] == value
+                    && field[0] > 5
+                    && field[0] != field[1]
+                    && w.frame_has(at, &field)
             })
         });
     }

@@ -323,7 +323,8 @@ fn flow_frames(t: &mut Table) {
 fn sent_octets(t: &mut Table) {
     for (kind, call, _) in KINDS.into_iter().filter(|(kind, ..)| *kind != Kind::Idle) {
         t.sending(format!("{call}: the source sent is own"), move |w| {
-            w.kind() == kind && all_differ(&w.s.own) && w.frame_has(6, &w.s.own)
+            let own = &w.s.own;
+            w.kind() == kind && all_differ(own) && w.frame_has(6, own) && !w.frame_has(0, own)
         });
     }
     t.sending("client: the destination sent is the one asked", |w| {
