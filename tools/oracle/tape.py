@@ -1,6 +1,7 @@
 """Calls of the C face on a tape, for crates/cases, and what the program must print of them, as model.py works it out.
 
-The tape: the place of the first call in eight octets, what the calls name, and the calls. Every number is eight octets, high octet first. A call is twelve
+The tape: the place of the first call in eight octets, what the calls name, the calls, and the FCS of all that, low octet first; of a tape that does not end in it
+no call is made. Every number is eight octets, high octet first. A call is twelve
 numbers: kind (0 readings, 1 client, 2 pause, 3 PFC, 4 Idle fill); name; settings; state; client frame; quanta; place; a number (how many readings at most, and
 a walk after them if that is more than one; quanta; class octet; Idles); octets; marks; data; 0. What lies elsewhere on the tape is named by its place, and
 where its length is not known, by its place times 2^32 plus its length. A state and quanta are numbers; a name and data are octets; settings, a client frame
@@ -10,7 +11,7 @@ import zlib
 
 READINGS, CLIENT, PAUSE, PFC, IDLE = range(5)
 MOST_READINGS = 16
-LONGEST = 65536  # what the program reads
+LONGEST = 262144  # what the program reads
 ONES = 2**64 - 1
 KINDS = {0x8100: 0, 0x88A8: 1}
 FLOWS = {"none": 0, "pause": 1, "PFC": 2}
@@ -76,6 +77,7 @@ class Tape:
 
     def octets(self):
         tape = bytes(number(len(self.named)) + self.named[8:] + b"".join(number(n) for call in self.calls for n in call))
+        tape += zlib.crc32(tape).to_bytes(4, "little")
         assert len(tape) <= LONGEST, len(tape)
         return tape
 
