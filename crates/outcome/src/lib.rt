@@ -1,4 +1,5 @@
 // What becomes of one run: the table of outcomes and the status word (document 01, "Reading one Start", "Status word"). Meaning: specs/.
+use fields::Layout;
 use station::Outcome;
 use station::Settings;
 ghost use mathlib.Core.Path.{_≡_};
@@ -9,6 +10,7 @@ ghost use Rattle.line.specs.Table.{first};
 ghost use Rattle.fcs.specs.Lent.{Lent};
 ghost use Rattle.station.specs.Station.{isGroup};
 ghost use Rattle.fields.specs.Fields.{destination};
+ghost use Rattle.frame.specs.Frame.{dataFrom};
 ghost use Rattle.outcome.specs.Outcomes.{badPreamble, frameOf, outcome};
 ghost use Rattle.outcome.specs.Steps.{earlyOutcomes, lateOutcomes};
 ghost use Rattle.outcome.specs.Status.{frameBits, statusOf};
@@ -150,17 +152,26 @@ fn frame_bits(f: &[u8], tags: usize) -> u64
     b38 + b37 + b36 + b34 + b33 + b32 + (f.len() as u64) * 0x1_0000
 }
 
-// The status word of a frame with so many tags and octets of data, of which `handed` are handed out: 0 for outcomes 1 to 7. The bounds keep its
-// sums from wrapping; so it is public for this repository's crates only.
-pub fn status(o: Outcome, f: &[u8], tags: usize, all: usize, handed: usize) -> u64
-    requires { ⌜ (length (now f) ≤ 65536) × (all ≤ 65536) × (handed ≤ 65536) ⌝ }
-    ensures { λ r. ⌜ r ≡ statusOf o (now (f .entry)) tags all handed ⌝ }
+// The number of data octets, of a frame whose data begins at `place`.
+fn data_length(f: &[u8], place: usize) -> u64
+    requires { ⌜ length (now f) ≤ 65536 ⌝ }
+    ensures { λ r. ⌜ (r ≡ length (dataFrom place (now (f .entry)))) × (r ≤ 65536) ⌝ }
+{
+    let data = frame::frame_data(f, place);
+    data.len() as u64
+}
+
+// The status word of a frame laid out as `l` says, of which `handed` octets are handed out: 0 for outcomes 1 to 7. The bounds keep its sums from
+// wrapping; so it is public for this repository's crates only.
+pub fn status(o: Outcome, f: &[u8], l: Layout, handed: usize) -> u64
+    requires { ⌜ (length (now f) ≤ 65536) × (handed ≤ 65536) ⌝ }
+    ensures { λ r. ⌜ r ≡ statusOf o (now (f .entry)) (l .tags) (length (dataFrom (l .place) (now (f .entry)))) handed ⌝ }
 {
     match o {
-        Outcome::PauseTaken => 0x8_0000_0000 + frame_bits(f, tags) + (all as u64),
-        Outcome::PfcTaken => 0x80_0000_0000 + frame_bits(f, tags) + (all as u64),
-        Outcome::ControlDropped => frame_bits(f, tags) + (all as u64),
-        Outcome::HandedOut => frame_bits(f, tags) + (handed as u64),
+        Outcome::PauseTaken => 0x8_0000_0000 + frame_bits(f, l.tags) + data_length(f, l.place),
+        Outcome::PfcTaken => 0x80_0000_0000 + frame_bits(f, l.tags) + data_length(f, l.place),
+        Outcome::ControlDropped => frame_bits(f, l.tags) + data_length(f, l.place),
+        Outcome::HandedOut => frame_bits(f, l.tags) + (handed as u64),
         _ => 0,
     }
 }

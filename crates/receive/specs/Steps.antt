@@ -2,7 +2,7 @@
 -- caller needs it.
 use Prim.Native.Nat.{ℕ, _+_, _≤_}
 use mathlib.Core.Path.{_≡_}
-use mathlib.Core.Bool.{true}
+use mathlib.Core.Bool.{Bool, true}
 use mathlib.Core.List.{List}
 use lib.ListN.{length}
 use Rattle.line.specs.Octets.{between}
@@ -11,6 +11,9 @@ use Rattle.station.specs.declared.State.{State}
 use Rattle.station.specs.declared.Part.{Part}
 use Rattle.station.specs.declared.Outcome.{Outcome}
 use Rattle.station.specs.Numbers.{byOutcome}
+use Rattle.fields.specs.declared.Layout.{Layout}
+use Rattle.frame.specs.Frame.{dataFrom}
+use Rattle.frame.specs.Length.{handedOf}
 use Rattle.outcome.specs.Outcomes.{frameOf}
 use Rattle.outcome.specs.Status.{status}
 use Rattle.receive.specs.declared.Answer.the-variants.{Refused, Nothing, Open, Counted}
@@ -19,9 +22,11 @@ use Rattle.receive.specs.declared.Reading.{Reading}
 use Rattle.receive.specs.Reading.{emptyPart, stateAfter, handedPart, reading}
 use Rattle.receive.specs.Values.{isCounted}
 
--- the client data's part: so many octets from a place on, for outcome 11
-unfoldable pub partAt : Outcome → ℕ → ℕ → Part
-partAt o at handed = byOutcome o emptyPart emptyPart emptyPart emptyPart (record { at = at; len = handed })
+-- the client data's part, of a frame that begins at a place and is laid out as l says
+unfoldable pub partAt : Bool → Outcome → ℕ → List ℕ → Layout → Part
+partAt checking o at f l =
+    byOutcome o emptyPart emptyPart emptyPart emptyPart
+    (record { at = at + l .place; len = length (handedOf checking (l .field) (dataFrom (l .place) f)) })
 
 -- what is seen of a Start at place i, and the outcome of its run
 unfoldable pub sightOf : Settings → ℕ → List ℕ → Outcome → Sight

@@ -1,4 +1,5 @@
 // Reading (document 01, "Reading one Start", "Refusals and their order"). Meaning: specs/.
+use fields::Layout;
 use line::Found;
 use station::Checked;
 use station::Outcome;
@@ -7,7 +8,7 @@ use station::Refusal;
 use station::Settings;
 use station::State;
 ghost use mathlib.Core.Path.{_≡_};
-ghost use Prim.Native.Nat.{_≤_};
+ghost use Prim.Native.Nat.{_+_, _≤_};
 ghost use lib.ListN.{length};
 ghost use Rattle.line.specs.Table.{first};
 ghost use Rattle.fcs.specs.Lent.{Lent};
@@ -57,12 +58,16 @@ pub struct WalkEnd {
 
 // ---- one reading
 
-// The client data's part: `handed` octets from place `at` on for outcome 11, else none.
-fn handed_part(o: Outcome, at: usize, handed: usize) -> Part
-    ensures { λ r. ⌜ r ≡ partAt o at handed ⌝ }
+// The client data's part, of a frame that begins at place `at` and is laid out as `l` says: none but for outcome 11.
+fn handed_part(checking: bool, o: Outcome, at: usize, f: &[u8], l: Layout) -> Part
+    requires { ⌜ at + l .place ≤ 131072 ⌝ }
+    ensures { λ r. ⌜ r ≡ partAt checking o at (now (f .entry)) l ⌝ }
 {
     match o {
-        Outcome::HandedOut => Part { at, len: handed },
+        Outcome::HandedOut => Part {
+            at: at + l.place,
+            len: frame::handed_length(checking, l.field, frame::frame_data(f, l.place)),
+        },
         _ => Part { at: 0, len: 0 },
     }
 }
@@ -74,10 +79,8 @@ fn look_run(s: Settings, start: usize, run: &[u8], o: Outcome) -> Sight
 {
     let f = outcome::frame_of(run);
     let l = fields::layout_of(f);
-    let data = frame::frame_data(f, l.place);
-    let handed = frame::handed_length(s.checking, l.field, data);
-    let word = outcome::status(o, f, l.tags, data.len(), handed);
-    let part = handed_part(o, start + 8 + l.place, handed);
+    let part = handed_part(s.checking, o, start + 8, f, l);
+    let word = outcome::status(o, f, l, part.len);
     Sight {
         answer: Answer::Counted(o, word, part),
         start,

@@ -1,9 +1,9 @@
 -- `frame::kept` meets its contract: each way out is a row of the table. Assumes nothing.
-use Rattle.frame.proofs.FrameLaws.{kept-type}
+use Rattle.frame.proofs.FrameLaws.{kept-type, kept-short}
 use Rattle.frame.proofs.Length.{kept-gap, kept-exact, kept-padded}
 use mathlib.Core.Path.{sym}
 use borrow.Author.Needs.{needs}
-use borrow.Author.Tests.{eq-eqb, ne-eqb}
+use borrow.Author.Tests.{ne-eqb}
 use Rattle.frame.proofs.kept.Statement.{statement}
 use Rattle.frame.proofs.kept.Tie as tie
 
@@ -17,7 +17,7 @@ returns-3 : tie.Need-returns-3
 returns-3 c = sym (kept-exact _ _ _ (c .before .if2 .left) (c .if3 .taken))
 
 returns-4 : tie.Need-returns-4
-returns-4 c = rw (kept-padded _ _ _ (c .before .if3 .left), eq-eqb _ _ (c .if4 .taken))
+returns-4 c = sym (kept-short _ _ _ (c .before .if3 .left) (c .if4 .taken))
 
 shortest-requires : tie.Need-shortest-requires
 shortest-requires c κs = search needs
