@@ -14,14 +14,14 @@ root = pathlib.Path(__file__).resolve().parent.parent
 more = root / "more-edits"
 
 
-def copy_with_edits(to):
-    """The crates, with the edits of more-edits/ in place of the gate's."""
+def copy_with_edits(to, crates):
+    """The crates, with the edits of more-edits/ for those named in place of the gate's: rt tries those of the crates below too, if they are there."""
     shutil.copy(root / "crates.txt", to)
     shutil.copytree(root / "crates", to / "crates", ignore=shutil.ignore_patterns("must-fail"))
     if (root / "target").exists():
         shutil.copytree(root / "target", to / "target", symlinks=True, ignore=shutil.ignore_patterns("must-fail"))
-    for crate in more.iterdir():
-        shutil.copytree(crate, to / "crates" / crate.name / "must-fail")
+    for crate in crates:
+        shutil.copytree(more / crate, to / "crates" / crate / "must-fail")
 
 
 def main():
@@ -31,7 +31,7 @@ def main():
             print(f"more-edits has none of {crate}")
             return 2
     with tempfile.TemporaryDirectory() as folder:
-        copy_with_edits(pathlib.Path(folder))
+        copy_with_edits(pathlib.Path(folder), crates)
         return subprocess.run(["rt", "must-fail", *crates], cwd=folder).returncode
 
 
