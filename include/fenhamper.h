@@ -5,7 +5,8 @@
  *                 fenhamper), which itself needs memset and nothing else.
  *   Memory        No heap. The archive is code and constants: it has no data section, neither .data nor .bss.
  *   Reentrant     Yes. Nothing is kept between calls but what the caller lends.
- *   Stack         TO MEASURE: octets by call.
+ *   Stack         At most FENHAMPER_STACK_READ octets for a reading, .._SEND for a sending call, .._WALK for a walk, of
+ *                 which 16 KB are for tables; a test measures them.
  *   Client data   Of a reading: data_length octets from octets + data_place on, in the caller's own octets and
  *                 never a copy. They always lie inside, so that no fenhamper_client_data is needed for them.
  *
@@ -69,6 +70,9 @@ static uint32_t (*const fenhamper_layout)(void) __attribute__((used)) = fenhampe
 #define FENHAMPER_MOST_TAGS 8        /* of a frame */
 #define FENHAMPER_CLASSES 8          /* 0 to 7, a timer each */
 #define FENHAMPER_OUTCOMES 11        /* 1 to 11, a counter each */
+#define FENHAMPER_STACK_READ 1024    /* octets of stack that a call takes at most: fenhamper_read */
+#define FENHAMPER_STACK_SEND 512     /* the sending calls and Idle fill */
+#define FENHAMPER_STACK_WALK 18432   /* fenhamper_walk */
 
 /* ---- settings */
 

@@ -124,7 +124,8 @@ impl Rival for Proved<'_> {
     }
 
     fn kept(&self) -> Vec<u32> {
-        self.state.counters().to_vec()
+        // a counter is 32 bits wide: nothing is lost
+        self.state.counters().map(|counter| counter as u32).to_vec()
     }
 }
 

@@ -1,7 +1,7 @@
 //! What a call answers: outcome, refusal, status word.
 use crate::sys;
-use std::error::Error;
-use std::fmt;
+use core::error::Error;
+use core::fmt;
 
 /// The outcome of a Start, by the first rule of document 01 that holds.
 ///
@@ -68,11 +68,13 @@ impl Outcome {
     ];
 
     /// Document 01's number, 1 to 11.
+    #[must_use]
     pub const fn number(self) -> u8 {
         self as u8
     }
 
     /// Document 01's name.
+    #[must_use]
     pub const fn name(self) -> &'static str {
         match self {
             Outcome::Cut => "cut",
@@ -97,9 +99,14 @@ impl Outcome {
     /// assert_eq!(Outcome::from_number(11), Some(Outcome::HandedOut));
     /// assert_eq!(Outcome::from_number(0), None);
     /// ```
+    #[must_use]
     pub fn from_number(number: u8) -> Option<Outcome> {
-        let place = number.checked_sub(1)?;
-        Outcome::ALL.get(usize::from(place)).copied()
+        Outcome::of(number.into())
+    }
+
+    // Of a number as wide as an answer's. That before 0 is the largest, and no outcome's place.
+    pub(crate) fn of(number: u64) -> Option<Outcome> {
+        Outcome::ALL.get(number.wrapping_sub(1) as usize).copied()
     }
 }
 
@@ -155,6 +162,7 @@ pub enum Refusal {
 
 impl Refusal {
     /// Its number in the documents.
+    #[must_use]
     pub const fn number(self) -> u8 {
         match self {
             Refusal::BadSettings => 1,
@@ -172,6 +180,7 @@ impl Refusal {
     }
 
     /// The header's name, in words.
+    #[must_use]
     pub const fn name(self) -> &'static str {
         match self {
             Refusal::BadSettings => "bad settings",
@@ -256,11 +265,13 @@ pub struct Status(u64);
 
 impl Status {
     /// The status of a word.
+    #[must_use]
     pub const fn new(word: u64) -> Status {
         Status(word)
     }
 
     /// The word itself.
+    #[must_use]
     pub const fn word(self) -> u64 {
         self.0
     }
@@ -270,31 +281,37 @@ impl Status {
     }
 
     /// Bit 39: PFC taken.
+    #[must_use]
     pub const fn pfc(self) -> bool {
         self.has(sys::STATUS_PFC)
     }
 
     /// Bit 38: to one station.
+    #[must_use]
     pub const fn unicast(self) -> bool {
         self.has(sys::STATUS_UNICAST)
     }
 
     /// Bit 37: to a group other than broadcast.
+    #[must_use]
     pub const fn multicast(self) -> bool {
         self.has(sys::STATUS_MULTICAST)
     }
 
     /// Bit 36: broadcast.
+    #[must_use]
     pub const fn broadcast(self) -> bool {
         self.has(sys::STATUS_BROADCAST)
     }
 
     /// Bit 35: pause taken.
+    #[must_use]
     pub const fn pause(self) -> bool {
         self.has(sys::STATUS_PAUSE)
     }
 
     /// Bit 34: a control frame.
+    #[must_use]
     pub const fn control(self) -> bool {
         self.has(sys::STATUS_CONTROL)
     }
@@ -309,23 +326,63 @@ impl Status {
     /// assert_eq!(words.map(Status::tagged), [false, true, false]);
     /// assert_eq!(words.map(Status::stacked), [false, false, true]);
     /// ```
+    #[must_use]
     pub const fn tagged(self) -> bool {
         self.has(sys::STATUS_TAGGED)
     }
 
     /// Bit 32: two tags or more.
+    #[must_use]
     pub const fn stacked(self) -> bool {
         self.has(sys::STATUS_STACKED)
     }
 
     /// Bits 31 to 16: octets from destination to FCS.
+    #[must_use]
     pub const fn frame_length(self) -> u16 {
         (self.0 >> 16) as u16
     }
 
     /// Bits 15 to 0: octets handed out, or all of the data for outcomes 8 to 10.
+    #[must_use]
     pub const fn data_length(self) -> u16 {
         self.0 as u16
+    }
+}
+
+/// Its bits' names and its lengths; "none" for a word of 0.
+///
+/// ```
+/// use fenhamper::Status;
+///
+/// let status = Status::new(0x42006A0054);
+/// assert_eq!(status.to_string(), "unicast, tagged, frame 106, data 84");
+/// assert_eq!(Status::default().to_string(), "none");
+/// ```
+impl fmt::Display for Status {
+    fn fmt(&self, f: &mut fmt::Formatter<'_>) -> fmt::Result {
+        if self.0 == 0 {
+            return f.pad("none");
+        }
+        let names = [
+            (self.unicast(), "unicast"),
+            (self.multicast(), "multicast"),
+            (self.broadcast(), "broadcast"),
+            (self.control(), "control"),
+            (self.pause(), "pause taken"),
+            (self.pfc(), "PFC taken"),
+            (self.tagged(), "tagged"),
+            (self.stacked(), "stacked"),
+        ];
+        for (_, name) in names.into_iter().filter(|(on, _)| *on) {
+            write!(f, "{name}, ")?;
+        }
+        write!(
+            f,
+            "frame {}, data {}",
+            self.frame_length(),
+            self.data_length()
+        )
     }
 }
 

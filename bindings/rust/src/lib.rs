@@ -1,30 +1,42 @@
 #![doc = include_str!("../README.md")]
+#![no_std]
 #![warn(missing_docs)]
 #![deny(unsafe_code)]
 
-// The archive is made for 64-bit targets, and places pass through 64 bits.
+// The archive is made for 64-bit targets, and places pass through 64 bits: no cast loses anything.
 #[cfg(not(target_pointer_width = "64"))]
 compile_error!("libfenhamper.a is for 64-bit targets");
 
+#[cfg(test)]
+extern crate std;
+
+mod address;
 mod answers;
 mod fcs;
+pub mod limits;
 mod receive;
+pub mod records;
 mod send;
 mod settings;
 mod state;
+mod station;
 mod sys;
 mod tag;
+mod view;
 
 #[cfg(test)]
 mod header;
 
+pub use address::{Address, ParseAddressError};
 pub use answers::{Outcome, Refusal, Status};
 pub use fcs::{fcs, Fcs};
 pub use receive::{Capture, Counted, Reading, Readings, Walk};
-pub use send::{Frame, Sender};
-pub use settings::{Address, Flow, Settings};
+pub use send::{Form, Frame, Sender};
+pub use settings::{Flow, Settings};
 pub use state::State;
+pub use station::Station;
 pub use tag::{Tag, TagKind};
+pub use view::{FrameView, Tags};
 
 /// The most symbols that a call takes: longer buffers get refusal 2.
 ///
@@ -36,4 +48,4 @@ pub use tag::{Tag, TagKind};
 /// let walk = capture.walk(&Settings::default(), &mut State::default());
 /// assert_eq!(walk, Err(Refusal::BadBuffers));
 /// ```
-pub const SYMBOLS: usize = sys::MOST_SYMBOLS;
+pub const SYMBOLS: usize = limits::MOST_SYMBOLS;

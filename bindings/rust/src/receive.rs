@@ -3,7 +3,9 @@ use crate::answers::{Outcome, Refusal, Status};
 use crate::settings::Settings;
 use crate::state::State;
 use crate::sys;
-use std::iter::FusedIterator;
+use core::fmt;
+use core::hash::{Hash, Hasher};
+use core::iter::FusedIterator;
 
 /// A captured stretch of line symbols: the octets, and beside each its mark, 0 for data and
 /// anything else for control.
@@ -28,8 +30,6 @@ impl<'a> Capture<'a> {
     /// Reads the first Start at `place` or later. Its outcome is counted, and a pause or PFC frame
     /// that is taken sets timers.
     ///
-    /// Refused are bad settings (1), bad buffers (2) and a place beyond the capture (3).
-    ///
     /// ```
     /// use fenhamper::{Capture, Outcome, Reading, Settings, State};
     ///
@@ -50,6 +50,11 @@ impl<'a> Capture<'a> {
     /// assert_eq!(last, Reading::Open { start: 5 });
     /// # Ok::<(), fenhamper::Refusal>(())
     /// ```
+    ///
+    /// # Errors
+    ///
+    /// Refusals 1 to 3, the lowest number first: bad settings, bad buffers, a place beyond the
+    /// capture.
     pub fn read(
         &self,
         settings: &Settings,
@@ -62,15 +67,15 @@ impl<'a> Capture<'a> {
         let start = r.start as usize;
         match r.kind {
             sys::COUNTED => {
-                let number = u8::try_from(r.outcome).unwrap_or(0);
                 let at = r.data_place as usize;
                 Ok(Reading::Counted(Counted {
                     start,
                     next: r.next as usize,
-                    outcome: Outcome::from_number(number).ok_or(Refusal::Unknown(0))?,
+                    outcome: Outcome::of(r.outcome).ok_or(Refusal::Unknown(0))?,
                     status: Status::new(r.status),
                     at,
                     data: self.part(at, r.data_length as usize),
+                    capture: self.octets,
                 }))
             }
             sys::NONE => Ok(Reading::Nothing { end: start }),
@@ -90,8 +95,6 @@ impl<'a> Capture<'a> {
     /// Reads Start after Start from place 0 on until there is none or the last is still open, all
     /// in one call.
     ///
-    /// Refused as a reading at place 0 is.
-    ///
     /// ```
     /// use fenhamper::{Capture, Settings, State};
     ///
@@ -100,6 +103,10 @@ impl<'a> Capture<'a> {
     /// assert_eq!((walk.starts, walk.open), (2, false));
     /// # Ok::<(), fenhamper::Refusal>(())
     /// ```
+    ///
+    /// # Errors
+    ///
+    /// Refusals 1 and 2, as a reading at place 0 has them.
     pub fn walk(&self, settings: &Settings, state: &mut State) -> Result<Walk, Refusal> {
         let w = sys::walk(settings.record(), state.record(), self.octets, self.marks);
         Refusal::check(w.refusal)?;
@@ -181,6 +188,7 @@ impl Reading<'_> {
     /// assert_eq!((reading.start(), reading.next()), (1, 2));
     /// # Ok::<(), fenhamper::Refusal>(())
     /// ```
+    #[must_use]
     pub const fn start(&self) -> usize {
         match self {
             Reading::Nothing { end } => *end,
@@ -191,6 +199,7 @@ impl Reading<'_> {
 
     /// Where to read on: at the symbol that ended the run, at the Start if it is open, at the
     /// capture's length if there is none.
+    #[must_use]
     pub const fn next(&self) -> usize {
         match self {
             Reading::Nothing { end } => *end,
@@ -219,7 +228,7 @@ impl Reading<'_> {
 /// assert_eq!(r.data, b"talkback");
 /// # Ok::<(), fenhamper::Refusal>(())
 /// ```
-#[derive(Clone, Copy, Debug, PartialEq, Eq, Hash)]
+#[derive(Clone, Copy)]
 #[non_exhaustive]
 pub struct Counted<'a> {
     /// The Start's place.
@@ -234,6 +243,53 @@ pub struct Counted<'a> {
     pub at: usize,
     /// The client data, a part of the capture's octets; empty for outcomes 1 to 10.
     pub data: &'a [u8],
+    // the octets that were read
+    pub(crate) capture: &'a [u8],
+}
+
+impl Counted<'_> {
+    // All but the capture.
+    fn answer(&self) -> (usize, usize, Outcome, Status, usize, &[u8]) {
+        let Counted {
+            start,
+            next,
+            outcome,
+            status,
+            at,
+            data,
+            ..
+        } = *self;
+        (start, next, outcome, status, at, data)
+    }
+}
+
+/// Equal are readings with the same answer and the same run; what else the captures have makes no
+/// difference.
+impl PartialEq for Counted<'_> {
+    fn eq(&self, other: &Counted<'_>) -> bool {
+        self.answer() == other.answer() && self.run() == other.run()
+    }
+}
+
+impl Eq for Counted<'_> {}
+
+impl Hash for Counted<'_> {
+    fn hash<H: Hasher>(&self, state: &mut H) {
+        self.answer().hash(state);
+    }
+}
+
+impl fmt::Debug for Counted<'_> {
+    fn fmt(&self, f: &mut fmt::Formatter<'_>) -> fmt::Result {
+        f.debug_struct("Counted")
+            .field("start", &self.start)
+            .field("next", &self.next)
+            .field("outcome", &self.outcome)
+            .field("status", &self.status)
+            .field("at", &self.at)
+            .field("data", &self.data)
+            .finish_non_exhaustive()
+    }
 }
 
 /// What a walk over a whole capture found; see [`Capture::walk`].
@@ -280,11 +336,13 @@ impl Readings<'_, '_> {
     }
 
     /// Where the next reading is made; after the end, where to read on.
+    #[must_use]
     pub fn place(&self) -> usize {
         self.place
     }
 
     /// Whether the readings ended at a Start whose run has not ended inside the capture.
+    #[must_use]
     pub fn ended_open(&self) -> bool {
         self.stage == Stage::Open
     }

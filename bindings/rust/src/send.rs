@@ -1,11 +1,29 @@
 //! Sending frames.
+use crate::address::Address;
 use crate::answers::Refusal;
 use crate::receive::Capture;
-use crate::settings::{Address, Settings};
+use crate::settings::Settings;
 use crate::state::State;
 use crate::sys;
-use crate::tag::Tag;
-use std::fmt;
+use crate::tag::{List, Tag};
+use core::fmt;
+
+/// The form of a client frame: what its field is.
+///
+/// ```
+/// use fenhamper::{Address, Form, Frame};
+///
+/// let frame = Frame::to(Address::BROADCAST);
+/// assert_eq!(frame.form(), Form::Length);
+/// assert_eq!(frame.by_type(0x0800).form(), Form::Type(0x0800));
+/// ```
+#[derive(Clone, Copy, Debug, PartialEq, Eq, Hash)]
+pub enum Form {
+    /// The data's length.
+    Length,
+    /// This type.
+    Type(u16),
+}
 
 /// A client frame but for its data: untagged, in the length form and of class 0 unless said
 /// otherwise. Its source is the own address.
@@ -22,7 +40,7 @@ use std::fmt;
 /// assert_eq!(
 ///     format!("{:?}", tagged.by_type(0x0800)),
 ///     "Frame { to: Address(02-00-00-00-00-09), tags: [Tag { kind: Customer, control: 57349 }], \
-///      tag_count: 1, by_type: Some(2048), class: 0 }"
+///      tag_count: 1, form: Type(2048), class: 0 }"
 /// );
 /// ```
 #[derive(Clone, Copy, PartialEq, Eq, Hash)]
@@ -133,6 +151,45 @@ impl Frame {
         self.record.traffic_class = class;
         self
     }
+
+    /// The destination.
+    ///
+    /// ```
+    /// use fenhamper::{Address, Form, Frame, Tag};
+    ///
+    /// let tags = [Tag::service(100), Tag::customer(5)];
+    /// let frame = Frame::to(Address::BROADCAST).tags(&tags).class(3);
+    /// assert_eq!(frame.destination(), Address::BROADCAST);
+    /// assert!(frame.tag_list().eq(tags));
+    /// assert_eq!((frame.form(), frame.class_number()), (Form::Length, 3));
+    /// ```
+    #[must_use]
+    pub const fn destination(&self) -> Address {
+        Address::of(self.record.destination)
+    }
+
+    /// The tags, the outermost first: none beyond the eighth, though more are refused.
+    #[must_use]
+    pub fn tag_list(&self) -> impl ExactSizeIterator<Item = Tag> + Clone + '_ {
+        let tags = self.record.tags.iter();
+        tags.take(self.record.tag_count.into())
+            .map(|tag| Tag::of(*tag))
+    }
+
+    /// The form.
+    #[must_use]
+    pub const fn form(&self) -> Form {
+        match self.record.form {
+            sys::FORM_LENGTH => Form::Length,
+            _ => Form::Type(self.record.r#type),
+        }
+    }
+
+    /// The class.
+    #[must_use]
+    pub const fn class_number(&self) -> u8 {
+        self.record.traffic_class
+    }
 }
 
 // What stands beyond the count.
@@ -140,15 +197,12 @@ const NO_TAG: sys::Tag = Tag::customer(0).record();
 
 impl fmt::Debug for Frame {
     fn fmt(&self, f: &mut fmt::Formatter<'_>) -> fmt::Result {
-        let r = &self.record;
-        let counted = r.tags.iter().take(r.tag_count.into());
-        let tags: Vec<Tag> = counted.map(|tag| Tag::of(*tag)).collect();
         f.debug_struct("Frame")
-            .field("to", &Address::of(r.destination))
-            .field("tags", &tags)
-            .field("tag_count", &r.tag_count)
-            .field("by_type", &(r.form != sys::FORM_LENGTH).then_some(r.r#type))
-            .field("class", &r.traffic_class)
+            .field("to", &self.destination())
+            .field("tags", &List(self.tag_list()))
+            .field("tag_count", &self.record.tag_count)
+            .field("form", &self.form())
+            .field("class", &self.class_number())
             .finish()
     }
 }
@@ -214,6 +268,7 @@ impl<'b> Sender<'b> {
     }
 
     /// Where the next symbols go.
+    #[must_use]
     pub fn place(&self) -> usize {
         self.place
     }
@@ -234,10 +289,25 @@ impl<'b> Sender<'b> {
         Capture::new(self.octets, self.marks)
     }
 
-    /// Writes a client frame and its gap, unless the timer of its class is above zero (9).
+    /// The symbols before the place: what was written, if the sender began at place 0.
     ///
-    /// Refused are 1 to 3 and 5 to 10, the lowest number first, but that 10 comes after 6 and before
-    /// 7.
+    /// ```
+    /// use fenhamper::{Sender, State};
+    ///
+    /// let (mut octets, mut marks) = ([0; 4], [0; 4]);
+    /// let mut sender = Sender::new(&mut octets, &mut marks);
+    /// sender.idle(&mut State::default(), 3)?;
+    /// assert_eq!(sender.written().octets, [7, 7, 7]);
+    /// # Ok::<(), fenhamper::Refusal>(())
+    /// ```
+    #[must_use]
+    pub fn written(&self) -> Capture<'_> {
+        let octets = self.octets.get(..self.place).unwrap_or(self.octets);
+        let marks = self.marks.get(..self.place).unwrap_or(self.marks);
+        Capture::new(octets, marks)
+    }
+
+    /// Writes a client frame and its gap, unless the timer of its class is above zero (9).
     ///
     /// ```
     /// use fenhamper::{Address, Frame, Refusal, Sender, Settings, State};
@@ -259,6 +329,10 @@ impl<'b> Sender<'b> {
     /// );
     /// # Ok::<(), Refusal>(())
     /// ```
+    ///
+    /// # Errors
+    ///
+    /// Refusals 1 to 3 and 5 to 10, the lowest number first, but that 10 comes after 6 and before 7.
     pub fn client(
         &mut self,
         settings: &Settings,
@@ -294,6 +368,10 @@ impl<'b> Sender<'b> {
     /// assert_eq!(state.timers(), [128; 8]);
     /// # Ok::<(), Refusal>(())
     /// ```
+    ///
+    /// # Errors
+    ///
+    /// Refusals 1 to 4 and 8, the lowest number first.
     pub fn pause(
         &mut self,
         settings: &Settings,
@@ -332,6 +410,10 @@ impl<'b> Sender<'b> {
     /// assert_eq!(state.timers(), [64, 0, 0, 0, 0, 0, 0, 512]);
     /// # Ok::<(), Refusal>(())
     /// ```
+    ///
+    /// # Errors
+    ///
+    /// Refusals 1 to 4 and 8, the lowest number first.
     pub fn pfc(
         &mut self,
         settings: &Settings,
@@ -351,7 +433,11 @@ impl<'b> Sender<'b> {
         self.moved(sent)
     }
 
-    /// Writes `n` Idles. Refused are 2, 3 and 8.
+    /// Writes `n` Idles.
+    ///
+    /// # Errors
+    ///
+    /// Refusals 2, 3 and 8, the lowest number first.
     pub fn idle(&mut self, state: &mut State, n: usize) -> Result<usize, Refusal> {
         let sent = sys::fill_idle(state.record(), self.octets, self.marks, self.place, n);
         self.moved(sent)

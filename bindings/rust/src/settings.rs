@@ -1,57 +1,7 @@
 //! What a station is set to.
+use crate::address::Address;
 use crate::sys;
-use std::fmt;
-
-/// A station's or a group's address: six octets, in the order on the line.
-///
-/// ```
-/// use fenhamper::Address;
-///
-/// assert_eq!(
-///     Address([0x02, 0, 0, 0, 0xAB, 1]).to_string(),
-///     "02-00-00-00-ab-01"
-/// );
-/// assert_eq!(Address::PAUSE_GROUP.to_string(), "01-80-c2-00-00-01");
-/// ```
-#[derive(Clone, Copy, PartialEq, Eq, PartialOrd, Ord, Hash)]
-pub struct Address(pub [u8; 6]);
-
-impl Address {
-    /// All ones.
-    pub const BROADCAST: Address = Address([0xFF; 6]);
-
-    /// The reserved group that pause and PFC frames go to.
-    pub const PAUSE_GROUP: Address = Address([0x01, 0x80, 0xC2, 0x00, 0x00, 0x01]);
-
-    // As the header lays it out.
-    pub(crate) const fn record(self) -> sys::Address {
-        sys::Address { octets: self.0 }
-    }
-
-    // The address that the header lays out so.
-    pub(crate) const fn of(record: sys::Address) -> Address {
-        Address(record.octets)
-    }
-}
-
-impl From<[u8; 6]> for Address {
-    fn from(octets: [u8; 6]) -> Address {
-        Address(octets)
-    }
-}
-
-impl fmt::Display for Address {
-    fn fmt(&self, f: &mut fmt::Formatter<'_>) -> fmt::Result {
-        let [a, b, c, d, e, g] = self.0;
-        write!(f, "{a:02x}-{b:02x}-{c:02x}-{d:02x}-{e:02x}-{g:02x}")
-    }
-}
-
-impl fmt::Debug for Address {
-    fn fmt(&self, f: &mut fmt::Formatter<'_>) -> fmt::Result {
-        write!(f, "Address({self})")
-    }
-}
+use core::fmt;
 
 /// The flow mode: which control frames can be sent, and which are taken and set timers.
 ///
@@ -192,6 +142,69 @@ impl Settings {
         self
     }
 
+    /// The own address.
+    ///
+    /// ```
+    /// use fenhamper::{Address, Flow, Settings};
+    ///
+    /// let group = Address([0x01, 0, 0x5E, 0, 0, 1]);
+    /// let settings = Settings::default().listed(&[group]);
+    /// assert_eq!(settings.own(), Address([0x02, 0, 0, 0, 0, 1]));
+    /// assert!(settings.listed_addresses().eq([group]));
+    /// assert!(settings.accepts_broadcast() && !settings.is_promiscuous());
+    /// assert!(settings.checks_lengths() && !settings.passes_control());
+    /// assert_eq!((settings.frame_limit(), settings.flow_mode()), (1518, Flow::Off));
+    /// ```
+    #[must_use]
+    pub const fn own(&self) -> Address {
+        Address::of(self.record.own)
+    }
+
+    /// The listed addresses that count: none beyond the fourth, though a count above 4 is refused.
+    #[must_use]
+    pub fn listed_addresses(&self) -> impl ExactSizeIterator<Item = Address> + Clone + '_ {
+        let listed = self.record.listed.iter();
+        listed
+            .take(self.record.listed_count.into())
+            .map(|record| Address::of(*record))
+    }
+
+    /// Whether broadcast is accepted.
+    #[must_use]
+    pub const fn accepts_broadcast(&self) -> bool {
+        self.record.broadcast != 0
+    }
+
+    /// Whether every destination is accepted.
+    #[must_use]
+    pub const fn is_promiscuous(&self) -> bool {
+        self.record.promiscuous != 0
+    }
+
+    /// Whether lengths are checked, and padding is left off what is handed out.
+    #[must_use]
+    pub const fn checks_lengths(&self) -> bool {
+        self.record.checking != 0
+    }
+
+    /// Whether control frames that are not taken are handed out.
+    #[must_use]
+    pub const fn passes_control(&self) -> bool {
+        self.record.pass_control != 0
+    }
+
+    /// The flow mode.
+    #[must_use]
+    pub const fn flow_mode(&self) -> Flow {
+        Flow::of(self.record.flow)
+    }
+
+    /// The limit M.
+    #[must_use]
+    pub const fn frame_limit(&self) -> u16 {
+        self.record.limit
+    }
+
     // As the header lays them out.
     pub(crate) const fn record(&self) -> &sys::Settings {
         &self.record
@@ -200,17 +213,16 @@ impl Settings {
 
 impl fmt::Debug for Settings {
     fn fmt(&self, f: &mut fmt::Formatter<'_>) -> fmt::Result {
-        let r = &self.record;
         f.debug_struct("Settings")
-            .field("own", &Address::of(r.own))
-            .field("listed", &r.listed.map(Address::of))
-            .field("listed_count", &r.listed_count)
-            .field("broadcast", &(r.broadcast != 0))
-            .field("promiscuous", &(r.promiscuous != 0))
-            .field("checking", &(r.checking != 0))
-            .field("pass_control", &(r.pass_control != 0))
-            .field("flow", &Flow::of(r.flow))
-            .field("limit", &r.limit)
+            .field("own", &self.own())
+            .field("listed", &self.record.listed.map(Address::of))
+            .field("listed_count", &self.record.listed_count)
+            .field("broadcast", &self.accepts_broadcast())
+            .field("promiscuous", &self.is_promiscuous())
+            .field("checking", &self.checks_lengths())
+            .field("pass_control", &self.passes_control())
+            .field("flow", &self.flow_mode())
+            .field("limit", &self.frame_limit())
             .finish()
     }
 }

@@ -1,7 +1,8 @@
 //! What a station counts and times.
 use crate::answers::Outcome;
+use crate::limits::{CLASSES, OUTCOMES};
 use crate::sys;
-use std::fmt;
+use core::fmt;
 
 /// What a station keeps from call to call: a counter for each outcome and a timer for each class. A
 /// fresh one is all zeros.
@@ -28,7 +29,7 @@ pub struct State {
 
 impl State {
     /// A state with these counters, in the order of the outcomes, and these timers, in slots, in
-    /// the order of the classes.
+    /// the order of the classes. The library reads the low 32 bits of each.
     ///
     /// ```
     /// use fenhamper::{Outcome, State};
@@ -40,27 +41,44 @@ impl State {
     /// assert_eq!(state.timers(), [0, 0, 0, 64, 0, 0, 0, 0]);
     /// assert_eq!(State::with([0; 11], [0; 8]), State::default());
     /// ```
-    pub fn with(counters: [u32; 11], timers: [u32; 8]) -> State {
+    #[must_use]
+    pub fn with(counters: [u64; OUTCOMES], timers: [u64; CLASSES]) -> State {
         let mut record = sys::fresh_state();
-        record.counters = counters.map(u64::from);
-        record.timers = timers.map(u64::from);
+        record.counters = counters;
+        record.timers = timers;
         State { record }
     }
 
     /// How many Starts had this outcome, modulo 2^32.
+    #[must_use]
     pub fn counter(&self, outcome: Outcome) -> u64 {
         self.record.counters[usize::from(outcome.number() - 1)]
     }
 
     /// All counters, in the order of the outcomes.
-    pub fn counters(&self) -> [u32; 11] {
-        // a counter is 32 bits wide: nothing is lost
-        Outcome::ALL.map(|outcome| self.counter(outcome) as u32)
+    #[must_use]
+    pub fn counters(&self) -> [u64; OUTCOMES] {
+        Outcome::ALL.map(|outcome| self.counter(outcome))
+    }
+
+    /// The timer of a class, in slots; none for a class above 7.
+    ///
+    /// ```
+    /// use fenhamper::State;
+    ///
+    /// let state = State::with([0; 11], [0, 0, 0, 64, 0, 0, 0, 0]);
+    /// assert_eq!((state.timer(3), state.timer(7)), (Some(64), Some(0)));
+    /// assert_eq!(state.timer(8), None);
+    /// ```
+    #[must_use]
+    pub fn timer(&self, class: u8) -> Option<u64> {
+        self.record.timers.get(usize::from(class)).copied()
     }
 
     /// The timers of classes 0 to 7, in slots. A slot is one symbol written: a class is let go once
     /// its timer's slots are written.
-    pub fn timers(&self) -> [u64; 8] {
+    #[must_use]
+    pub fn timers(&self) -> [u64; CLASSES] {
         self.record.timers
     }
 

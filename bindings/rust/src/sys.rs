@@ -6,7 +6,7 @@
 //! call writes is lent to it alone.
 #![allow(unsafe_code)]
 
-use std::mem::size_of;
+use core::mem::size_of;
 
 // Numbers and records are the header's, each under its name there; the tests hold them, and the
 // declarations below, to it.

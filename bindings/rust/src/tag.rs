@@ -1,5 +1,6 @@
 //! Tags of client frames.
 use crate::sys;
+use core::fmt;
 
 /// The kind of a tag: the two octets on the line that say that a tag control follows. The names are
 /// those of IEEE 802.1Q.
@@ -9,6 +10,35 @@ pub enum TagKind {
     Customer,
     /// 0x88A8, which providers put outside the others.
     Service,
+}
+
+impl TagKind {
+    /// The two octets on the line, high octet first.
+    ///
+    /// ```
+    /// use fenhamper::TagKind;
+    ///
+    /// assert_eq!(TagKind::Service.number(), 0x88A8);
+    /// assert_eq!(TagKind::from_number(0x8100), Some(TagKind::Customer));
+    /// assert_eq!(TagKind::from_number(0x0800), None);
+    /// ```
+    #[must_use]
+    pub const fn number(self) -> u16 {
+        match self {
+            TagKind::Customer => 0x8100,
+            TagKind::Service => 0x88A8,
+        }
+    }
+
+    /// The kind of a number, if it is a tag's.
+    #[must_use]
+    pub const fn from_number(number: u16) -> Option<TagKind> {
+        match number {
+            0x8100 => Some(TagKind::Customer),
+            0x88A8 => Some(TagKind::Service),
+            _ => None,
+        }
+    }
 }
 
 /// A tag: its kind and its tag control.
@@ -31,6 +61,7 @@ pub struct Tag {
 
 impl Tag {
     /// A tag of kind 0x8100 with this tag control.
+    #[must_use]
     pub const fn customer(control: u16) -> Tag {
         Tag {
             kind: TagKind::Customer,
@@ -39,6 +70,7 @@ impl Tag {
     }
 
     /// A tag of kind 0x88A8 with this tag control.
+    #[must_use]
     pub const fn service(control: u16) -> Tag {
         Tag {
             kind: TagKind::Service,
@@ -67,5 +99,14 @@ impl Tag {
             },
             control: record.control,
         }
+    }
+}
+
+// Shows what an iterator gives as a list.
+pub(crate) struct List<I>(pub I);
+
+impl<I: Iterator<Item: fmt::Debug> + Clone> fmt::Debug for List<I> {
+    fn fmt(&self, f: &mut fmt::Formatter<'_>) -> fmt::Result {
+        f.debug_list().entries(self.0.clone()).finish()
     }
 }

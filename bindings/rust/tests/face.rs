@@ -367,7 +367,7 @@ fn readings_are_refused() {
     // the lowest number comes first
     let refused = |settings: Settings, octets: &[u8], marks: &[u8], place: usize, why: Refusal| {
         let capture = Capture::new(octets, marks);
-        let old = State::with([u32::MAX; 11], [7; 8]);
+        let old = State::with([u64::from(u32::MAX); 11], [7; 8]);
         let mut state = old.clone();
         assert_eq!(capture.read(&settings, &mut state, place), Err(why));
         let mut readings = capture.readings(&settings, &mut state).at(place);
@@ -507,7 +507,7 @@ fn nothing_is_enough() {
 
 #[test]
 fn a_counter_rolls_over() {
-    let mut state = State::with([u32::MAX; 11], [0; 8]);
+    let mut state = State::with([u64::from(u32::MAX); 11], [0; 8]);
     Capture::new(&[0xFB, 0x07], &[1, 1])
         .walk(&Settings::default(), &mut state)
         .unwrap();

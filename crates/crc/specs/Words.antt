@@ -13,7 +13,8 @@ abbrev pub word : List ℕ → ℕ
 word [] = 0
 word (o ∷ os) = o + word os * 256
 
--- the number of the octets of s at i to i + n, in the form of the code that loads them
+-- the number of the octets of s at i to i + n, in the form of the code that loads them: `lowFirst` of the line, which this crate, on the ground floor
+-- beside it, does not know
 abbrev pub wordAt : ℕ → List ℕ → ℕ → ℕ
 wordAt zero s i = getD s i 0
 wordAt (suc n) s i = wordAt n s i + getD s (i + suc n) 0 * 256 ^ suc n

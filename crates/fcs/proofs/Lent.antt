@@ -1,7 +1,7 @@
 -- The entries of the lent tables, and a number of octets by as many tables.
 -- Assumes nothing.
 use mathlib.Core.Path.{_≡_, refl, sym, ap, ap₂, _∙_, subst}
-use mathlib.Core.List.{List}
+use mathlib.Core.List.{List, [], _∷_, _++_}
 use Prim.Native.Nat.{ℕ, zero, suc, _+_, _-_, _*_, _/_, _%_, _^_, _≤_, _<_}
 use native.Mathlib.Nat.{mod-eq-of-lt, div-lt-iff-lt-mul, pow-suc, add-suc}
 use native.Mathlib.Numerals.{add-one}
@@ -9,11 +9,11 @@ use native.Mathlib.Omega.{arith}
 use borrow.Author.Count.{below-more}
 use lib.Bits.{bitXor}
 use lib.Dec.{lit<}
-use lib.ListN.{length, getD, set}
-use lib.Seq.{getD-set-same, getD-set-other}
+use lib.ListN.{length, getD, set, length-append, List·getD-append}
+use lib.Seq.{getD-set-same, getD-set-other, getD-at, ext-getD}
 use Rattle.crc.specs.Words.{crcZeros}
 use Rattle.crc.proofs.Linear.{none, zeros-add, over-slice}
-use Rattle.fcs.specs.Lent.{entryOf, Filled}
+use Rattle.fcs.specs.Lent.{entryOf, entries, Tables, Filled}
 
 -- ---- the entries
 
@@ -22,6 +22,28 @@ pub fill-more : (t : List ℕ) (i v : ℕ) → i < length t → v ≡ entryOf i 
 fill-more t i v h e below =
     below-more (λ (j : ℕ). getD (set t i v) j 0 ≡ entryOf j) i
     (λ j l. getD-set-other t i j v 0 (λ p. omega arith) ∙ below j l) (getD-set-same t i v 0 h ∙ e)
+
+-- all n of them: an array of that length with every entry right is the one
+entries-length : (n : ℕ) → length (entries n) ≡ n
+unfolding entries
+entries-length zero = refl
+entries-length (suc n) = let e = entries-length n in rw length-append (omega arith)
+
+pub entries-filled : (n : ℕ) → Filled n (entries n)
+unfolding entries
+entries-filled zero j h = absurd (omega arith)
+entries-filled (suc n) j h =
+    let e = entries-length n in
+    below-more (λ (j : ℕ). getD (entries n ++ (entryOf n ∷ [])) j 0 ≡ entryOf j) n
+    (λ j l. List·getD-append (entries n) (entryOf n ∷ []) 0 j (omega arith) ∙ entries-filled n j l)
+    (getD-at (entries n) (entryOf n) [] 0 n e) j (omega arith)
+
+pub entries-only : (n : ℕ) (t : List ℕ) → length t ≡ n → Filled n t → t ≡ entries n
+entries-only n t e f =
+    ext-getD 0 t (entries n) (e ∙ sym (entries-length n)) (λ i h. f i (omega arith) ∙ sym (entries-filled n i (omega arith)))
+
+pub tables-length : {t : List ℕ} → Tables t → length t ≡ 4096
+tables-length e = ap length e ∙ entries-length 4096
 
 -- the row and the octet of an entry
 pub entry-at : (k x : ℕ) → entryOf (k * 256 + x % 256) ≡ crcZeros (k + 1) (x % 256)

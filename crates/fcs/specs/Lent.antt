@@ -1,8 +1,8 @@
--- Internal: sixteen tables in one array, made once and lent. Of this file a caller sees `Tables`, which `make_tables` ensures, and `Lent`, which
+-- Internal: sixteen tables in one array, made once and lent. Of this file a caller sees `entries 4096`, which `make_tables` makes, and `Lent`, which
 -- `check_by` requires: no caller has to look into them.
 use mathlib.Core.Path.{_≡_}
-use mathlib.Core.List.{List}
-use Prim.Native.Nat.{ℕ, suc, _/_, _%_, _<_}
+use mathlib.Core.List.{List, [], _∷_, _++_}
+use Prim.Native.Nat.{ℕ, zero, suc, _/_, _%_, _<_}
 use lib.ListN.{length, getD}
 use Rattle.crc.specs.Words.{crcZeros}
 
@@ -10,12 +10,18 @@ use Rattle.crc.specs.Words.{crcZeros}
 unfoldable pub entryOf : ℕ → ℕ
 entryOf j = crcZeros (suc (j / 256)) (j % 256)
 
--- every entry below n is right
+-- the first n entries, in order
+unfoldable pub entries : ℕ → List ℕ
+entries zero = []
+entries (suc n) = entries n ++ (entryOf n ∷ [])
+
+-- the tables: 16 rows of 256 entries
+abbrev pub Tables : List ℕ → Type 0
+Tables t = t ≡ entries 4096
+
+-- while they are made: every entry below n is right
 abbrev pub Filled : ℕ → List ℕ → Type 0
 Filled n t = (j : ℕ) → j < n → getD t j 0 ≡ entryOf j
-
-abbrev pub Tables : List ℕ → Type 0
-Tables t = (length t ≡ 4096) × Filled 4096 t
 
 -- what may be lent: nothing, or the tables
 abbrev pub Lent : List ℕ → Type 0

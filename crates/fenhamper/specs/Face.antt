@@ -16,10 +16,8 @@ use Rattle.flow.specs.Timers.{timer}
 use Rattle.receive.specs.declared.Answer.{Answer}
 use Rattle.receive.specs.declared.Answer.the-variants.{Nothing, Open, Counted}
 use Rattle.receive.specs.declared.Reading.{Reading}
-use Rattle.receive.specs.declared.Walked.{Walked}
-use Rattle.receive.specs.declared.Walked.the-variants.{Ended}
 use Rattle.receive.specs.declared.WalkEnd.{WalkEnd}
-use Rattle.receive.specs.Values.{answerOutcome, answerRefusal, answerStatus, answerPart, walkedRefusal}
+use Rattle.receive.specs.Values.{answerOutcome, answerRefusal, answerStatus, answerPart, walkedRefusal, walkedStarts, walkedOpen}
 use Rattle.writing.specs.declared.Client.{Client}
 use Rattle.writing.specs.declared.Classes.{Classes}
 use Rattle.writing.specs.declared.Kind.{Kind}
@@ -143,14 +141,6 @@ readingNumbers r =
     ∷ replicate 4 0
 
 -- a walk, as 4 numbers: refusal, counted Starts, 1 if it ended open, and a zero
-abbrev pub walkedStarts : Walked → ℕ
-walkedStarts (Walked.Refused x) = 0
-walkedStarts (Ended n b) = n
-
-abbrev pub walkedOpen : Walked → ℕ
-walkedOpen (Walked.Refused x) = 0
-walkedOpen (Ended n b) = cond b 1 0
-
 unfoldable pub walkNumbers : WalkEnd → List ℕ
 walkNumbers w = walkedRefusal (w .answer) ∷ walkedStarts (w .answer) ∷ walkedOpen (w .answer) ∷ 0 ∷ []
 

@@ -63,9 +63,9 @@ pub fn first_field(f: &[u8]) -> u16
     high_first(f, 12)
 }
 
-// How many tags stand from `at` on, of `most` at most: one tag followed by a shorter run.
+// How many tags stand from `at` on, of `most` at most: one tag followed by a shorter run. (The bound keeps `at + 4` from wrapping, and no more.)
 fn tag_run(f: &[u8], at: usize, most: usize) -> usize
-    requires { ⌜ at + 4 * most ≤ 44 ⌝ }
+    requires { ⌜ at + 4 * most ≤ 65536 ⌝ }
     ensures { λ r. ⌜ (r ≡ tagRun most (drop at (now (f .entry)))) × (r ≤ most) ⌝ }
 {
     if most == 0 {
@@ -77,14 +77,14 @@ fn tag_run(f: &[u8], at: usize, most: usize) -> usize
     0
 }
 
-// How many tags stand before the real field. Most frames have none: that is one test, small enough to stand in each caller.
+// How many tags stand before the real field, eight at most. Most frames have none: that is one test, small enough to stand in each caller.
 pub fn tag_count(f: &[u8]) -> usize
     ensures { λ r. ⌜ r ≡ tagCount (now (f .entry)) ⌝ }
 {
-    if is_tag_kind(first_field(f)) {
-        return 1 + tag_run(f, 16, 7);
+    if !is_tag_kind(first_field(f)) {
+        return 0;
     }
-    0
+    tag_run(f, 12, 8)
 }
 
 // The layout of a frame. The tags are counted once: field and data stand behind them.

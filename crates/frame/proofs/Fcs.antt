@@ -1,89 +1,70 @@
 -- The last four octets of a frame as one number, low octet first, and a check. Assumes nothing.
-use Prim.Native.Nat.{ℕ, _+_, _-_, _*_, _/_, _%_, _≤_, _<_}
+use Prim.Native.Nat.{ℕ, zero, suc, _+_, _-_, _*_, _/_, _%_, _≤_, _<_}
 use native.Mathlib.Omega.{arith}
-use native.Mathlib.Nat.{div-div-eq-div-mul, div-add-mod'}
-use mathlib.Core.Path.{_≡_, refl, ap, _∙_}
+use native.Mathlib.Nat.{add-zero, div-div-eq-div-mul, div-add-mod'}
+use mathlib.Core.Path.{_≡_, refl, sym, ap, _∙_}
 use mathlib.Core.Bool.{false, not}
-use mathlib.Core.List.{List, [], _∷_}
+use mathlib.Core.List.{List}
 use lib.ListN.{length, getD, take, drop, length-drop}
 use lib.Seq.{getD-drop}
 use lib.Dec.{eqb}
 use borrow.Author.Tests.{eq-eqb, eqb-true}
-use Rattle.line.specs.Octets.{sameOctets}
+use Rattle.line.specs.Octets.{sameOctets, lowFirst}
 use Rattle.line.proofs.Octets.{sameOctets-refl, same-test, sameOctets-eq, sameOctets-not}
+use Rattle.line.proofs.Words.{Octets, low-drop, low-only}
 use Rattle.fcs.specs.Fcs.{fcsOf, fcsOctets}
 use Rattle.fcs.proofs.Laws.{fcs-is}
 use Rattle.frame.specs.Frame.{covered, lastFour, wrongFcs}
 
--- four octets as one number, the first lowest
-abbrev lowFirst : ℕ → ℕ → ℕ → ℕ → ℕ
-lowFirst a b c d = a + b * 0x100 + c * 0x1_0000 + d * 0x100_0000
+-- the number that stands in the octets of a check is the check
+pub fcs-number : (n : ℕ) → n < 0x1_0000_0000 → lowFirst (fcsOctets n) 0 4 ≡ n
+unfolding lowFirst
+fcs-number n h =
+    let x = n / 0x100 in
+    let y = n / 0x1_0000 in
+    let z = n / 0x100_0000 in
+    let xy : x / 256 ≡ y = div-div-eq-div-mul n 0x100 256 in
+    let yz : y / 256 ≡ z = div-div-eq-div-mul n 0x1_0000 256 in
+    let ex : y * 256 + x % 256 ≡ x = rw xy at (div-add-mod' x 256) in
+    let ey : z * 256 + y % 256 ≡ y = rw yz at (div-add-mod' y 256) in
+    omega (arith, div-add-mod' n 256)
 
-four : (l : List ℕ) → length l ≡ 4 → l ≡ getD l 0 0 ∷ getD l 1 0 ∷ getD l 2 0 ∷ getD l 3 0 ∷ []
-four [] h = absurd (omega arith)
-four (a ∷ []) h = absurd (omega arith)
-four (a ∷ b ∷ []) h = absurd (omega arith)
-four (a ∷ b ∷ c ∷ []) h = absurd (omega arith)
-four (a ∷ b ∷ c ∷ d ∷ []) h = refl
-four (a ∷ b ∷ c ∷ d ∷ e ∷ l) h = absurd (omega arith)
+check-octets : (n : ℕ) → Octets (fcsOctets n)
+check-octets n zero = omega arith
+check-octets n (suc zero) = omega arith
+check-octets n (suc (suc zero)) = omega arith
+check-octets n (suc (suc (suc zero))) = omega arith
+check-octets n (suc (suc (suc (suc k)))) = omega arith
 
--- the octets of a number below 2 ^ 32 are its digits
-module _ (a b c d n : ℕ) (ha : a < 256) (hb : b < 256) (hc : c < 256) (hd : d < 256) (hn : n < 0x1_0000_0000) where
-  digits : lowFirst a b c d ≡ n → a ∷ b ∷ c ∷ d ∷ [] ≡ fcsOctets n
-  digits e =
-      let p : n % 256 ≡ a = omega arith in
-      let x : n / 0x100 ≡ b + (c + d * 256) * 256 = omega arith in
-      let q : n / 0x100 % 256 ≡ b = rw x (omega arith) in
-      let y : n / 0x1_0000 ≡ c + d * 256 = omega arith in
-      let r : n / 0x1_0000 % 256 ≡ c = rw y (omega arith) in
-      let z : n / 0x100_0000 ≡ d = omega arith in
-      let s : n / 0x100_0000 % 256 ≡ d = rw z (omega arith) in
-      rw (p, q, r, s)
+-- four octets are those of a check exactly when they stand for it
+same-number : (l : List ℕ) (n : ℕ) → length l ≡ 4 → Octets l → n < 0x1_0000_0000 → sameOctets l (fcsOctets n) ≡ eqb (lowFirst l 0 4) n
+same-number l n e o h =
+    let w = lowFirst l 0 4 in
+    same-test (sameOctets l (fcsOctets n)) (eqb w n)
+    (λ s. eq-eqb w n (ap (λ (x : List ℕ). lowFirst x 0 4) (sameOctets-eq l (fcsOctets n) s) ∙ fcs-number n h))
+    (λ s. rw (low-only 4 l (fcsOctets n) o (check-octets n) e refl (eqb-true w n s ∙ sym (fcs-number n h))) (sameOctets-refl (fcsOctets n)))
 
-  number : a ∷ b ∷ c ∷ d ∷ [] ≡ fcsOctets n → lowFirst a b c d ≡ n
-  number e =
-      let p : a ≡ n % 256 = ap (λ (l : List ℕ). getD l 0 0) e in
-      let q : b ≡ n / 0x100 % 256 = ap (λ (l : List ℕ). getD l 1 0) e in
-      let r : c ≡ n / 0x1_0000 % 256 = ap (λ (l : List ℕ). getD l 2 0) e in
-      let s : d ≡ n / 0x100_0000 % 256 = ap (λ (l : List ℕ). getD l 3 0) e in
-      let x = n / 0x100 in
-      let y = n / 0x1_0000 in
-      let z = n / 0x100_0000 in
-      let xy : x / 256 ≡ y = div-div-eq-div-mul n 0x100 256 in
-      let yz : y / 256 ≡ z = div-div-eq-div-mul n 0x1_0000 256 in
-      let en : x * 256 + n % 256 ≡ n = div-add-mod' n 256 in
-      let ex : y * 256 + x % 256 ≡ x = rw xy at (div-add-mod' x 256) in
-      let ey : z * 256 + y % 256 ≡ y = rw yz at (div-add-mod' y 256) in
-      let ez : z % 256 ≡ z = omega arith in
-      omega (arith, en, ex, ey, ez, p, q, r, s)
-
-  same-number : sameOctets (a ∷ b ∷ c ∷ d ∷ []) (fcsOctets n) ≡ eqb (lowFirst a b c d) n
-  same-number =
-      same-test (sameOctets (a ∷ b ∷ c ∷ d ∷ []) (fcsOctets n)) (eqb (lowFirst a b c d) n)
-      (λ h. eq-eqb (lowFirst a b c d) n (number (sameOctets-eq _ _ h)))
-      (λ h. rw (digits (eqb-true (lowFirst a b c d) n h)) (sameOctets-refl (fcsOctets n)))
-
--- what the code compares
-pub last-number : (f : List ℕ) (a b c d n : ℕ) → 4 ≤ length f
-    → a ≡ getD f (length f - 4) 0 → b ≡ getD f (length f - 3) 0 → c ≡ getD f (length f - 2) 0 → d ≡ getD f (length f - 1) 0
-    → a < 256 → b < 256 → c < 256 → d < 256 → n < 0x1_0000_0000
-    → sameOctets (lastFour f) (fcsOctets n) ≡ eqb (lowFirst a b c d) n
+-- the last four octets, likewise
+pub last-number : (f : List ℕ) (n : ℕ) → 4 ≤ length f → Octets f → n < 0x1_0000_0000
+    → sameOctets (lastFour f) (fcsOctets n) ≡ eqb (lowFirst f (length f - 4) 4) n
 unfolding lastFour
-last-number f a b c d n h ea eb ec ed ha hb hc hd hn =
+last-number f n h o hn =
     let m = length f - 4 in
-    let at : (i k : ℕ) → m + i ≡ k → getD (drop m f) i 0 ≡ getD f k 0 = λ i k e. getD-drop m f i 0 ∙ ap (λ (j : ℕ). getD f j 0) e in
-    rw (
-      four (drop m f) (length-drop m f ∙ omega arith),
-      at 0 (length f - 4) (omega arith),
-      at 1 (length f - 3) (omega arith),
-      at 2 (length f - 2) (omega arith),
-      at 3 (length f - 1) (omega arith),
-      ← ea,
-      ← eb,
-      ← ec,
-      ← ed,
-    )
-    (same-number a b c d n ha hb hc hd hn)
+    same-number (drop m f) n (length-drop m f ∙ omega arith) (λ k. rw (getD-drop m f k 0) (o (m + k))) hn
+    ∙ ap (λ (w : ℕ). eqb w n) (low-drop f m 0 4 ∙ ap (λ (k : ℕ). lowFirst f k 4) (add-zero m))
+
+-- their number as the code makes it
+pub last-sum : (f : List ℕ) (a b c d : ℕ) → 4 ≤ length f
+    → a ≡ getD f (length f - 4) 0 → b ≡ getD f (length f - 3) 0 → c ≡ getD f (length f - 2) 0 → d ≡ getD f (length f - 1) 0
+    → a + b * 0x100 + c * 0x1_0000 + d * 0x100_0000 ≡ lowFirst f (length f - 4) 4
+unfolding lowFirst
+last-sum f a b c d h ea eb ec ed =
+    let m = length f - 4 in
+    let at : (i j : ℕ) → i ≡ j → getD f i 0 ≡ getD f j 0 = λ i j e. ap (λ (k : ℕ). getD f k 0) e in
+    let p = at (m + 1) (length f - 3) (omega arith) in
+    let q = at (m + 1 + 1) (length f - 2) (omega arith) in
+    let r = at (m + 1 + 1 + 1) (length f - 1) (omega arith) in
+    omega arith
 
 pub last-short : (f : List ℕ) (n : ℕ) → length f < 4 → sameOctets (lastFour f) (fcsOctets n) ≡ false
 unfolding lastFour

@@ -15,7 +15,7 @@ use Rattle.fcs.specs.Fcs.{fcs}
 use Rattle.fcs.proofs.Laws.{fcs-four}
 use Rattle.fields.specs.Tags.{tagCount}
 use Rattle.fields.specs.Fields.{fieldPlace, field, dataPlace}
-use Rattle.frame.specs.Frame.{frameData, covered, lastFour, wrongFcs}
+use Rattle.frame.specs.Frame.{dataFrom, frameData, covered, lastFour, wrongFcs}
 use Rattle.frame.specs.Length.{shortest, kept}
 
 -- ---- the FCS
@@ -39,7 +39,7 @@ module _ (h : List ℕ) (n : ℕ) (p q : List ℕ) (t : ℕ) (ht : tagCount (h +
   frame-field = highFirst-read h n (p ++ q) (12 + 4 * tagCount (h ++ (highFirst n ++ (p ++ q)))) (hl ∙ ap (λ (k : ℕ). 12 + 4 * k) (sym ht)) lt
 
   pub frame-payload : frameData (h ++ (highFirst n ++ (p ++ q))) ≡ p
-  unfolding frameData dataPlace fieldPlace
+  unfolding frameData dataFrom dataPlace fieldPlace
   frame-payload =
       let two : length (h ++ highFirst n) ≡ 14 + 4 * t = (unfold highFirst in simp length-append (omega arith)) in
       let k = frame-length in

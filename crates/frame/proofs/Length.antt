@@ -1,5 +1,5 @@
 -- Laws of specs/Length.antt: how much data there is, the length rule by the tests that lead to a row, and how much is handed out. Assumes nothing.
-use Prim.Native.Nat.{ℕ, _-_, _≤_, _<_, min}
+use Prim.Native.Nat.{ℕ, _-_, _≤_, _<_}
 use native.Mathlib.Omega.{arith}
 use mathlib.Core.Path.{_≡_, refl, _∙_}
 use mathlib.Core.Bool.{Bool, true, false, not, _&&_, _||_, cond}
@@ -10,20 +10,20 @@ use borrow.Author.Tests.{lt-ltb, le-ltb, le-leb, lt-leb}
 use Rattle.line.specs.Octets.{between}
 use Rattle.line.proofs.Tables.{first-here, first-next, first-other}
 use Rattle.fields.specs.Tags.{tagCount}
-use Rattle.fields.specs.Fields.{field, dataPlace}
-use Rattle.frame.specs.Frame.{frameData}
-use Rattle.frame.specs.Length.{shortest, kept, wrongLength, clientData, handedLength}
+use Rattle.fields.specs.Fields.{field}
+use Rattle.frame.specs.Frame.{dataFrom, frameData}
+use Rattle.frame.specs.Length.{shortest, kept, wrongLength, handedOf}
 
 -- ---- how much data there is
 
-pub frameData-length : (f : List ℕ) → length (frameData f) ≡ length f - 4 - dataPlace f
-unfolding frameData between
-frameData-length f = simp (length-take, length-drop) (omega arith)
+pub data-length : (place : ℕ) (f : List ℕ) → length (dataFrom place f) ≡ length f - 4 - place
+unfolding dataFrom between
+data-length place f = simp (length-take, length-drop) (omega arith)
 
 -- no data where the FCS would begin before the data's place
-pub frameData-none : (f : List ℕ) → length f - 4 < dataPlace f → frameData f ≡ []
-unfolding frameData between
-frameData-none f h = let z : length f - 4 - dataPlace f ≡ 0 = omega arith in rw z
+pub data-none : (place : ℕ) (f : List ℕ) → length f - 4 < place → dataFrom place f ≡ []
+unfolding dataFrom between
+data-none place f h = let z : length f - 4 - place ≡ 0 = omega arith in rw z
 
 -- ---- the rule, row by row; its first row is `kept-type` of FrameLaws
 module _ (tags field octets : ℕ) where
@@ -47,7 +47,7 @@ front-le : (b : Bool) (n : ℕ) (l : List ℕ) → length (cond b (take n l) l) 
 front-le true n l = omega (arith, length-take n l)
 front-le false n l = omega arith
 
--- ---- rule 6, and what is handed out
+-- ---- rule 6
 module _ (f : List ℕ) where
   pub length-unchecked : wrongLength false f ≡ false
   unfolding wrongLength
@@ -57,20 +57,22 @@ module _ (f : List ℕ) where
   unfolding wrongLength
   length-checked = refl
 
-  pub handed-unchecked : handedLength false f ≡ length (frameData f)
-  unfolding handedLength clientData
+-- ---- what is handed out, of a field and the data behind it
+module _ (n : ℕ) (d : List ℕ) where
+  pub handed-unchecked : handedOf false n d ≡ d
+  unfolding handedOf
   handed-unchecked = refl
 
-  pub handed-whole : (checking : Bool) → 46 ≤ field f → handedLength checking f ≡ length (frameData f)
-  unfolding handedLength clientData
-  handed-whole true h = rw (le-ltb (field f) 46 h)
+  pub handed-whole : (checking : Bool) → 46 ≤ n → handedOf checking n d ≡ d
+  unfolding handedOf
+  handed-whole true h = rw (le-ltb n 46 h)
   handed-whole false h = refl
 
-  pub handed-named : field f < 46 → handedLength true f ≡ min (field f) (length (frameData f))
-  unfolding handedLength clientData
-  handed-named h = rw (lt-ltb (field f) 46 h) (length-take (field f) (frameData f))
+  pub handed-named : n < 46 → handedOf true n d ≡ take n d
+  unfolding handedOf
+  handed-named h = rw (lt-ltb n 46 h)
 
   -- never more than the data
-  pub handed-le : (checking : Bool) → handedLength checking f ≤ length (frameData f)
-  unfolding handedLength clientData
-  handed-le checking = front-le (checking && ltb (field f) 46) (field f) (frameData f)
+  pub handed-le : (checking : Bool) → length (handedOf checking n d) ≤ length d
+  unfolding handedOf
+  handed-le checking = front-le (checking && ltb n 46) n d

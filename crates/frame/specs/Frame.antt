@@ -13,13 +13,16 @@ use Rattle.fields.specs.Fields.{dataPlace}
 unfoldable pub undersized : List ℕ → Bool
 undersized f = ltb (length f) 64
 
--- rule 4: "over the limit M, or M + 4 if tagged": by tag, and not by size
+-- rule 4: "over the limit M, or M + 4 if tagged", and by item 1 of document 02 "M grows by 4 for each tag": by tag, and not by size
 unfoldable pub oversized : ℕ → List ℕ → Bool
 oversized m f = ltb (m + 4 * tagCount f) (length f)
 
--- "Data runs from after the field to before the FCS."
+-- "Data runs from after the field to before the FCS": of a frame whose data begins at a place, and of a frame
+unfoldable pub dataFrom : ℕ → List ℕ → List ℕ
+dataFrom place f = between f place (length f - 4)
+
 unfoldable pub frameData : List ℕ → List ℕ
-frameData f = between f (dataPlace f) (length f - 4)
+frameData f = dataFrom (dataPlace f) f
 
 -- FCS: "It covers destination to the end of data."
 unfoldable pub covered : List ℕ → List ℕ

@@ -26,9 +26,12 @@ kept tags field octets =
 unfoldable pub wrongLength : Bool → List ℕ → Bool
 wrongLength checking f = checking && not (kept (tagCount f) (field f) (length (frameData f)))
 
--- "only the first `field` octets are handed out"; "With checking off, … all data is handed out"
+-- "only the first `field` octets are handed out"; "With checking off, … all data is handed out": of a field and the data behind it, and of a frame
+unfoldable pub handedOf : Bool → ℕ → List ℕ → List ℕ
+handedOf checking field octets = cond (checking && ltb field 46) (take field octets) octets
+
 unfoldable pub clientData : Bool → List ℕ → List ℕ
-clientData checking f = cond (checking && ltb (field f) 46) (take (field f) (frameData f)) (frameData f)
+clientData checking f = handedOf checking (field f) (frameData f)
 
 unfoldable pub handedLength : Bool → List ℕ → ℕ
 handedLength checking f = length (clientData checking f)

@@ -5,13 +5,15 @@ use native.Mathlib.Nat.{pow-suc, pow-succ', mul-assoc, div-one, div-div-eq-div-m
 use lib.Arith.{mod-mul}
 use lib.Pow.{pow-pos}
 use mathlib.Core.Path.{_≡_, refl, sym, ap, ap₂, _∙_, subst}
-use mathlib.Core.List.{List}
-use lib.ListN.{getD}
+use mathlib.Core.List.{List, [], _∷_}
+use lib.ListN.{length, getD, drop}
+use lib.Seq.{getD-drop}
 use lib.Dec.{eqb}
 use lib.Bits.{bitXor, xor-block, xor-self, xor-add-and, and-le-l, and-le-r, xor-lt}
 use lib.Count.{trailingZeros, under}
 use borrow.Author.Tests.{eqb-true, eqb-false}
-use Rattle.line.specs.Passed.{Has, lowFirst}
+use Rattle.line.specs.Octets.{lowFirst}
+use Rattle.line.specs.Passed.{Has}
 use Rattle.line.proofs.Symbols.{by-test}
 
 -- of octets below 256
@@ -36,6 +38,29 @@ low-add l (suc a) at b =
     = low-add l a (at + 1) b ∙ ap (λ (k : ℕ). y + lowFirst l k b * 256 ^ a) (let e : at + 1 + a ≡ at + suc a = omega arith in e) in
     let m : z * 256 ^ suc a ≡ z * 256 ^ a * 256 = ap (λ (p : ℕ). z * p) (pow-suc 256 a) ∙ sym (mul-assoc z (256 ^ a) 256) in
     ap (lowFirst l at) (let e : suc a + b ≡ suc (a + b) = omega arith in e) ∙ omega arith
+
+-- a word of the octets from a place on
+pub low-drop : (l : List ℕ) (at k n : ℕ) → lowFirst (drop at l) k n ≡ lowFirst l (at + k) n
+unfolding lowFirst
+low-drop l at k zero = refl
+low-drop l at k (suc n) =
+    ap₂ (λ (w x : ℕ). w * 256 + x)
+    (low-drop l at (k + 1) n ∙ ap (λ (j : ℕ). lowFirst l j n) (let e : at + (k + 1) ≡ at + k + 1 = omega arith in e)) (getD-drop at l k 0)
+
+-- only one string of n octets stands for a number
+pub low-only : (n : ℕ) (x y : List ℕ) → Octets x → Octets y → length x ≡ n → length y ≡ n → lowFirst x 0 n ≡ lowFirst y 0 n → x ≡ y
+unfolding lowFirst
+low-only zero [] [] ox oy ex ey h = refl
+low-only zero [] (b ∷ y) ox oy ex ey h = absurd (omega arith)
+low-only zero (a ∷ x) y ox oy ex ey h = absurd (omega arith)
+low-only (suc n) [] y ox oy ex ey h = absurd (omega arith)
+low-only (suc n) (a ∷ x) [] ox oy ex ey h = absurd (omega arith)
+low-only (suc n) (a ∷ x) (b ∷ y) ox oy ex ey h =
+    let p : lowFirst x 0 n ≡ lowFirst (a ∷ x) 1 n = low-drop (a ∷ x) 1 0 n in
+    let q : lowFirst y 0 n ≡ lowFirst (b ∷ y) 1 n = low-drop (b ∷ y) 1 0 n in
+    let la : a < 256 = ox 0 in
+    let lb : b < 256 = oy 0 in
+    ap₂ _∷_ (omega arith) (low-only n x y (λ k. ox (suc k)) (λ k. oy (suc k)) (omega arith) (omega arith) (omega arith))
 
 -- the number of n octets v
 unfoldable pub repeated : ℕ → ℕ → ℕ

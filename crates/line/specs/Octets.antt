@@ -1,5 +1,5 @@
--- Octet strings, as every section of document 01 uses them: equality, numbers of two octets, a part.
-use Prim.Native.Nat.{ℕ, _+_, _-_, _*_, _/_, _%_}
+-- Octet strings, as every section of document 01 uses them: equality, numbers of several octets, a part.
+use Prim.Native.Nat.{ℕ, zero, suc, _+_, _-_, _*_, _/_, _%_}
 use mathlib.Core.Bool.{Bool, true, false, _&&_}
 use mathlib.Core.List.{List, [], _∷_, _++_}
 use lib.ListN.{length, getD, take, drop}
@@ -19,6 +19,11 @@ highFirstAt l at = getD l at 0 * 256 + getD l (at + 1) 0
 -- a number as two octets, high octet first
 unfoldable pub highFirst : ℕ → List ℕ
 highFirst n = n / 256 % 256 ∷ n % 256 ∷ []
+
+-- "low octet first": the number that stands in n octets from place `at` on
+unfoldable pub lowFirst : List ℕ → ℕ → ℕ → ℕ
+lowFirst l at zero = 0
+lowFirst l at (suc n) = lowFirst l (at + 1) n * 256 + getD l at 0
 
 -- the octets from place `from` up to place `to`
 unfoldable pub between : List ℕ → ℕ → ℕ → List ℕ

@@ -1,5 +1,5 @@
--- Internal: what the fast forms of a search promise one another: which places a search has passed, and a word of octets.
-use Prim.Native.Nat.{ℕ, zero, suc, _+_, _*_, _≤_, _<_}
+-- Internal: what the fast forms of a search promise one another: which places a search has passed.
+use Prim.Native.Nat.{ℕ, _≤_, _<_}
 use mathlib.Core.Path.{_≡_}
 use mathlib.Core.Bool.{Bool, true, false}
 use mathlib.Core.List.{List}
@@ -33,8 +33,3 @@ NoStart os ms k = startAt os ms k ≡ false
 
 abbrev pub Start : List ℕ → List ℕ → ℕ → Type 0
 Start os ms k = startAt os ms k ≡ true
-
--- the number that stands in n octets from a place on, low octet first
-unfoldable pub lowFirst : List ℕ → ℕ → ℕ → ℕ
-lowFirst l at zero = 0
-lowFirst l at (suc n) = lowFirst l (at + 1) n * 256 + getD l at 0

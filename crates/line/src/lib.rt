@@ -4,7 +4,8 @@ ghost use mathlib.Core.Bool.{Bool, true, false};
 ghost use Prim.Native.Nat.{ℕ, _+_, _≤_, _<_};
 ghost use lib.ListN.{length, getD};
 ghost use Rattle.line.specs.Line.{capture, findStart, findControl};
-ghost use Rattle.line.specs.Passed.{Passed, Stopped, Has, Lacks, startAt, NoStart, Start, lowFirst};
+ghost use Rattle.line.specs.Octets.{lowFirst};
+ghost use Rattle.line.specs.Passed.{Passed, Stopped, Has, Lacks, startAt, NoStart, Start};
 
 // The search's answer: a place, or that there is none.
 pub enum Found {

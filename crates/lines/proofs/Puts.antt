@@ -5,9 +5,10 @@ use mathlib.Core.List.{List, [], _∷_, _++_}
 use native.Mathlib.Numerals.{add-one}
 use native.Mathlib.Omega.{arith}
 use lib.ListN.{length, take, drop, set, length-append}
-use lib.Seq.{sets, sets-eq, length-sets, length-take-le, take-append-seam}
+use lib.Seq.{sets, sets-eq, take-append-seam}
+use Rattle.line.specs.Line.{overwrite}
 use Rattle.splice.specs.Written.{Put}
-use Rattle.splice.proofs.Laws.{sets-sets}
+use Rattle.splice.proofs.Laws.{sets-sets, put-overwrite}
 
 -- what was written, said by an equal list
 pub put-as : {l m a b : List ℕ} {i j : ℕ} → a ≡ b → Put l i a j m → Put l i b j m
@@ -68,8 +69,11 @@ put-front {old} {new} {held} {next} p h =
     let e : next ≡ length new = omega (arith, p .goes) in
     ap₂ take e (p .holds ∙ sets-eq new old 0 (omega (arith, p .goes))) ∙ take-append-seam new (drop (0 + length new) old)
 
--- how many octets were written counts those at the front
-pub put-counts : {old new held : List ℕ} {next : ℕ} → Put old 0 new next held → next ≤ length old → (next ≤ length held) × (next ≡ length (take next held))
-put-counts {old} {new} {held} {next} p h =
-    let e : length held ≡ length old = ap length (p .holds) ∙ length-sets old 0 new in
-    (omega arith, sym (length-take-le next held (omega arith)))
+-- the reader's form, of what was written from the start on
+pub put-whole : {old new held : List ℕ} {next : ℕ} → Put old 0 new next held → next ≤ length old → (next ≡ length new) × (held ≡ overwrite old 0 new)
+put-whole {old} {new} {held} {next} p h = (omega (arith, p .goes), put-overwrite p (omega (arith, p .goes)))
+
+-- so it lies inside: a caller that takes as many octets from the front has them
+pub front-inside : (old new held : List ℕ) (n : ℕ) → n ≡ length new → held ≡ overwrite old 0 new → n ≤ length held
+unfolding overwrite
+front-inside old new held n e h = rw (h, length-append) (omega arith)

@@ -9,7 +9,8 @@ ghost use mathlib.Core.Path.{_≡_};
 ghost use mathlib.Core.Bool.{false};
 ghost use mathlib.Core.List.{[], _∷_};
 ghost use Prim.Native.Nat.{_+_, _*_, _/_, _≤_};
-ghost use lib.ListN.{length, take};
+ghost use lib.ListN.{length};
+ghost use Rattle.line.specs.Line.{overwrite};
 ghost use Rattle.station.specs.Numbers.{outcomeNumber};
 ghost use Rattle.lines.specs.Decimal.{decimal};
 ghost use Rattle.lines.specs.Lines.{programSettings, followed, fourNumbers, lastLine, captureLines, badInput, printed, recordOctets, recordMarks};
@@ -177,11 +178,11 @@ fn print_good(input: &[u8], out: &mut [u8]) -> usize
     put_lines(&o[..n], &m[..n], out)
 }
 
-// All that the program prints of its input, from the start of `out` on; how many octets that is. 84 octets for each of 32,768 lines and more for
+// All that the program prints of its input, over the front of `out`; how many octets that is. 84 octets for each of 32,768 lines and more for
 // the last are enough.
 pub fn print_lines(input: &[u8], out: &mut [u8; 2752680]) -> usize
-    ensures { λ r. ⌜ Put (now (out .entry)) 0 (printed (now (input .entry))) r (now (out .exit)) ⌝ }
-    ensures { λ r. ⌜ (r ≤ length (now (out .exit))) × (r ≡ length (take r (now (out .exit)))) ⌝ }
+    ensures { λ r. ⌜ r ≡ length (printed (now (input .entry))) ⌝ }
+    ensures { λ r. ⌜ now (out .exit) ≡ overwrite (now (out .entry)) 0 (printed (now (input .entry))) ⌝ }
 {
     if bad_input(input) {
         return put(out, 0, b"bad input\n");

@@ -20,7 +20,7 @@ use Rattle.station.specs.declared.Outcome.the-variants.{Cut, BadPreamble, Under
 use Rattle.fields.specs.Tags.{isTagKind, tagCount}
 use Rattle.fields.specs.Fields.{destination, firstField, field}
 use Rattle.frame.specs.Frame.{frameData, wrongFcs, undersized, oversized}
-use Rattle.frame.specs.Length.{kept, wrongLength, clientData}
+use Rattle.frame.specs.Length.{kept, wrongLength, handedOf, clientData}
 use Rattle.address.specs.Address.{accepts}
 use Rattle.fcs.proofs.Laws.{fcs-four}
 use Rattle.frame.proofs.FrameLaws.{fcs-right, frame-length, frame-field, frame-payload, kept-type, kept-long, kept-short}
@@ -234,7 +234,7 @@ module _ (tx rx : Settings) (fr : Frame) (w : Carried tx rx fr) where
       (w .welcome .heard)
 
   pub read-back : clientData true (body ++ fcs body) ≡ delivered (fr .client .form) (fr .octets)
-  unfolding clientData
+  unfolding clientData handedOf
   read-back =
       let x = facts in
       ap₂ (λ (a : ℕ) (l : List ℕ). cond (ltb a 46) (take a l) l) (x .field-is) (x .data-is)

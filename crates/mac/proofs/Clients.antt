@@ -36,11 +36,11 @@ clients s [] = []
 clients s (m ∷ ms) = clientOf s (m .follows) ++ clients s ms
 
 -- each Start stands in the capture with what follows it there
-unfoldable Placed : List Symbol → List MetStart → Type 0
+unfoldable pub Placed : List Symbol → List MetStart → Type 0
 Placed c [] = Unit {0}
 Placed c (m ∷ l) = (m .follows ≡ afterStart (drop (m .place + 1) c)) × Placed c l
 
-placed : (c : List Symbol) (at : ℕ) (l : List Symbol) → drop at c ≡ l → Placed c (metStarts at l)
+pub placed : (c : List Symbol) (at : ℕ) (l : List Symbol) → drop at c ≡ l → Placed c (metStarts at l)
 unfolding Placed metStarts
 placed c at [] e = tt
 placed c at (x ∷ xs) e =
@@ -50,7 +50,7 @@ placed c at (x ∷ xs) e =
     (λ h. subst (Placed c) (sym (met-other at x xs h)) (placed c (at + 1) xs d))
 
 -- a run that follows a Start in the capture is the run there
-same-run : (r : List ℕ) (by : ℕ) (l : List Symbol) (e : Option Symbol) → ending l ≡ e → ended r by ≡ endedBy (run l) e → r ≡ run l
+pub same-run : (r : List ℕ) (by : ℕ) (l : List Symbol) (e : Option Symbol) → ending l ≡ e → ended r by ≡ endedBy (run l) e → r ≡ run l
 unfolding endedBy
 same-run r by l none h q = let bad : _≡_ {A = ℕ} 0 1 = cc in absurd (omega arith)
 same-run r by l (some y) h q = cc

@@ -1,7 +1,7 @@
--- Claim 5, demand 3, for the calls as they are made: any symbols, then any number of client frames back to back; the readings from place 0, each
--- at the next place of the one before, hand out what the damaged part hands out by itself, and then the frames' data in order, each once.
--- The statements are `demand3` and, with anything after the frames, `demand3-within`. Assumes nothing.
-use Prim.Native.Nat.{ℕ, _+_, _≤_}
+-- Claim 5, demand 3, for the calls as they are made: any symbols, then any number of client frames back to back, with any number of Idles behind
+-- the Terminate of each; the readings from place 0, each at the next place of the one before, hand out what the damaged part hands out by itself, and
+-- then the frames' data in order, each once. The statements are `demand3` and, with anything after the frames, `demand3-within`. Assumes nothing.
+use Prim.Native.Nat.{ℕ, zero, suc, _+_, _≤_}
 use native.Mathlib.Omega.{arith}
 use mathlib.Core.Path.{_≡_, refl, sym, ap, ap₂, _∙_, subst}
 use mathlib.Core.Bool.{Bool, true, false}
@@ -22,43 +22,50 @@ use Rattle.receive.specs.Walk.{walk, handedOut}
 use Rattle.receive.proofs.Refusals.{passed, fine as refuses-none}
 use Rattle.writing.specs.Frames.{gap, onLine, clientBody, clientSymbols}
 use Rattle.mac.specs.Demand2.{Readable}
-use Rattle.mac.specs.Demand3.{Frame, Carried, AllCarried, rowSymbols, delivered, allDelivered}
+use Rattle.mac.specs.Demand3.{Frame, Carried, AllCarried, rowSymbols, delivered, allDelivered, alone}
 use Rattle.mac.proofs.Accepted.{accepted, read-back}
 use Rattle.mac.proofs.Clients.{clientOf, clients, walk-hands}
 use Rattle.mac.proofs.Seam.{seam, anywhere}
 
 -- after a gap the walk is where it was
-gap-skipped : (at : ℕ) (rest : List Symbol) → metStarts at (gap ++ rest) ≡ metStarts (at + 1 + 1 + 1 + 1 + 1 + 1 + 1 + 1 + 1 + 1 + 1 + 1) rest
-unfolding gap metStarts isStart isControl isData asControl
-gap-skipped at rest = refl
+idle-skipped : (n at : ℕ) (rest : List Symbol) → metStarts at (replicate n (asControl idle) ++ rest) ≡ metStarts (at + n) rest
+unfolding metStarts isStart isControl isData asControl
+idle-skipped zero at rest = ap (λ (k : ℕ). metStarts k rest) (let e : at ≡ at + 0 = omega arith in e)
+idle-skipped (suc n) at rest = idle-skipped n (at + 1) rest ∙ ap (λ (k : ℕ). metStarts k rest) (let e : at + 1 + n ≡ at + suc n = omega arith in e)
 
-look-gap : (os : List ℕ) (rest : List Symbol) → afterStart (map asData os ++ (gap ++ rest)) ≡ ended os terminate
+gap-skipped : (idles at : ℕ) (rest : List Symbol) → metStarts at (gap idles ++ rest) ≡ metStarts (at + 1 + idles) rest
+unfolding gap metStarts isStart isControl isData asControl
+gap-skipped idles at rest = idle-skipped idles (at + 1) rest
+
+look-gap : (idles : ℕ) (os : List ℕ) (rest : List Symbol) → afterStart (map asData os ++ (gap idles ++ rest)) ≡ ended os terminate
 unfolding gap
-look-gap os rest = look-frame os terminate (replicate 11 (asControl idle) ++ rest)
+look-gap idles os rest = look-frame os terminate (replicate idles (asControl idle) ++ rest)
 
 -- a frame on the line is met as one run, and nothing else of it is
 module _ (rx : Settings) where
-  one-line : (at : ℕ) (body : List ℕ) (rest : List Symbol)
-      → clients rx (metStarts at (onLine body ++ rest)) ≡ clientOf rx (ended (preamble ++ (body ++ fcs body)) terminate) ++ clients rx (metStarts at rest)
+  one-line : (at idles : ℕ) (body : List ℕ) (rest : List Symbol)
+      → clients rx (metStarts at (onLine idles body ++ rest)) ≡ clientOf rx (ended (preamble ++ (body ++ fcs body)) terminate) ++ clients rx (metStarts at rest)
   unfolding onLine clients
-  one-line at body rest =
+  one-line at idles body rest =
       let os : List ℕ = preamble ++ (body ++ fcs body) in
-      let e : onLine body ++ rest ≡ asControl start ∷ (map asData os ++ (gap ++ rest)) = ap (λ (l : List Symbol). asControl start ∷ l) (append-assoc (map asData os) gap rest) in
+      let e : onLine idles body ++ rest ≡ asControl start ∷ (map asData os ++ (gap idles ++ rest)) =
+      ap (λ (l : List Symbol). asControl start ∷ l) (append-assoc (map asData os) (gap idles) rest) in
       ap (λ (l : List Symbol). clients rx (metStarts at l)) e
-      ∙ ap (clients rx) (met-start at (asControl start) (map asData os ++ (gap ++ rest)) (unfold isStart isControl isData asControl in refl))
+      ∙ ap (clients rx) (met-start at (asControl start) (map asData os ++ (gap idles ++ rest)) (unfold isStart isControl isData asControl in refl))
       ∙ ap₂ (λ (l : AfterStart) (ms : List MetStart). clientOf rx l ++ clients rx ms)
-      (look-gap os rest)
-      (met-data (at + 1) os (gap ++ rest) ∙ gap-skipped (at + 1 + length os) rest)
+      (look-gap idles os rest)
+      (met-data (at + 1) os (gap idles ++ rest) ∙ gap-skipped idles (at + 1 + length os) rest)
       ∙ ap (λ (t : List (List ℕ)). clientOf rx (ended os terminate) ++ t) (anywhere rx _ at rest)
 
   module _ (tx : Settings) (checks : rx .checking ≡ true) where
     -- one client frame: its data
     one-frame : (at : ℕ) (f : Frame) → Carried tx rx f → (rest : List Symbol)
-        → clients rx (metStarts at (clientSymbols tx (f .client) (f .octets) ++ rest)) ≡ delivered (f .client .form) (f .octets) ∷ clients rx (metStarts at rest)
+        → clients rx (metStarts at (clientSymbols (f .idles) tx (f .client) (f .octets) ++ rest))
+        ≡ delivered (f .client .form) (f .octets) ∷ clients rx (metStarts at rest)
     unfolding clientSymbols clientOf frameOf preamble
     one-frame at f w rest =
         let body : List ℕ = clientBody tx (f .client) (f .octets) in
-        one-line at body rest
+        one-line at (f .idles) body rest
         ∙ ap₂ (λ (o : Outcome) (ck : Bool). byOutcome o [] [] [] [] (clientData ck (body ++ fcs body) ∷ []) ++ clients rx (metStarts at rest)) (accepted tx rx f w) checks
         ∙ ap (λ (d : List ℕ). d ∷ clients rx (metStarts at rest)) (read-back tx rx f w)
 
@@ -68,7 +75,7 @@ module _ (rx : Settings) where
     unfolding AllCarried rowSymbols allDelivered
     frames-then at [] rest w = refl
     frames-then at (f ∷ fs) rest w =
-        ap (λ (l : List Symbol). clients rx (metStarts at l)) (append-assoc (clientSymbols tx (f .client) (f .octets)) (rowSymbols tx fs) rest)
+        ap (λ (l : List Symbol). clients rx (metStarts at l)) (append-assoc (clientSymbols (f .idles) tx (f .client) (f .octets)) (rowSymbols tx fs) rest)
         ∙ one-frame at f (w .0) (rowSymbols tx fs ++ rest)
         ∙ ap (λ (l : List (List ℕ)). delivered (f .client .form) (f .octets) ∷ l) (frames-then at fs rest (w .1))
 
@@ -102,10 +109,6 @@ module _ (rx : Settings) where
         ∙ ap (λ (l : List (List ℕ)). allDelivered (f ∷ fs) ++ l) (anywhere rx (0 + length damage) 0 rest))
 
 -- ---- a stretch of a capture is a capture
-
--- what a walk over a stretch of line by itself hands out
-abbrev pub alone : Settings → State → List Symbol → List (List ℕ)
-alone rx st l = handedOut (octetsOf l) (walk rx st (octetsOf l) (marksOf l))
 
 module _ (rx : Settings) (os ms : List ℕ) (fine : Readable rx os ms) where
   stretch : (l : List Symbol) → length l ≤ length (capture os ms) → Readable rx (octetsOf l) (marksOf l)

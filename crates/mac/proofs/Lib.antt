@@ -2,6 +2,9 @@ pub mod Accepted
 pub mod Clients
 pub mod Demand1
 pub mod Demand3
+pub mod Each
+pub mod Leaves
+pub mod LikeError
 pub mod Limits
 pub mod Quiet
 pub mod Row

@@ -1,16 +1,16 @@
--- Demand 2: sending "starts no client frame while its class timer runs". The statements are `held-quiet` and, after a reading that sets the class,
--- `quiet`. Assumes nothing.
-use Prim.Native.Nat.{ℕ, zero, suc, _+_, _-_, _*_, _≤_, _<_}
+-- Demand 2: sending "starts no client frame while its class timer runs". The statements are `held-quiet` and, after a reading or a walk that sets the
+-- class, `quiet`. Assumes nothing.
+use Prim.Native.Nat.{ℕ, _+_, _-_, _*_, _≤_, _<_}
 use native.Mathlib.Omega.{arith}
 use mathlib.Core.Path.{_≡_, refl, sym, ap, _∙_, subst}
-use mathlib.Core.Bool.{Bool, true, false}
+use mathlib.Core.Bool.{Bool, true, false, _&&_, false≢true}
 use mathlib.Core.List.{List, [], _∷_, _++_, map}
-use mathlib.Core.Option.{Option, none, some}
+use mathlib.Core.Option.{some}
 use lib.ListN.{length, getD, List·getD-append, List·getD-map, length-map}
 use lib.Seq.{getD-append-add}
-use lib.Dec.{eqb, ltb}
+use lib.Dec.{ltb}
 use borrow.Author.Tests.{ltb-true, ltb-false, lt-ltb, eqb-true}
-use Rattle.line.specs.Line.{Symbol}
+use Rattle.line.specs.Line.{Symbol, isStart}
 use Rattle.line.specs.Table.{Table, _⇒_, _∣_, first}
 use Rattle.line.proofs.Symbols.{by-test}
 use Rattle.line.proofs.Tables.{first-here, first-next}
@@ -24,9 +24,9 @@ use Rattle.station.specs.declared.Checked.{Checked}
 use Rattle.station.specs.declared.Checked.the-variants.{Refused}
 use Rattle.flow.specs.Timers.{timer}
 use Rattle.writing.specs.declared.Client.{Client}
-use Rattle.writing.specs.Frames.{clientSymbols}
+use Rattle.writing.specs.Frames.{plainIdles, clientSymbols}
 use Rattle.send.specs.Sending.{held, written, clientRefusals, clientChecked}
-use Rattle.mac.specs.Calls.{Call, reads, sendsClient, sendsPause, sendsPfc, fillsIdle, afterCall, writes, setsClass, NoneSets, firstIs, isClientOf, clientStarts, allClientStarts}
+use Rattle.mac.specs.Calls.{Call, reads, walks, sendsClient, sendsPause, sendsPfc, fillsIdle, afterCall, writes, setsClass, NoneSets, isClientOf, clientStarts, allClientStarts}
 use Rattle.mac.proofs.Timers.{call-lowers, timer-set}
 
 -- ---- while a class is held, no client frame of it starts
@@ -45,54 +45,49 @@ held-refused s st os ms p c d h =
     (still _ BadPlace _
     (still _ BadClass _ (still _ BadType _ (still _ ManyTags _ (still _ LongData _ (still _ NoRoom _ (Held, first-here (Refused Held) _ h))))))))
 
-no-first : (l : List Symbol) (j : ℕ) → getD (firstIs false l) j false ≡ false
-unfolding firstIs
-no-first [] j = refl
-no-first (x ∷ xs) zero = refl
-no-first (x ∷ xs) (suc j) = List·getD-map (λ (y : Symbol). false) xs j x
+-- a held class: a call that sends a client frame of it writes nothing
+held-writes-none : (st : State) (k : ℕ) → 0 < timer (st .timers) k .0 → (c : Call) → isClientOf k c ≡ true → writes st c ≡ []
+unfolding isClientOf writes held
+held-writes-none st k h (reads s os ms p) e = refl
+held-writes-none st k h (walks s os ms) e = refl
+held-writes-none st k h (sendsClient s os ms p c d) e =
+    let above : 0 < timer (st .timers) (c .class) .0 = subst (λ (i : ℕ). 0 < timer (st .timers) i .0) (sym (eqb-true (c .class) k e)) h in
+    let refused = held-refused s st os ms p c d (lt-ltb 0 (timer (st .timers) (c .class) .0) above) in
+    ap (λ (r : Checked). written r (clientSymbols plainIdles s c d)) (refused .1) ∙ (unfold written in refl)
+held-writes-none st k h (sendsPause s os ms p q) e = absurd (false≢true e)
+held-writes-none st k h (sendsPfc s os ms p c) e = absurd (false≢true e)
+held-writes-none st k h (fillsIdle os ms p n) e = absurd (false≢true e)
 
-held-starts-none : (s : Settings) (st : State) (k : ℕ) → 0 < timer (st .timers) k .0 → (c : Call) (j : ℕ) → getD (clientStarts k s st c) j false ≡ false
-unfolding clientStarts isClientOf writes held
-held-starts-none s st k h (reads os ms p) j = no-first _ j
-held-starts-none s st k h (sendsClient os ms p c d) j =
-    by-test (eqb (c .class) k)
-    (λ e. let q : c .class ≡ k = eqb-true (c .class) k e in
-    let y = held-refused s st os ms p c d (lt-ltb 0 (timer (st .timers) (c .class) .0) (subst (λ (i : ℕ). 0 < timer (st .timers) i .0) (sym q) h)) in
-    ap (λ (r : Checked). getD (firstIs (eqb (c .class) k) (written r (clientSymbols s c d))) j false) (y .1) ∙ (unfold written firstIs in refl))
-    (λ e. ap (λ (b : Bool). getD (firstIs b (written (clientChecked s st os ms p c d) (clientSymbols s c d))) j false) e ∙ no-first _ j)
-held-starts-none s st k h (sendsPause os ms p q) j = no-first _ j
-held-starts-none s st k h (sendsPfc os ms p c) j = no-first _ j
-held-starts-none s st k h (fillsIdle os ms p n) j = no-first _ j
+none-starts : (b : Bool) (l : List Symbol) → (b ≡ true → l ≡ []) → (j : ℕ) → getD (map (λ (x : Symbol). b && isStart x) l) j false ≡ false
+none-starts true l h j = ap (λ (l : List Symbol). getD (map isStart l) j false) (h refl)
+none-starts false l h j = List·getD-map (λ (x : Symbol). false) l j (record { octet = 0; mark = 0 })
 
--- one entry for each symbol
-starts-length : (b : Bool) (l : List Symbol) → length (firstIs b l) ≡ length l
-unfolding firstIs
-starts-length b [] = refl
-starts-length b (x ∷ xs) = ap suc (length-map xs (λ (y : Symbol). false))
+held-starts-none : (st : State) (k : ℕ) → 0 < timer (st .timers) k .0 → (c : Call) (j : ℕ) → getD (clientStarts k st c) j false ≡ false
+unfolding clientStarts
+held-starts-none st k h c j = none-starts (isClientOf k c) (writes st c) (held-writes-none st k h c) j
 
 -- no call sets the class: none of the next symbols, as many as its timer says, is the Start of a client frame of it
-pub held-quiet : (s : Settings) (k : ℕ) (st : State) (cs : List Call) → NoneSets s k cs → (j : ℕ) → j < timer (st .timers) k .0
-    → getD (allClientStarts k s st cs) j false ≡ false
+pub held-quiet : (k : ℕ) (st : State) (cs : List Call) → NoneSets k cs → (j : ℕ) → j < timer (st .timers) k .0 → getD (allClientStarts k st cs) j false ≡ false
 unfolding allClientStarts NoneSets
-held-quiet s k st [] w j h = refl
-held-quiet s k st (c ∷ cs) w j h =
-    let here : List Bool = clientStarts k s st c in
-    let later : List Bool = allClientStarts k s (afterCall s st c) cs in
+held-quiet k st [] w j h = refl
+held-quiet k st (c ∷ cs) w j h =
+    let here : List Bool = clientStarts k st c in
+    let later : List Bool = allClientStarts k (afterCall st c) cs in
     let n : ℕ = length here in
-    let same : n ≡ length (writes s st c) = (unfold clientStarts in starts-length (isClientOf k c) (writes s st c)) in
+    -- one entry for each symbol
+    let same : n ≡ length (writes st c) = (unfold clientStarts in length-map (writes st c) (λ (x : Symbol). isClientOf k c && isStart x)) in
     by-test (ltb j n)
-    (λ e. List·getD-append here later false j (ltb-true j n e) ∙ held-starts-none s st k (omega arith) c j)
+    (λ e. List·getD-append here later false j (ltb-true j n e) ∙ held-starts-none st k (omega arith) c j)
     (λ e. let g : n ≤ j = ltb-false j n e in
     let split : j ≡ n + (j - n) = omega arith in
     ap (λ (i : ℕ). getD (here ++ later) i false) split
     ∙ getD-append-add here later (j - n) false
-    ∙ held-quiet s k (afterCall s st c) cs (w .1) (j - n) (let l = call-lowers s st k c (w .0) in omega arith))
+    ∙ held-quiet k (afterCall st c) cs (w .1) (j - n) (let l = call-lowers st k c (w .0) in omega arith))
 
--- after a reading that sets a class to q quanta, none of the next 64 × q symbols that we write is the Start of a client frame of that class, if no
--- later reading sets that class first. The settings need not even be valid.
-pub quiet : (s : Settings) (st : State) (k : ℕ) → k < length (st .timers) → (os ms : List ℕ) (p : ℕ) (q : Quanta)
-    → setsClass s k (reads os ms p) ≡ some q → (cs : List Call) → NoneSets s k cs → (j : ℕ) → j < 64 * q .0
-    → getD (allClientStarts k s (afterCall s st (reads os ms p)) cs) j false ≡ false
-quiet s st k eight os ms p q e cs w j h =
-    let t = ap (λ (x : Slots). x .0) (timer-set s st k q eight (reads os ms p) e) in
-    held-quiet s k (afterCall s st (reads os ms p)) cs w j (omega arith)
+-- after a call (a reading or a walk) that sets a class to q quanta, none of the next 64 × q symbols that we write is the Start of a client frame of
+-- that class, if no later call sets that class first. Item 14 of document 02 is an instance: there all calls have the same valid settings.
+pub quiet : (st : State) (k : ℕ) → k < length (st .timers) → (c : Call) (q : Quanta) → setsClass k c ≡ some q
+    → (cs : List Call) → NoneSets k cs → (j : ℕ) → j < 64 * q .0 → getD (allClientStarts k (afterCall st c) cs) j false ≡ false
+quiet st k eight c q e cs w j h =
+    let t = ap (λ (x : Slots). x .0) (timer-set st k q eight c e) in
+    held-quiet k (afterCall st c) cs w j (omega arith)

@@ -51,25 +51,27 @@ total-counted : (o : Outcome) (cs : List ℕ) → length cs ≡ 11 → total (co
 unfolding counted counter
 total-counted o cs e = total-set cs (outcomeNumber o - 1) (subst (λ (n : ℕ). outcomeNumber o - 1 < n) (sym e) (row o .1))
 
--- the counter of an outcome, when a Start with the outcome p is counted
+-- when a Start with the outcome p is counted: the counter of an outcome with its number, and of one with another
+pub counts-same : (o p : Outcome) (cs : List ℕ) → length cs ≡ 11 → outcomeNumber o ≡ outcomeNumber p
+    → counter o (counted p cs) ≡ (counter o cs + 1) % counterSize
+unfolding counter counted
+counts-same o p cs e same =
+    let lt : outcomeNumber p - 1 < length cs = subst (λ (n : ℕ). outcomeNumber p - 1 < n) (sym e) (row p .1) in
+    rw same (getD-set-same cs (outcomeNumber p - 1) ((getD cs (outcomeNumber p - 1) 0 + 1) % counterSize) 0 lt)
+
+pub counts-other : (o p : Outcome) (cs : List ℕ) → (outcomeNumber o ≡ outcomeNumber p → ⊥) → counter o (counted p cs) ≡ counter o cs
+unfolding counter counted
+counts-other o p cs other =
+    let apart : outcomeNumber o - 1 ≡ outcomeNumber p - 1 → ⊥ = (λ q. other (let a = row o .0 in let b = row p .0 in omega arith)) in
+    getD-set-other cs (outcomeNumber p - 1) (outcomeNumber o - 1) ((getD cs (outcomeNumber p - 1) 0 + 1) % counterSize) 0 apart
+
 counter-counted : (o p : Outcome) (cs : List ℕ) → length cs ≡ 11
     → counter o (counted p cs) % counterSize ≡ (counter o cs + oneIf (eqb (outcomeNumber p) (outcomeNumber o))) % counterSize
-unfolding counter counted oneIf
+unfolding oneIf
 counter-counted o p cs e =
-    let lt : outcomeNumber p - 1 < length cs = subst (λ (n : ℕ). outcomeNumber p - 1 < n) (sym e) (row p .1) in
-    let new : ℕ = (getD cs (outcomeNumber p - 1) 0 + 1) % counterSize in
-    let twice : new % counterSize ≡ (getD cs (outcomeNumber p - 1) 0 + 1) % counterSize = omega arith in
     by-test (eqb (outcomeNumber p) (outcomeNumber o))
-    (λ t. let same : outcomeNumber p ≡ outcomeNumber o = eqb-true (outcomeNumber p) (outcomeNumber o) t in
-    ap (λ (n : ℕ). getD (set cs (outcomeNumber p - 1) new) (n - 1) 0 % counterSize) (sym same)
-    ∙ ap (λ (n : ℕ). n % counterSize) (getD-set-same cs (outcomeNumber p - 1) new 0 lt)
-    ∙ twice
-    ∙ ap₂ (λ (n : ℕ) (b : Bool). (getD cs (n - 1) 0 + cond b 1 0) % counterSize) same (sym t))
-    (λ t. let other : outcomeNumber p ≡ outcomeNumber o → ⊥ = eqb-false (outcomeNumber p) (outcomeNumber o) t in
-    let apart : outcomeNumber o - 1 ≡ outcomeNumber p - 1 → ⊥ = (λ q. other (let a = row o .0 in let b = row p .0 in omega arith)) in
-    ap (λ (n : ℕ). n % counterSize) (getD-set-other cs (outcomeNumber p - 1) (outcomeNumber o - 1) new 0 apart)
-    ∙ ap (λ (n : ℕ). n % counterSize) (let z : getD cs (outcomeNumber o - 1) 0 ≡ getD cs (outcomeNumber o - 1) 0 + 0 = omega arith in z)
-    ∙ ap (λ (b : Bool). (getD cs (outcomeNumber o - 1) 0 + cond b 1 0) % counterSize) (sym t))
+    (λ t. let same = counts-same o p cs e (sym (eqb-true (outcomeNumber p) (outcomeNumber o) t)) in rw t (omega arith))
+    (λ t. let same = counts-other o p cs (λ q. eqb-false (outcomeNumber p) (outcomeNumber o) t (sym q)) in rw t (omega arith))
 
 -- ---- the Starts of a walk, one after the other
 

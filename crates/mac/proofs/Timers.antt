@@ -1,20 +1,20 @@
 -- Claim 7, the timers: set only by reading (`timer-set`), fall only by sending and by exactly the symbols written (`timer-falls`); a client frame is
 -- refused by 9 exactly while its timer is above zero and no lower refusal holds (`held-exactly`); one refused at t slots isn't refused for it once
--- t more are written, if no reading set it meanwhile (`released`). Assumes nothing.
-use Prim.Native.Nat.{ℕ, zero, suc, _+_, _-_, _*_, _/_, _%_, _≤_, _<_}
+-- t more are written, if no reading set it meanwhile (`released`); zero quanta let the class go at once (`let-go`). Assumes nothing.
+use Prim.Native.Nat.{ℕ, zero, suc, _+_, _-_, _/_, _%_, _≤_, _<_}
 use native.Mathlib.Omega.{arith}
 use native.Mathlib.Nat.{not-suc-le-zero, le-of-suc-le-suc}
-use mathlib.Core.Path.{_≡_, refl, sym, ap, ap₂, _∙_, subst}
-use mathlib.Core.Bool.{Bool, true, false, cond, not, _||_, true≢false}
-use mathlib.Core.List.{List, [], _∷_, _++_, map}
+use mathlib.Core.Path.{_≡_, refl, sym, ap, _∙_}
+use mathlib.Core.Bool.{Bool, true, false, cond, _||_}
+use mathlib.Core.List.{List, [], _∷_}
 use mathlib.Core.Logic.{_↔_}
-use mathlib.Core.Option.{Option, none, some, Option·some-injective}
-use lib.ListN.{length, getD, drop, length-append}
+use mathlib.Core.Option.{Option, none, some, orElse}
+use lib.ListN.{length, getD, drop, length-append, List·getD-eq-default}
 use lib.Dec.{eqb, ltb, lit<}
-use borrow.Author.Tests.{ltb-true, ltb-false, lt-ltb, le-ltb}
+use borrow.Author.Tests.{ltb-true, ltb-false, lt-ltb}
 use Rattle.line.specs.declared.Found.{Found}
 use Rattle.line.specs.declared.Found.the-variants.{At, Nothing}
-use Rattle.line.specs.Line.{Symbol, capture, findStart, AfterStart, unended, ended, afterStart}
+use Rattle.line.specs.Line.{Symbol, capture, findStart, AfterStart, unended, ended, MetStart, metStarts}
 use Rattle.line.specs.Table.{first}
 use Rattle.line.proofs.Symbols.{by-test}
 use Rattle.station.specs.declared.Settings.{Settings}
@@ -26,13 +26,18 @@ use Rattle.station.specs.declared.Checked.the-variants.{Fine, Refused}
 use Rattle.station.specs.declared.Outcome.{Outcome}
 use Rattle.station.specs.declared.Outcome.the-variants.{Cut, BadPreamble, Undersized, Oversized, WrongFcs, WrongLength, Filtered, PauseTaken, PfcTaken, ControlDropped, HandedOut}
 use Rattle.flow.specs.Timers.{slotsOf, quantaAt, timer, setAll, setNamed, timersAfter, lowered}
+use Rattle.flow.proofs.TimerLaws.{length-timersAfter}
 use Rattle.outcome.specs.Outcomes.{outcome, frameOf}
+use Rattle.receive.specs.declared.WalkEnd.{WalkEnd}
 use Rattle.receive.specs.Reading.{stateAfter, readRun, readStart, readFound, readAt, readRefusals, readChecked, reading}
+use Rattle.receive.specs.Walk.{walkOf, walked}
+use Rattle.receive.proofs.Walks.{through, walked-from, walked-refused}
 use Rattle.writing.specs.declared.Client.{Client}
 use Rattle.send.specs.Sending.{held, written, wentRefusal, stateSent, sendChecked, clientRefusals, clientSending, pauseSending, pfcSending, idleSending}
-use Rattle.mac.specs.Demand1.{rowHolds, turn}
-use Rattle.mac.specs.Calls.{Call, reads, sendsClient, sendsPause, sendsPfc, fillsIdle, afterCall, afterCalls, writes, allWritten, names, quantaOf, setBy, setByStart, setByFound, setChecked, setsClass, NoneSets}
+use Rattle.mac.specs.Demand1.{rowHolds, NoneBefore}
+use Rattle.mac.specs.Calls.{Call, reads, walks, sendsClient, sendsPause, sendsPfc, fillsIdle, afterCall, afterCalls, writes, allWritten, names, quantaOf, setBy, setByStart, setByStarts, unlessRefused, startFound, startRead, startsWalked, setsClass, NoneSets}
 use Rattle.mac.proofs.Demand1.{client-refuses}
+use Rattle.mac.proofs.Walk.{OpenLast, open-last}
 
 -- ---- one timer
 
@@ -64,51 +69,96 @@ named-set m l (t ∷ ts) zero h = go (eqb (m % 2) 1)
     go false = refl
 named-set m l (t ∷ ts) (suc k) h = named-set (m / 2) (drop 2 l) ts k (le-of-suc-le-suc h)
 
-named-clear : (m : ℕ) (l : List ℕ) (ts : List Slots) (k : ℕ) → names m k ≡ false → timer (setNamed m l ts) k ≡ timer ts k
-unfolding timer setNamed names
-named-clear m l [] k h = refl
-named-clear m l (t ∷ ts) zero h = ap (λ (b : Bool). cond b (slotsOf (quantaAt l 0)) t) h
-named-clear m l (t ∷ ts) (suc k) h = named-clear (m / 2) (drop 2 l) ts k h
+outcome-sets : (o : Outcome) (f : List ℕ) (k : ℕ) (ts : List Slots) → k < length ts → timer (timersAfter o f ts) k ≡ setOr (setBy o f k) (timer ts k)
+unfolding setBy timersAfter setOr
+outcome-sets Cut f k ts h = refl
+outcome-sets BadPreamble f k ts h = refl
+outcome-sets Undersized f k ts h = refl
+outcome-sets Oversized f k ts h = refl
+outcome-sets WrongFcs f k ts h = refl
+outcome-sets WrongLength f k ts h = refl
+outcome-sets Filtered f k ts h = refl
+outcome-sets PauseTaken f k ts h = all-set (quantaAt f 16) ts k h
+outcome-sets PfcTaken f k ts h = named-set (getD f 17 0) (drop 18 f) ts k h
+outcome-sets ControlDropped f k ts h = refl
+outcome-sets HandedOut f k ts h = refl
 
--- ---- a reading, and a class that it does not set
+-- ---- Starts read one after the other
 
-apart : {X : Type 0} (q : Quanta) → _≡_ {A = Option Quanta} (some q) none → X
-apart q h = let bad : _≡_ {A = ℕ} 0 1 = cc in absurd (omega arith)
+unfoldable afterStarts : Settings → State → List MetStart → State
+afterStarts s st [] = st
+afterStarts s st (m ∷ l) = afterStarts s (readStart s st (m .place) (m .follows) .state) l
 
-clear : (b : Bool) (q : Quanta) → _≡_ {A = Option Quanta} (cond b (some q) none) none → b ≡ false
-clear true q h = apart q h
-clear false q h = refl
+set-twice : (a b : Option Quanta) (t : Slots) → setOr a (setOr b t) ≡ setOr (orElse a b) t
+unfolding setOr orElse
+set-twice none b t = refl
+set-twice (some q) b t = refl
 
-unset : (o : Outcome) (f : List ℕ) (k : ℕ) (ts : List Slots) → setBy o f k ≡ none → timer (timersAfter o f ts) k ≡ timer ts k
-unfolding setBy timersAfter
-unset Cut f k ts h = refl
-unset BadPreamble f k ts h = refl
-unset Undersized f k ts h = refl
-unset Oversized f k ts h = refl
-unset WrongFcs f k ts h = refl
-unset WrongLength f k ts h = refl
-unset Filtered f k ts h = refl
-unset PauseTaken f k ts h = apart (quantaAt f 16) h
-unset PfcTaken f k ts h = named-clear (getD f 17 0) (drop 18 f) ts k (clear (names (getD f 17 0) k) (quantaOf (drop 18 f) k) h)
-unset ControlDropped f k ts h = refl
-unset HandedOut f k ts h = refl
+-- as many timers as before, and that of class k set, if it is set and is one of them
+abbrev SetTo : ℕ → Option Quanta → List Slots → List Slots → Type 0
+SetTo k o old new = (length new ≡ length old) × (k < length old → timer new k ≡ setOr o (timer old k))
 
-module _ (s : Settings) (st : State) (k : ℕ) where
-  unset-start : (i : ℕ) (l : AfterStart) → setByStart s k l ≡ none → timer (readStart s st i l .state .timers) k ≡ timer (st .timers) k
-  unfolding setByStart readStart readRun stateAfter
-  unset-start i unended h = refl
-  unset-start i (ended run by) h = unset (outcome s run by) (frameOf run) k (st .timers) h
+module _ (s : Settings) (k : ℕ) where
+  start-sets : (st : State) (i : ℕ) (f : AfterStart) → SetTo k (setByStart s k f) (st .timers) (readStart s st i f .state .timers)
+  unfolding setByStart readStart readRun stateAfter setOr
+  start-sets st i unended = (refl, λ h. refl)
+  start-sets st i (ended run by) =
+      let o : Outcome = outcome s run by in (length-timersAfter o (frameOf run) (st .timers), outcome-sets o (frameOf run) k (st .timers))
 
-  unset-found : (c : List Symbol) (f : Found) → setByFound s k c f ≡ none → timer (readFound s st c f .state .timers) k ≡ timer (st .timers) k
-  unfolding setByFound readFound
-  unset-found c Nothing h = refl
-  unset-found c (At i) h = unset-start i (afterStart (drop (i + 1) c)) h
+  starts-set : (st : State) (l : List MetStart) → SetTo k (setByStarts s k l) (st .timers) (afterStarts s st l .timers)
+  unfolding afterStarts setByStarts setOr
+  starts-set st [] = (refl, λ h. refl)
+  starts-set st (m ∷ l) =
+      let one = start-sets st (m .place) (m .follows) in
+      let same = one .0 in
+      let rest = starts-set (readStart s st (m .place) (m .follows) .state) l in
+      let later : Option Quanta = setByStarts s k l in (
+        rest .0 ∙ same,
+        λ h. rest .1 (omega arith) ∙ ap (setOr later) (one .1 h) ∙ set-twice later (setByStart s k (m .follows)) (timer (st .timers) k),
+      )
 
-  unset-reading : (r : Checked) (os ms : List ℕ) (p : ℕ) → setChecked r s k os ms p ≡ none
-      → timer (readChecked r s st os ms p .state .timers) k ≡ timer (st .timers) k
-  unfolding setChecked readChecked readAt
-  unset-reading (Refused x) os ms p h = refl
-  unset-reading Fine os ms p h = unset-found (capture os ms) (findStart (capture os ms) p) h
+  -- none of them sets class k; beyond the eight timers there is nothing to set
+  starts-unset : (st : State) (l : List MetStart) → setByStarts s k l ≡ none → timer (afterStarts s st l .timers) k ≡ timer (st .timers) k
+  unfolding timer setOr
+  starts-unset st l h =
+      let x = starts-set st l in
+      let same = x .0 in
+      by-test (ltb k (length (st .timers)))
+      (λ e. x .1 (ltb-true k (length (st .timers)) e) ∙ ap (λ (o : Option Quanta). setOr o (timer (st .timers) k)) h)
+      (λ e. let beyond = ltb-false k (length (st .timers)) e in
+      List·getD-eq-default (afterStarts s st l .timers) (record { 0 = 0 }) {n = k} (omega arith)
+      ∙ sym (List·getD-eq-default (st .timers) (record { 0 = 0 }) {n = k} beyond))
+
+-- ---- a reading and a walk leave the state of the Starts that they read
+
+found-state : (s : Settings) (st : State) (c : List Symbol) (f : Found) → readFound s st c f .state ≡ afterStarts s st (startFound c f)
+unfolding readFound startFound afterStarts
+found-state s st c Nothing = refl
+found-state s st c (At i) = refl
+
+read-state : (s : Settings) (st : State) (os ms : List ℕ) (p : ℕ) (r : Checked)
+    → readChecked r s st os ms p .state ≡ afterStarts s st (unlessRefused r (startFound (capture os ms) (findStart (capture os ms) p)))
+unfolding readChecked readAt unlessRefused afterStarts
+read-state s st os ms p (Refused x) = refl
+read-state s st os ms p Fine = found-state s st (capture os ms) (findStart (capture os ms) p)
+
+through-state : (s : Settings) (k n : ℕ) (st : State) (l : List MetStart) → OpenLast l → walkOf k st (through s st n l) .state ≡ afterStarts s st l
+unfolding walkOf through OpenLast afterStarts
+through-state s k n st [] w = refl
+through-state s k n st (m ∷ l) w = one (m .follows) (w .0) (λ st′. through-state s (k + 1) n st′ l (w .1))
+  where
+    one : (f : AfterStart) → (f ≡ unended → l ≡ []) → ((st : State) → walkOf (k + 1) st (through s st n l) .state ≡ afterStarts s st l)
+        → walkOf k st (through s st n (record { place = m .place; follows = f } ∷ l)) .state ≡ afterStarts s st (record { place = m .place; follows = f } ∷ l)
+    one unended last ih = unfold readStart in sym (ap (afterStarts s st) (last refl))
+    one (ended r by) last ih = unfold readStart readRun in ih (readStart s st (m .place) (ended r by) .state)
+
+walk-state : (s : Settings) (st : State) (os ms : List ℕ) (r : Checked) → first (readRefusals s os ms 0) ≡ r
+    → walked s st os ms .state ≡ afterStarts s st (unlessRefused r (metStarts 0 (capture os ms)))
+unfolding unlessRefused afterStarts
+walk-state s st os ms (Refused x) e = ap (λ (w : WalkEnd). w .state) (walked-refused s st os ms x e)
+walk-state s st os ms Fine e =
+    let c : List Symbol = capture os ms in
+    sym (ap (λ (w : WalkEnd). w .state) (walked-from s st os ms e)) ∙ through-state s 0 (length c) st (metStarts 0 c) (open-last 0 c)
 
 -- ---- a call that does not set class k takes the symbols it writes off its timer
 
@@ -118,66 +168,51 @@ unfolding sendChecked stateSent written
 sent-lowers (Refused x) st os ms p new k = omega arith
 sent-lowers Fine st os ms p new k = lowered-timer (length new) (st .timers) k
 
-pub call-lowers : (s : Settings) (st : State) (k : ℕ) (c : Call) → setsClass s k c ≡ none
-    → timer (afterCall s st c .timers) k .0 ≡ timer (st .timers) k .0 - length (writes s st c)
-unfolding afterCall writes setsClass reading clientSending pauseSending pfcSending idleSending
-call-lowers s st k (reads os ms p) h = ap (λ (t : Slots). t .0) (unset-reading s st k (first (readRefusals s os ms p)) os ms p h) ∙ omega arith
-call-lowers s st k (sendsClient os ms p c d) h = sent-lowers _ st os ms p _ k
-call-lowers s st k (sendsPause os ms p q) h = sent-lowers _ st os ms p _ k
-call-lowers s st k (sendsPfc os ms p c) h = sent-lowers _ st os ms p _ k
-call-lowers s st k (fillsIdle os ms p n) h = sent-lowers _ st os ms p _ k
+-- the state after a call that reads Starts, none of which sets it
+read-lowers : (s : Settings) (st st′ : State) (k : ℕ) (l : List MetStart) → st′ ≡ afterStarts s st l → setByStarts s k l ≡ none
+    → timer (st′ .timers) k .0 ≡ timer (st .timers) k .0 - 0
+read-lowers s st st′ k l e h = ap (λ (x : State). timer (x .timers) k .0) e ∙ ap (λ (t : Slots). t .0) (starts-unset s k st l h) ∙ omega arith
+
+pub call-lowers : (st : State) (k : ℕ) (c : Call) → setsClass k c ≡ none → timer (afterCall st c .timers) k .0 ≡ timer (st .timers) k .0 - length (writes st c)
+unfolding afterCall writes setsClass startRead startsWalked reading clientSending pauseSending pfcSending idleSending
+call-lowers st k (reads s os ms p) h = read-lowers s st _ k _ (read-state s st os ms p (first (readRefusals s os ms p))) h
+call-lowers st k (walks s os ms) h = read-lowers s st _ k _ (walk-state s st os ms (first (readRefusals s os ms 0)) refl) h
+call-lowers st k (sendsClient s os ms p c d) h = sent-lowers _ st os ms p _ k
+call-lowers st k (sendsPause s os ms p q) h = sent-lowers _ st os ms p _ k
+call-lowers st k (sendsPfc s os ms p c) h = sent-lowers _ st os ms p _ k
+call-lowers st k (fillsIdle os ms p n) h = sent-lowers _ st os ms p _ k
 
 -- over a sequence of calls none of which sets the class: by exactly the symbols that they write
-pub timer-falls : (s : Settings) (k : ℕ) (st : State) (cs : List Call) → NoneSets s k cs
-    → timer (afterCalls s st cs .timers) k .0 ≡ timer (st .timers) k .0 - length (allWritten s st cs)
+pub timer-falls : (k : ℕ) (st : State) (cs : List Call) → NoneSets k cs
+    → timer (afterCalls st cs .timers) k .0 ≡ timer (st .timers) k .0 - length (allWritten st cs)
 unfolding afterCalls allWritten NoneSets
-timer-falls s k st [] w = omega arith
-timer-falls s k st (c ∷ cs) w =
-    let ih = timer-falls s k (afterCall s st c) cs (w .1) in
-    let l = call-lowers s st k c (w .0) in
-    let n = length-append (writes s st c) (allWritten s (afterCall s st c) cs) in
+timer-falls k st [] w = omega arith
+timer-falls k st (c ∷ cs) w =
+    let ih = timer-falls k (afterCall st c) cs (w .1) in
+    let l = call-lowers st k c (w .0) in
+    let n = length-append (writes st c) (allWritten (afterCall st c) cs) in
     omega arith
 
--- ---- a reading that sets the class
+-- ---- a call that sets the class
 
-set-to : (o : Outcome) (f : List ℕ) (k : ℕ) (ts : List Slots) (q : Quanta) → k < length ts → setBy o f k ≡ some q → timer (timersAfter o f ts) k ≡ slotsOf q
-unfolding setBy timersAfter setOr
-set-to Cut f k ts q h e = apart q (sym e)
-set-to BadPreamble f k ts q h e = apart q (sym e)
-set-to Undersized f k ts q h e = apart q (sym e)
-set-to Oversized f k ts q h e = apart q (sym e)
-set-to WrongFcs f k ts q h e = apart q (sym e)
-set-to WrongLength f k ts q h e = apart q (sym e)
-set-to Filtered f k ts q h e = apart q (sym e)
-set-to PauseTaken f k ts q h e = all-set (quantaAt f 16) ts k h ∙ ap slotsOf (Option·some-injective (quantaAt f 16) q e)
-set-to PfcTaken f k ts q h e = named-set (getD f 17 0) (drop 18 f) ts k h ∙ ap (λ (o : Option Quanta). setOr o (timer ts k)) e
-set-to ControlDropped f k ts q h e = apart q (sym e)
-set-to HandedOut f k ts q h e = apart q (sym e)
+module _ (st : State) (k : ℕ) (q : Quanta) (eight : k < length (st .timers)) where
+  read-sets : (s : Settings) (st′ : State) (l : List MetStart) → st′ ≡ afterStarts s st l → setByStarts s k l ≡ some q → timer (st′ .timers) k ≡ slotsOf q
+  unfolding setOr
+  read-sets s st′ l e h =
+      ap (λ (x : State). timer (x .timers) k) e ∙ starts-set s k st l .1 eight ∙ ap (λ (o : Option Quanta). setOr o (timer (st .timers) k)) h
 
-module _ (s : Settings) (st : State) (k : ℕ) (q : Quanta) (eight : k < length (st .timers)) where
-  set-start : (i : ℕ) (l : AfterStart) → setByStart s k l ≡ some q → timer (readStart s st i l .state .timers) k ≡ slotsOf q
-  unfolding setByStart readStart readRun stateAfter
-  set-start i unended h = apart q (sym h)
-  set-start i (ended run by) h = set-to (outcome s run by) (frameOf run) k (st .timers) q eight h
+  apart : {X : Type 0} → _≡_ {A = Option Quanta} none (some q) → X
+  apart h = let bad : _≡_ {A = ℕ} 0 1 = cc in absurd (omega arith)
 
-  set-found : (c : List Symbol) (f : Found) → setByFound s k c f ≡ some q → timer (readFound s st c f .state .timers) k ≡ slotsOf q
-  unfolding setByFound readFound
-  set-found c Nothing h = apart q (sym h)
-  set-found c (At i) h = set-start i (afterStart (drop (i + 1) c)) h
-
-  set-reading : (r : Checked) (os ms : List ℕ) (p : ℕ) → setChecked r s k os ms p ≡ some q → timer (readChecked r s st os ms p .state .timers) k ≡ slotsOf q
-  unfolding setChecked readChecked readAt
-  set-reading (Refused x) os ms p h = apart q (sym h)
-  set-reading Fine os ms p h = set-found (capture os ms) (findStart (capture os ms) p) h
-
-  -- "Setting replaces the old time": and only a reading sets a class, since `setsClass` of any other call is `none`
-  pub timer-set : (c : Call) → setsClass s k c ≡ some q → timer (afterCall s st c .timers) k ≡ slotsOf q
-  unfolding afterCall setsClass reading
-  timer-set (reads os ms p) h = set-reading (first (readRefusals s os ms p)) os ms p h
-  timer-set (sendsClient os ms p c d) h = apart q (sym h)
-  timer-set (sendsPause os ms p x) h = apart q (sym h)
-  timer-set (sendsPfc os ms p c) h = apart q (sym h)
-  timer-set (fillsIdle os ms p n) h = apart q (sym h)
+  -- "Setting replaces the old time": and only a reading or a walk sets a class, since `setsClass` of any other call is `none`
+  pub timer-set : (c : Call) → setsClass k c ≡ some q → timer (afterCall st c .timers) k ≡ slotsOf q
+  unfolding afterCall setsClass startRead startsWalked reading
+  timer-set (reads s os ms p) h = read-sets s _ _ (read-state s st os ms p (first (readRefusals s os ms p))) h
+  timer-set (walks s os ms) h = read-sets s _ _ (walk-state s st os ms (first (readRefusals s os ms 0)) refl) h
+  timer-set (sendsClient s os ms p c d) h = apart h
+  timer-set (sendsPause s os ms p x) h = apart h
+  timer-set (sendsPfc s os ms p c) h = apart h
+  timer-set (fillsIdle os ms p n) h = apart h
 
 -- ---- refusal 9
 
@@ -192,7 +227,7 @@ module _ (s : Settings) (st : State) (os ms : List ℕ) (p : ℕ) (c : Client) (
 
   -- given exactly while the timer of its class is above zero and no refusal that is tested before it holds
   pub held-exactly : (wentRefusal (clientSending s st os ms p c d .given .answer) ≡ 9)
-      ↔ ((0 < timer (st .timers) (c .class) .0) × ((m : ℕ) → turn m < turn 9 → rowHolds (clientRefusals s st os ms p c d) m ≡ false))
+      ↔ ((0 < timer (st .timers) (c .class) .0) × NoneBefore (clientRefusals s st os ms p c d) (1 ∷ 2 ∷ 3 ∷ 5 ∷ 6 ∷ 10 ∷ 7 ∷ 8 ∷ 9 ∷ []) 9)
   unfolding held
   held-exactly =
       let x = client-refuses s st os ms p c d .exactly .earliest 9 (lit< tt) in (
@@ -200,8 +235,16 @@ module _ (s : Settings) (st : State) (os ms : List ℕ) (p : ℕ) (c : Client) (
         λ y. x .1 (row-9 ∙ lt-ltb 0 (timer (st .timers) (c .class) .0) (y .0), y .1),
       )
 
+  not-held : timer (st .timers) (c .class) .0 ≡ 0 → wentRefusal (clientSending s st os ms p c d .given .answer) ≡ 9 → ⊥
+  not-held h e = let above = held-exactly .0 e .0 in omega arith
+
 -- "A client frame refused for its timer at t slots isn't refused for it once t more slots are written, if no reading has set that timer meanwhile."
-pub released : (s : Settings) (k : ℕ) (st : State) (cs : List Call) → NoneSets s k cs → timer (st .timers) k .0 ≤ length (allWritten s st cs)
-    → held (afterCalls s st cs) k ≡ false
-unfolding held
-released s k st cs w h = le-ltb 0 (timer (afterCalls s st cs .timers) k .0) (let e = timer-falls s k st cs w in omega arith)
+-- t is its timer in the state `st` of the refusal; the later call may have any settings, buffers, place and data.
+pub released : (st : State) (cs : List Call) (s : Settings) (os ms : List ℕ) (p : ℕ) (c : Client) (d : List ℕ) → NoneSets (c .class) cs
+    → timer (st .timers) (c .class) .0 ≤ length (allWritten st cs) → wentRefusal (clientSending s (afterCalls st cs) os ms p c d .given .answer) ≡ 9 → ⊥
+released st cs s os ms p c d w h = not-held s (afterCalls st cs) os ms p c d (let e = timer-falls (c .class) st cs w in omega arith)
+
+-- "zero quanta lets the class go at once": after a call that sets it to them
+pub let-go : (st : State) (x : Call) (s : Settings) (os ms : List ℕ) (p : ℕ) (c : Client) (d : List ℕ) → c .class < length (st .timers)
+    → setsClass (c .class) x ≡ some (record { 0 = 0 }) → wentRefusal (clientSending s (afterCall st x) os ms p c d .given .answer) ≡ 9 → ⊥
+let-go st x s os ms p c d eight h = not-held s (afterCall st x) os ms p c d (ap (λ (t : Slots). t .0) (timer-set st (c .class) (record { 0 = 0 }) eight x h))

@@ -1,5 +1,5 @@
 -- Demand 1: what it says of a call's refusals. The theorems are proofs/Demand1.antt.
-use Prim.Native.Nat.{ℕ, _*_, _<_}
+use Prim.Native.Nat.{ℕ, _+_, _<_}
 use mathlib.Core.Path.{_≡_}
 use mathlib.Core.Bool.{Bool, true, false, cond, _&&_, _||_}
 use mathlib.Core.Logic.{_↔_}
@@ -24,15 +24,21 @@ unfoldable pub rowHolds : Table Checked → ℕ → Bool
 rowHolds (otherwise a) n = false
 rowHolds (r ∣ rows) n = (eqb (checkedNumber (r .gives)) n && r .holds) || rowHolds rows n
 
--- "Lowest number first"; document 02, item 1: "10, …, tested after 6 and before 7". A refusal is tested before those of a higher turn
-abbrev pub turn : ℕ → ℕ
-turn n = cond (eqb n 10) 13 (2 * n)
+-- the place of a number in a list of numbers; the list's length where it is not in it
+unfoldable pub placeIn : List ℕ → ℕ → ℕ
+placeIn [] n = 0
+placeIn (k ∷ numbers) n = cond (eqb k n) 0 (1 + placeIn numbers n)
 
--- "Given exactly when": the number `given`, 0 for no refusal, is one of `numbers`; it is n exactly when the row of n holds and that of none
--- tested before it does; and it is 0 exactly when no row holds
+-- "Lowest number first"; document 02, item 1: "10, …, tested after 6 and before 7". A call's numbers are listed in the order in which they are
+-- tried: the row of no number that stands before n in the list holds
+abbrev pub NoneBefore : Table Checked → List ℕ → ℕ → Type 0
+NoneBefore rows numbers n = (m : ℕ) → placeIn numbers m < placeIn numbers n → rowHolds rows m ≡ false
+
+-- "Given exactly when": the rows of a call have these `numbers`, in this order; the number `given`, 0 for no refusal, is n exactly when the row of n
+-- holds and that of none before it does; and it is 0 exactly when no row holds
 pub record Exactly (rows : Table Checked) (numbers : List ℕ) (given : ℕ) : Type 0 where
   pub listed : numbersOf rows ≡ numbers
-  pub earliest : (n : ℕ) → 0 < n → (given ≡ n) ↔ ((rowHolds rows n ≡ true) × ((m : ℕ) → turn m < turn n → rowHolds rows m ≡ false))
+  pub earliest : (n : ℕ) → 0 < n → (given ≡ n) ↔ ((rowHolds rows n ≡ true) × NoneBefore rows numbers n)
   pub none : (given ≡ 0) ↔ ((m : ℕ) → rowHolds rows m ≡ false)
 
 -- "A refusal gives its number, status 0, an empty part, the place it was called with (in a reading, as both places), the old state"

@@ -1,32 +1,35 @@
 -- Demand 3: what it speaks of. The theorems are proofs/Demand3.antt and, from the sending calls on, proofs/Row.antt.
-use Prim.Native.Nat.{ℕ, _<_}
+use Prim.Native.Nat.{ℕ, _+_, _≤_, _<_}
 use mathlib.Core.Path.{_≡_}
 use mathlib.Core.Bool.{Bool, true, false}
-use mathlib.Core.List.{List, [], _∷_, _++_}
-use lib.ListN.{length}
-use Rattle.line.specs.Line.{Symbol}
+use mathlib.Core.List.{List, [], _∷_, _++_, map}
+use lib.ListN.{length, take, drop}
+use Rattle.line.specs.Line.{Symbol, capture, octetsOf, marksOf, overwrite}
 use Rattle.fcs.specs.Fcs.{fcs}
 use Rattle.station.specs.declared.Settings.{Settings}
 use Rattle.station.specs.declared.State.{State}
 use Rattle.station.specs.declared.Checked.the-variants.{Fine}
 use Rattle.frame.specs.Frame.{oversized}
 use Rattle.address.specs.Address.{accepts}
+use Rattle.receive.specs.Walk.{walk, handedOut}
 use Rattle.writing.specs.declared.Client.{Client}
 use Rattle.writing.specs.declared.Form.{Form}
 use Rattle.writing.specs.declared.Form.the-variants.{ByLength, ByType}
 use Rattle.send.specs.declared.Went.the-variants.{Wrote}
-use Rattle.writing.specs.Frames.{padded, clientBody, clientSymbols}
+use Rattle.writing.specs.Frames.{padded, clientBody, plainIdles, clientSymbols}
 use Rattle.send.specs.Sending.{badType, manyTags, longData, Sending, sending, clientChecked, clientSending}
 
--- a client frame and its data
+-- a client frame, its data, and how many Idles its gap has. Demand 3 asks nothing of their number, so any gap will do that item 5 of document 02
+-- gives a frame.
 pub record Frame : Type 0 where
   pub client : Client
   pub octets : List ℕ
+  pub idles : ℕ
 
 -- "back to back, any number of client frames from our sender": their symbols
 unfoldable pub rowSymbols : Settings → List Frame → List Symbol
 rowSymbols tx [] = []
-rowSymbols tx (f ∷ fs) = clientSymbols tx (f .client) (f .octets) ++ rowSymbols tx fs
+rowSymbols tx (f ∷ fs) = clientSymbols (f .idles) tx (f .client) (f .octets) ++ rowSymbols tx fs
 
 -- "The data is what went in; in the type form data under 46 octets comes out followed by zeros to 46."
 unfoldable pub delivered : Form → List ℕ → List ℕ
@@ -68,21 +71,56 @@ unfoldable pub AllCarried : Settings → Settings → List Frame → Type 0
 AllCarried tx rx [] = Unit {0}
 AllCarried tx rx (f ∷ fs) = Carried tx rx f × AllCarried tx rx fs
 
+-- what a walk over a stretch of line by itself hands out: "From the damaged part only frames that demand 2 accepts"
+abbrev pub alone : Settings → State → List Symbol → List (List ℕ)
+alone rx st l = handedOut (octetsOf l) (walk rx st (octetsOf l) (marksOf l))
+
 -- ---- client calls in a row, each at the place that the one before gave, with the state and the buffers that it left
 
-unfoldable pub sendNext : Settings → Sending → Frame → Sending
-sendNext tx x f = clientSending tx (x .given .state) (x .octets) (x .marks) (x .given .place) (f .client) (f .octets)
+-- what a call is asked to send
+pub record Asked : Type 0 where
+  pub client : Client
+  pub octets : List ℕ
 
-unfoldable pub sendRow : Settings → Sending → List Frame → Sending
+-- the frame that it puts on the line, with "one Terminate and eleven Idles", and the frames of a row of calls
+abbrev pub frameSent : Asked → Frame
+frameSent a = record { client = a .client; octets = a .octets; idles = plainIdles }
+
+abbrev pub rowFrames : List Asked → List Frame
+rowFrames asked = map frameSent asked
+
+unfoldable pub sendNext : Settings → Sending → Asked → Sending
+sendNext tx x a = clientSending tx (x .given .state) (x .octets) (x .marks) (x .given .place) (a .client) (a .octets)
+
+unfoldable pub sendRow : Settings → Sending → List Asked → Sending
 sendRow tx x [] = x
-sendRow tx x (f ∷ fs) = sendRow tx (sendNext tx x f) fs
+sendRow tx x (a ∷ asked) = sendRow tx (sendNext tx x a) asked
 
 -- where a row starts
 abbrev pub rowFrom : State → List ℕ → List ℕ → ℕ → Sending
 rowFrom st os ms place = sending (record { answer = Wrote; place = place; state = st }) os ms
 
 -- no call of the row is refused
-unfoldable pub NoneRefused : Settings → Sending → List Frame → Type 0
+unfoldable pub NoneRefused : Settings → Sending → List Asked → Type 0
 NoneRefused tx x [] = Unit {0}
-NoneRefused tx x (f ∷ fs) =
-    (clientChecked tx (x .given .state) (x .octets) (x .marks) (x .given .place) (f .client) (f .octets) ≡ Fine) × NoneRefused tx (sendNext tx x f) fs
+NoneRefused tx x (a ∷ asked) =
+    (clientChecked tx (x .given .state) (x .octets) (x .marks) (x .given .place) (a .client) (a .octets) ≡ Fine) × NoneRefused tx (sendNext tx x a) asked
+
+-- from x to y the symbols of these frames were written, back to back from the place of x on, and y has the place behind them; they fit, and "every
+-- other symbol stays"
+pub record BackToBack (tx : Settings) (x y : Sending) (fs : List Frame) : Type 0 where
+  pub octets : y .octets ≡ overwrite (x .octets) (x .given .place) (octetsOf (rowSymbols tx fs))
+  pub marks : y .marks ≡ overwrite (x .marks) (x .given .place) (marksOf (rowSymbols tx fs))
+  pub place : y .given .place ≡ x .given .place + length (rowSymbols tx fs)
+  pub room : x .given .place + length (rowSymbols tx fs) ≤ length (x .octets)
+
+-- what a row of calls leaves, from a state, buffers and a place on
+abbrev pub left : Settings → State → List ℕ → List ℕ → ℕ → List Asked → Sending
+left tx st os ms place asked = sendRow tx (rowFrom st os ms place) asked
+
+-- what stood in the buffers before the place, and behind what the row wrote
+abbrev pub before : List ℕ → List ℕ → ℕ → List Symbol
+before os ms place = take place (capture os ms)
+
+abbrev pub behind : Settings → List ℕ → List ℕ → ℕ → List Asked → List Symbol
+behind tx os ms place asked = drop (place + length (rowSymbols tx (rowFrames asked))) (capture os ms)

@@ -20,10 +20,11 @@ use Rattle.receive.specs.Reading.{reading}
 use Rattle.receive.specs.Walk.{walk}
 use Rattle.writing.specs.declared.Client.{Client}
 use Rattle.writing.specs.declared.Classes.{Classes}
+use Rattle.writing.specs.declared.Kind.{Kind}
 use Rattle.writing.specs.declared.Kind.the-variants.{Customer, Service}
 use Rattle.writing.specs.declared.Tag.{Tag}
 use Rattle.writing.specs.declared.Form.the-variants.{ByLength}
-use Rattle.writing.specs.Frames.{onLine, clientSymbols, pauseSymbols, pfcSymbols}
+use Rattle.writing.specs.Frames.{plainIdles, onLine, clientSymbols, pauseSymbols, pfcSymbols}
 
 -- ---- what the cases are about
 
@@ -45,20 +46,20 @@ settings mode =
       passing = false;
     }
 
--- a client frame to the station in the length form, with a number of tags: the outermost of a provider
-unfoldable pub client : ℕ → Client
-client count =
+-- a client frame to the station in the length form, with a number of tags: the outermost of a kind, 0x8100 or a provider's, the others 0x8100
+unfoldable pub client : Kind → ℕ → Client
+client kind count =
     record {
       dest = record { 0 = station };
-      tags = record { kind = Service; control = 7 } ∷ replicate 7 (record { kind = Customer; control = 7 });
+      tags = record { kind = kind; control = 7 } ∷ replicate 7 (record { kind = Customer; control = 7 });
       count = count;
       form = ByLength;
       class = 0;
     }
 
 -- how many symbols it takes with a number of data octets
-unfoldable pub symbolsSent : ℕ → ℕ → ℕ
-symbolsSent tags n = length (clientSymbols (settings Off) (client tags) (replicate n 0xA5))
+unfoldable pub symbolsSent : Kind → ℕ → ℕ → ℕ
+symbolsSent kind tags n = length (clientSymbols plainIdles (settings Off) (client kind tags) (replicate n 0xA5))
 
 -- a run of tags, all of the provider's kind
 unfoldable pub runWith : ℕ → List ℕ
@@ -87,8 +88,8 @@ unfoldable pub reads : Flow → List Symbol → List ℕ
 reads mode c = told (reading (settings mode) fresh (octetsOf c) (marksOf c) 0 .answer)
 
 -- what is read of it without data
-unfoldable pub readsTagged : ℕ → List ℕ
-readsTagged tags = reads Off (clientSymbols (settings Off) (client tags) [])
+unfoldable pub readsTagged : Kind → ℕ → List ℕ
+readsTagged kind tags = reads Off (clientSymbols plainIdles (settings Off) (client kind tags) [])
 
 -- the outcome alone
 unfoldable pub outcomeRead : List Symbol → ℕ
@@ -108,29 +109,29 @@ takes tags field n =
 unfoldable pub starred : List Bool
 starred =
     -- "length form, data 0, 46, 47, 1500: 84, 84, 85, 1538 symbols; tagged data 0: 88"
-    eqb (symbolsSent 0 0) 84
-    ∷ eqb (symbolsSent 0 46) 84
-    ∷ eqb (symbolsSent 0 47) 85
-    ∷ eqb (symbolsSent 0 1500) 1538
-    ∷ eqb (symbolsSent 1 0) 88
+    eqb (symbolsSent Customer 0 0) 84
+    ∷ eqb (symbolsSent Customer 0 46) 84
+    ∷ eqb (symbolsSent Customer 0 47) 85
+    ∷ eqb (symbolsSent Customer 0 1500) 1538
+    ∷ eqb (symbolsSent Customer 1 0) 88
     -- "field 45 with 46 octets: rule kept, 45 handed out; field 45 with 47: broken"
     ∷ kept 0 45 46
-    ∷ sameOctets (reads Off (onLine (bodyWith 45 46))) (11 ∷ 0x400040002D ∷ 45 ∷ [])
+    ∷ sameOctets (reads Off (onLine plainIdles (bodyWith 45 46))) (11 ∷ 0x400040002D ∷ 45 ∷ [])
     ∷ not (kept 0 45 47)
-    ∷ eqb (outcomeRead (onLine (bodyWith 45 47))) 6
+    ∷ eqb (outcomeRead (onLine plainIdles (bodyWith 45 47))) 6
     -- "field 1500 with 1500: kept; field 1501 with 1501: broken"
     ∷ kept 0 1500 1500
     ∷ not (kept 0 1501 1501)
     -- "field 1535: wrong length; 1536: a type"
     ∷ not (kept 0 1535 1535)
-    ∷ eqb (outcomeRead (onLine (bodyWith 1535 46))) 6
+    ∷ eqb (outcomeRead (onLine plainIdles (bodyWith 1535 46))) 6
     ∷ kept 0 1536 46
-    ∷ eqb (outcomeRead (onLine (bodyWith 1536 46))) 11
+    ∷ eqb (outcomeRead (onLine plainIdles (bodyWith 1536 46))) 11
     -- "Start, Start, Terminate: 1, then 2"
     ∷ sameOctets (outcomesRead (asControl start ∷ asControl start ∷ asControl terminate ∷ [])) (1 ∷ 2 ∷ 0 ∷ [])
     -- "63 octets: 3, FCS not looked at": with a wrong one and with the right one
     ∷ sameOctets (reads Off (unchecked (bodyWith 46 49))) (3 ∷ 0 ∷ 0 ∷ [])
-    ∷ sameOctets (reads Off (onLine (bodyWith 46 45))) (3 ∷ 0 ∷ 0 ∷ [])
+    ∷ sameOctets (reads Off (onLine plainIdles (bodyWith 46 45))) (3 ∷ 0 ∷ 0 ∷ [])
     -- "M 1518: untagged 1519 is 4; tagged 1522 isn't": the next rule decides, since no FCS stands there
     ∷ eqb (outcomeRead (unchecked (bodyWith 0x0800 1505))) 4
     ∷ eqb (outcomeRead (unchecked (bodyWith 0x8100 1508))) 5
@@ -138,16 +139,19 @@ starred =
     ∷ eqb (slotsOf (record { 0 = 1 }) .0) 64
     ∷ eqb (slotsOf (record { 0 = 65535 }) .0) 4194240
     -- "pause to the reserved group, 64 octets: status 0x2C0040002E; PFC: 0xA40040002E"
-    ∷ sameOctets (reads Pause (pauseSymbols (settings Pause) (record { 0 = 5 }))) (8 ∷ 0x2C0040002E ∷ 0 ∷ [])
-    ∷ sameOctets (reads Pfc (pfcSymbols (settings Pfc) (record { named = 0x81; quanta = replicate 8 (record { 0 = 5 }) }))) (9 ∷ 0xA40040002E ∷ 0 ∷ [])
+    ∷ sameOctets (reads Pause (pauseSymbols plainIdles (settings Pause) (record { 0 = 5 }))) (8 ∷ 0x2C0040002E ∷ 0 ∷ [])
+    ∷ sameOctets (reads Pfc (pfcSymbols plainIdles (settings Pfc) (record { named = 0x81; quanta = replicate 8 (record { 0 = 5 }) })))
+    (9 ∷ 0xA40040002E ∷ 0 ∷ [])
     -- "unicast, length form, data 0, handed out: 0x4000400000"
-    ∷ sameOctets (readsTagged 0) (11 ∷ 0x4000400000 ∷ 0 ∷ [])
-    -- document 02, item 1, of one, two and eight tags: 4 symbols each; "Status bit 33 means exactly one tag, bit 32 two or more"
-    ∷ eqb (symbolsSent 2 0) 92
-    ∷ eqb (symbolsSent 8 0) 116
-    ∷ sameOctets (readsTagged 1) (11 ∷ 0x4200440000 ∷ 0 ∷ [])
-    ∷ sameOctets (readsTagged 2) (11 ∷ 0x4100480000 ∷ 0 ∷ [])
-    ∷ sameOctets (readsTagged 8) (11 ∷ 0x4100600000 ∷ 0 ∷ [])
+    ∷ sameOctets (readsTagged Customer 0) (11 ∷ 0x4000400000 ∷ 0 ∷ [])
+    -- document 02, item 1, of one tag of either kind, two and eight tags: 4 symbols each; "Status bit 33 means exactly one tag, bit 32 two or more"
+    ∷ eqb (symbolsSent Service 1 0) 88
+    ∷ eqb (symbolsSent Service 2 0) 92
+    ∷ eqb (symbolsSent Service 8 0) 116
+    ∷ sameOctets (readsTagged Customer 1) (11 ∷ 0x4200440000 ∷ 0 ∷ [])
+    ∷ sameOctets (readsTagged Service 1) (11 ∷ 0x4200440000 ∷ 0 ∷ [])
+    ∷ sameOctets (readsTagged Service 2) (11 ∷ 0x4100480000 ∷ 0 ∷ [])
+    ∷ sameOctets (readsTagged Service 8) (11 ∷ 0x4100600000 ∷ 0 ∷ [])
     -- "M grows by 4 for each tag": with two tags 1526 octets are allowed, 1527 are not; "a ninth is an ordinary type": with nine 1550 are, 1551 not
     ∷ eqb (outcomeRead (unchecked (taggedWith 2 1500))) 5
     ∷ eqb (outcomeRead (unchecked (taggedWith 2 1501))) 4

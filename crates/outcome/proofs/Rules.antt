@@ -1,5 +1,5 @@
--- Rules 1 and 2, and the table of outcomes in the two steps that the code takes. Assumes nothing.
-use Prim.Native.Nat.{ℕ, _≤_, _<_}
+-- Rules 1 and 2, a table row by row, and the table of outcomes in the two steps that the code takes. Assumes nothing.
+use Prim.Native.Nat.{ℕ, zero, suc, _≤_, _<_}
 use native.Mathlib.Omega.{arith}
 use mathlib.Core.Path.{_≡_, refl, sym, ap, ap₂, _∙_}
 use mathlib.Core.Bool.{Bool, true, false, not, _||_, or-true}
@@ -56,6 +56,21 @@ module _ (r right : List ℕ) (e : right ≡ preamble) (long : 7 ≤ length r) w
 pub frame-none : (r : List ℕ) → length r < 7 → frameOf r ≡ []
 unfolding frameOf
 frame-none r h = drop-of-length-le r {i = 7} (omega arith)
+
+-- ---- a table whose first n rows do not hold, and its next row, whose test the code answered by r
+
+module _ {A : Type 0} where
+  -- a table without its first n rows
+  abbrev pub after : ℕ → Table A → Table A
+  after zero t = t
+  after (suc n) (otherwise a) = otherwise a
+  after (suc n) (r ∣ rows) = after n rows
+
+  pub row-holds : {a : A} {b r : Bool} (x : A) (rows : Table A) → a ≡ first (b ⇒ x ∣ rows) → r ≡ b → r ≡ true → x ≡ a
+  row-holds x rows h e was = sym (h ∙ first-here x rows (sym e ∙ was))
+
+  pub row-passed : {a : A} {b r : Bool} (x : A) (rows : Table A) → a ≡ first (b ⇒ x ∣ rows) → r ≡ b → r ≡ false → a ≡ first rows
+  row-passed x rows h e was = h ∙ first-next x rows (sym e ∙ was)
 
 -- ---- the table in two steps: e decides as t does, or leaves the rows of k
 

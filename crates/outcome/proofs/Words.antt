@@ -8,32 +8,38 @@ use lib.Seq.{getD-take}
 use lib.Dec.{eqb, lit<}
 use denote.Enum.Declared.{tagOf}
 use types.Run.{OneOf, miss}
-use Rattle.station.specs.declared.Settings.{Settings}
 use Rattle.station.specs.declared.Outcome.{Outcome}
 use Rattle.station.specs.declared.Outcome.the-variants.{Cut, BadPreamble, Undersized, Oversized, WrongFcs, WrongLength, Filtered, PauseTaken, PfcTaken, ControlDropped, HandedOut}
 use Rattle.station.proofs.Outcome.{the-type}
 use Rattle.station.specs.Station.{isGroup}
 use Rattle.fields.specs.Fields.{destination}
-use Rattle.outcome.specs.Status.{status}
+use Rattle.outcome.specs.Status.{statusOf}
 
 -- ---- the match's last arm, by the places of its variants in the enum
 
 abbrev oneToSeven : List ℕ
 oneToSeven = 0 ∷ 1 ∷ 2 ∷ 3 ∷ 4 ∷ 5 ∷ 6 ∷ []
 
-pub no-status : (s : Settings) (o : Outcome) (f : List ℕ) → OneOf oneToSeven (tagOf the-type o) → 0 ≡ status s o f
-unfolding status
-no-status s Cut f h = refl
-no-status s BadPreamble f h = refl
-no-status s Undersized f h = refl
-no-status s Oversized f h = refl
-no-status s WrongFcs f h = refl
-no-status s WrongLength f h = refl
-no-status s Filtered f h = refl
-no-status s PauseTaken f h = absurd (miss oneToSeven 7 tt h)
-no-status s PfcTaken f h = absurd (miss oneToSeven 8 tt h)
-no-status s ControlDropped f h = absurd (miss oneToSeven 9 tt h)
-no-status s HandedOut f h = absurd (miss oneToSeven 10 tt h)
+module _ (f : List ℕ) (tags all handed : ℕ) where
+  pub no-status : (o : Outcome) → OneOf oneToSeven (tagOf the-type o) → 0 ≡ statusOf o f tags all handed
+  unfolding statusOf
+  no-status Cut h = refl
+  no-status BadPreamble h = refl
+  no-status Undersized h = refl
+  no-status Oversized h = refl
+  no-status WrongFcs h = refl
+  no-status WrongLength h = refl
+  no-status Filtered h = refl
+  no-status PauseTaken h = absurd (miss oneToSeven 7 tt h)
+  no-status PfcTaken h = absurd (miss oneToSeven 8 tt h)
+  no-status ControlDropped h = absurd (miss oneToSeven 9 tt h)
+  no-status HandedOut h = absurd (miss oneToSeven 10 tt h)
+
+-- ---- the word of a frame, from what was found to be the frame's
+
+pub word-of : (o : Outcome) {word : ℕ} {f g : List ℕ} {tags tags′ all all′ handed handed′ : ℕ} → word ≡ statusOf o f tags all handed
+    → f ≡ g → tags ≡ tags′ → all ≡ all′ → handed ≡ handed′ → word ≡ statusOf o g tags′ all′ handed′
+word-of o w e t a h = cc
 
 -- ---- the group bit
 

@@ -1,5 +1,4 @@
 // What becomes of one run: the table of outcomes and the status word (document 01, "Reading one Start", "Status word"). Meaning: specs/.
-use fields::Layout;
 use station::Outcome;
 use station::Settings;
 ghost use mathlib.Core.Path.{_≡_};
@@ -8,17 +7,11 @@ ghost use Prim.Native.Nat.{_≤_};
 ghost use lib.ListN.{length};
 ghost use Rattle.line.specs.Table.{first};
 ghost use Rattle.fcs.specs.Lent.{Lent};
-ghost use Rattle.station.specs.declared.Settings.{Settings};
-ghost use Rattle.station.specs.declared.Outcome.the-variants.{HandedOut};
 ghost use Rattle.station.specs.Station.{isGroup};
 ghost use Rattle.fields.specs.Fields.{destination};
-ghost use Rattle.fields.specs.Tags.{tagCount};
-ghost use Rattle.fields.specs.Places.{layoutOf};
-ghost use Rattle.frame.specs.Frame.{frameData};
-ghost use Rattle.frame.specs.Length.{handedLength};
 ghost use Rattle.outcome.specs.Outcomes.{badPreamble, frameOf, outcome};
 ghost use Rattle.outcome.specs.Steps.{earlyOutcomes, lateOutcomes};
-ghost use Rattle.outcome.specs.Status.{frameBits, status};
+ghost use Rattle.outcome.specs.Status.{frameBits, statusOf};
 
 // What rules 1 to 4 leave: an outcome, or a frame whose FCS is to be looked at.
 enum Early {
@@ -141,10 +134,10 @@ fn is_multicast(group: bool, broadcast: bool) -> bool
     if group { !broadcast } else { false }
 }
 
-// What the frame alone decides, its number of tags known: bits 38 to 16.
+// What the frame alone decides, its number of tags given: bits 38 to 16.
 fn frame_bits(f: &[u8], tags: usize) -> u64
-    requires { ⌜ (length (now f) ≤ 65536) × (tags ≡ tagCount (now f)) ⌝ }
-    ensures { λ r. ⌜ (r ≡ frameBits (now (f .entry))) × (r ≤ 0x80_0000_0000) ⌝ }
+    requires { ⌜ length (now f) ≤ 65536 ⌝ }
+    ensures { λ r. ⌜ (r ≡ frameBits tags (now (f .entry))) × (r ≤ 0x80_0000_0000) ⌝ }
 {
     let group = to_group(f);
     let broadcast = address::is_broadcast(f);
@@ -157,26 +150,17 @@ fn frame_bits(f: &[u8], tags: usize) -> u64
     b38 + b37 + b36 + b34 + b33 + b32 + (f.len() as u64) * 0x1_0000
 }
 
-// The number of data octets.
-fn data_length(f: &[u8], l: Layout) -> u64
-    requires { ⌜ (length (now f) ≤ 65536) × (l ≡ layoutOf (now f)) ⌝ }
-    ensures { λ r. ⌜ (r ≡ length (frameData (now (f .entry)))) × (r ≤ 65536) ⌝ }
-{
-    let data = frame::frame_data(f, l);
-    data.len() as u64
-}
-
-// The status word of a frame whose layout is `l`, and of which `handed` octets are handed out: 0 for outcomes 1 to 7. Public for this
-// repository's crates only.
-pub fn status(o: Outcome, f: &[u8], l: Layout, handed: usize) -> u64
-    requires { ⌜ (length (now f) ≤ 65536) × (l ≡ layoutOf (now f)) × (handed ≤ 65536) ⌝ }
-    ensures { λ r. ⌜ ((s : Settings) → (o ≡ HandedOut → handed ≡ handedLength (s .checking) (now (f .entry))) → r ≡ status s o (now (f .entry))) ⌝ }
+// The status word of a frame with so many tags and octets of data, of which `handed` are handed out: 0 for outcomes 1 to 7. The bounds keep its
+// sums from wrapping; so it is public for this repository's crates only.
+pub fn status(o: Outcome, f: &[u8], tags: usize, all: usize, handed: usize) -> u64
+    requires { ⌜ (length (now f) ≤ 65536) × (all ≤ 65536) × (handed ≤ 65536) ⌝ }
+    ensures { λ r. ⌜ r ≡ statusOf o (now (f .entry)) tags all handed ⌝ }
 {
     match o {
-        Outcome::PauseTaken => 0x8_0000_0000 + frame_bits(f, l.tags) + data_length(f, l),
-        Outcome::PfcTaken => 0x80_0000_0000 + frame_bits(f, l.tags) + data_length(f, l),
-        Outcome::ControlDropped => frame_bits(f, l.tags) + data_length(f, l),
-        Outcome::HandedOut => frame_bits(f, l.tags) + (handed as u64),
+        Outcome::PauseTaken => 0x8_0000_0000 + frame_bits(f, tags) + (all as u64),
+        Outcome::PfcTaken => 0x80_0000_0000 + frame_bits(f, tags) + (all as u64),
+        Outcome::ControlDropped => frame_bits(f, tags) + (all as u64),
+        Outcome::HandedOut => frame_bits(f, tags) + (handed as u64),
         _ => 0,
     }
 }

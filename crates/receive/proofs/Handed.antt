@@ -14,8 +14,8 @@ use Rattle.line.specs.Octets.{between}
 use Rattle.line.proofs.Symbols.{by-test, run-data, run-control}
 use Rattle.line.proofs.Buffers.{drop-capture}
 use Rattle.fields.specs.Fields.{field, dataPlace}
-use Rattle.frame.specs.Frame.{frameData}
-use Rattle.frame.specs.Length.{clientData, handedLength}
+use Rattle.frame.specs.Frame.{dataFrom, frameData}
+use Rattle.frame.specs.Length.{handedOf, clientData, handedLength}
 use Rattle.station.specs.declared.Part.{Part}
 use Rattle.outcome.specs.Outcomes.{frameOf}
 use Rattle.receive.specs.Reading.{partOf}
@@ -54,7 +54,7 @@ run-front (o ∷ os) (m ∷ ms) =
     (λ h. (o ∷ os, ap (λ (l : List ℕ). l ++ (o ∷ os)) (sym (run-control x (capture os ms) h))))
 
 client-front : (ck : Bool) (f : List ℕ) → Front (clientData ck f) (frameData f)
-unfolding clientData
+unfolding clientData handedOf
 client-front ck f = go (ck && ltb (field f) 46)
   where
     go : (b : Bool) → Front (cond b (take (field f) (frameData f)) (frameData f)) (frameData f)
@@ -62,7 +62,7 @@ client-front ck f = go (ck && ltb (field f) 46)
     go false = front-refl (frameData f)
 
 payload-front : (f : List ℕ) → Front (frameData f) (drop (dataPlace f) f)
-unfolding frameData between
+unfolding frameData dataFrom between
 payload-front f = front-take (length f - 4 - dataPlace f) (drop (dataPlace f) f)
 
 -- a Start at place i of the capture, `f` the frame of its run

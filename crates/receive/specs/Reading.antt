@@ -16,7 +16,7 @@ use Rattle.station.specs.declared.Refusal.the-variants.{BadSettings, BadBuffers
 use Rattle.station.specs.declared.Checked.{Checked}
 use Rattle.station.specs.declared.Checked.the-variants.{Fine, Refused}
 use Rattle.station.specs.Numbers.{byOutcome}
-use Rattle.station.specs.Station.{badSettings, badBuffers, badPlace, counted}
+use Rattle.station.specs.Station.{badSettings, badBuffers, badPlace, counted, withCounters, withTimers}
 use Rattle.fields.specs.Fields.{dataPlace}
 use Rattle.frame.specs.Length.{handedLength}
 use Rattle.flow.specs.Timers.{timersAfter}
@@ -28,9 +28,9 @@ use Rattle.outcome.specs.Status.{status}
 
 -- ---- Reading one Start
 
--- "The state is these eleven counters and the eight timers below": after a Start with this outcome, whose frame is `f`
+-- the state after a Start with this outcome, whose frame is `f`: its counter rises, and a control frame may set timers
 unfoldable pub stateAfter : Outcome → List ℕ → State → State
-stateAfter o f st = record { counters = counted o (st .counters); timers = timersAfter o f (st .timers) }
+stateAfter o f st = withTimers (timersAfter o f (st .timers)) (withCounters (counted o (st .counters)) st)
 
 abbrev pub emptyPart : Part
 emptyPart = record { at = 0; len = 0 }

@@ -8,14 +8,20 @@ use lib.ListN.{length}
 use Rattle.line.specs.Octets.{between}
 use Rattle.station.specs.declared.Settings.{Settings}
 use Rattle.station.specs.declared.State.{State}
+use Rattle.station.specs.declared.Part.{Part}
 use Rattle.station.specs.declared.Outcome.{Outcome}
+use Rattle.station.specs.Numbers.{byOutcome}
 use Rattle.outcome.specs.Outcomes.{frameOf}
 use Rattle.outcome.specs.Status.{status}
 use Rattle.receive.specs.declared.Answer.the-variants.{Refused, Nothing, Open, Counted}
 use Rattle.receive.specs.declared.Sight.{Sight}
 use Rattle.receive.specs.declared.Reading.{Reading}
-use Rattle.receive.specs.Reading.{stateAfter, handedPart, reading}
+use Rattle.receive.specs.Reading.{emptyPart, stateAfter, handedPart, reading}
 use Rattle.receive.specs.Values.{isCounted}
+
+-- the client data's part: so many octets from a place on, for outcome 11
+unfoldable pub partAt : Outcome → ℕ → ℕ → Part
+partAt o at handed = byOutcome o emptyPart emptyPart emptyPart emptyPart (record { at = at; len = handed })
 
 -- what is seen of a Start at place i, and the outcome of its run
 unfoldable pub sightOf : Settings → ℕ → List ℕ → Outcome → Sight

@@ -1,6 +1,6 @@
 -- Document 01's number and values for each case of an answer ("Expected forms by place", the last paragraph).
 use Prim.Native.Nat.{ℕ}
-use mathlib.Core.Bool.{Bool, true, false}
+use mathlib.Core.Bool.{Bool, true, false, cond}
 use Rattle.station.specs.declared.Part.{Part}
 use Rattle.station.specs.Numbers.{outcomeNumber, refusalNumber}
 use Rattle.receive.specs.declared.Answer.{Answer}
@@ -47,3 +47,12 @@ isCounted (Counted o w p) = true
 abbrev pub walkedRefusal : Walked → ℕ
 walkedRefusal (Walked.Refused x) = refusalNumber x
 walkedRefusal (Ended n b) = 0
+
+-- how a walk ended: "the number of counted Starts", and "1 if the walk ended `open`, else 0"; 0 and 0 for a refused one
+abbrev pub walkedStarts : Walked → ℕ
+walkedStarts (Walked.Refused x) = 0
+walkedStarts (Ended n b) = n
+
+abbrev pub walkedOpen : Walked → ℕ
+walkedOpen (Walked.Refused x) = 0
+walkedOpen (Ended n b) = cond b 1 0

@@ -1,5 +1,4 @@
 // Reading (document 01, "Reading one Start", "Refusals and their order"). Meaning: specs/.
-use fields::Layout;
 use line::Found;
 use station::Checked;
 use station::Outcome;
@@ -13,9 +12,8 @@ ghost use lib.ListN.{length};
 ghost use Rattle.line.specs.Table.{first};
 ghost use Rattle.fcs.specs.Lent.{Lent};
 ghost use Rattle.station.specs.declared.Checked.the-variants.{Fine};
-ghost use Rattle.fields.specs.Places.{layoutOf};
-ghost use Rattle.receive.specs.Reading.{readRefusals, handedPart, reading, partOf};
-ghost use Rattle.receive.specs.Steps.{sightOf, Inside, Seen, afterSight};
+ghost use Rattle.receive.specs.Reading.{readRefusals, reading, partOf};
+ghost use Rattle.receive.specs.Steps.{partAt, sightOf, Inside, Seen, afterSight};
 ghost use Rattle.receive.specs.Walk.{walked};
 
 // What a reading answers. The state holds arrays, which an enum may not: it stands beside the answer.
@@ -59,16 +57,12 @@ pub struct WalkEnd {
 
 // ---- one reading
 
-// The client data's part, of a frame that begins at place `at` and whose layout is `l`.
-fn handed_part(s: Settings, o: Outcome, at: usize, f: &[u8], l: Layout) -> Part
-    requires { ⌜ (at ≤ 131072) × (l ≡ layoutOf (now f)) ⌝ }
-    ensures { λ r. ⌜ (r ≡ handedPart s o at (now (f .entry))) × (r .len ≤ length (now (f .entry))) ⌝ }
+// The client data's part: `handed` octets from place `at` on for outcome 11, else none.
+fn handed_part(o: Outcome, at: usize, handed: usize) -> Part
+    ensures { λ r. ⌜ r ≡ partAt o at handed ⌝ }
 {
     match o {
-        Outcome::HandedOut => Part {
-            at: at + l.place,
-            len: frame::handed_length(s.checking, f, l),
-        },
+        Outcome::HandedOut => Part { at, len: handed },
         _ => Part { at: 0, len: 0 },
     }
 }
@@ -80,8 +74,10 @@ fn look_run(s: Settings, start: usize, run: &[u8], o: Outcome) -> Sight
 {
     let f = outcome::frame_of(run);
     let l = fields::layout_of(f);
-    let part = handed_part(s, o, start + 8, f, l);
-    let word = outcome::status(o, f, l, part.len);
+    let data = frame::frame_data(f, l.place);
+    let handed = frame::handed_length(s.checking, l.field, data);
+    let word = outcome::status(o, f, l.tags, data.len(), handed);
+    let part = handed_part(o, start + 8 + l.place, handed);
     Sight {
         answer: Answer::Counted(o, word, part),
         start,

@@ -21,7 +21,7 @@ use Rattle.station.proofs.Refusals.{fine-row, or-false, not-false}
 use Rattle.writing.specs.declared.Client.{Client}
 use Rattle.writing.specs.declared.Form.{Form}
 use Rattle.writing.specs.declared.Form.the-variants.{ByLength, ByType}
-use Rattle.writing.specs.Frames.{clientSymbols, idleSymbols}
+use Rattle.writing.specs.Frames.{plainIdles, clientSymbols, idleSymbols}
 use Rattle.send.specs.Sending.{badClass, badType, manyTags, longData, noRoom, clientRefusals, controlRefusals, idleRefusals, clientChecked, idleChecked}
 
 -- ---- a table whose first n rows do not hold, and its next row, whose test the code answered by r
@@ -86,6 +86,11 @@ pub room-by : (os : List ℕ) (place need : ℕ) (new : List Symbol) → length 
 unfolding noRoom
 room-by os place need new e = ap (λ (n : ℕ). ltb (length os - place) n) (sym e)
 
+-- the flow mode, as the code asked for it
+pub in-mode : (s : Settings) (os ms : List ℕ) (place : ℕ) (new : List Symbol) {r : Checked} {b asked : Bool}
+    → r ≡ first (controlRefusals s os ms place b new) → b ≡ asked → r ≡ first (controlRefusals s os ms place asked new)
+in-mode s os ms place new h e = rw e at h
+
 -- ---- what a call that is not refused knows
 
 -- of its buffers and place, for the symbols that it writes
@@ -110,7 +115,7 @@ pub record Passed (s : Settings) (os ms : List ℕ) (place : ℕ) (c : Client) (
   pub tags : c .count ≤ 8
   pub short : longData (s .limit) (c .form) d ≡ false
   pub data-small : length d ≤ 9600
-  pub room : place + length (clientSymbols s c d) ≤ length os
+  pub room : place + length (clientSymbols plainIdles s c d) ≤ length os
 
 pub passed : (s : Settings) (st : State) (os ms : List ℕ) (place : ℕ) (c : Client) (d : List ℕ) → clientChecked s st os ms place c d ≡ Fine
     → Passed s os ms place c d
@@ -124,7 +129,7 @@ passed s st os ms place c d h =
     let r10 = fine-row ManyTags _ (r6 .1) in
     let r7 = fine-row LongData _ (r10 .1) in
     let r8 = fine-row NoRoom _ (r7 .1) in
-    let k = room-of os ms place (clientSymbols s c d) (r2 .0) (r3 .0) (r8 .0) in
+    let k = room-of os ms place (clientSymbols plainIdles s c d) (r2 .0) (r3 .0) (r8 .0) in
     record {
       valid = r1 .0;
       even = k .even;

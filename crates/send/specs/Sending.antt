@@ -15,7 +15,7 @@ use Rattle.station.specs.declared.Refusal.the-variants.{BadSettings, BadBuffers
 use Rattle.station.specs.declared.Checked.{Checked}
 use Rattle.station.specs.declared.Checked.the-variants.{Fine, Refused}
 use Rattle.station.specs.Numbers.{refusalNumber}
-use Rattle.station.specs.Station.{badSettings, badBuffers, badPlace, isPauseMode, isPfcMode}
+use Rattle.station.specs.Station.{badSettings, badBuffers, badPlace, isPauseMode, isPfcMode, withTimers}
 use Rattle.flow.specs.Timers.{timer, lowered}
 use Rattle.writing.specs.declared.Client.{Client}
 use Rattle.writing.specs.declared.Classes.{Classes}
@@ -24,7 +24,7 @@ use Rattle.writing.specs.declared.Form.the-variants.{ByLength, ByType}
 use Rattle.send.specs.declared.Went.{Went}
 use Rattle.send.specs.declared.Went.the-variants.{Wrote}
 use Rattle.send.specs.declared.Sent.{Sent}
-use Rattle.writing.specs.Frames.{clientSymbols, pauseSymbols, pfcSymbols, idleSymbols}
+use Rattle.writing.specs.Frames.{plainIdles, clientSymbols, pauseSymbols, pfcSymbols, idleSymbols}
 
 -- ---- Sending: what a call gives and leaves, by its refusal and the symbols it would write
 
@@ -49,7 +49,7 @@ written Fine new = new
 
 -- "Every call that writes n symbols lowers each timer by n, not below zero."
 unfoldable pub stateSent : State → ℕ → State
-stateSent st n = record { counters = st .counters; timers = lowered n (st .timers) }
+stateSent st n = withTimers (lowered n (st .timers)) st
 
 -- what a refused call gives, and one that wrote up to a place and left a state
 abbrev pub refusedAt : Refusal → ℕ → State → Sent
@@ -108,7 +108,7 @@ clientRefusals s st os ms place c d =
     ∣ badType (c .form) ⇒ Refused BadType
     ∣ manyTags c ⇒ Refused ManyTags
     ∣ longData (s .limit) (c .form) d ⇒ Refused LongData
-    ∣ noRoom os place (clientSymbols s c d) ⇒ Refused NoRoom
+    ∣ noRoom os place (clientSymbols plainIdles s c d) ⇒ Refused NoRoom
     ∣ held st (c .class) ⇒ Refused Held
     ∣ otherwise Fine
 
@@ -134,23 +134,23 @@ unfoldable pub clientChecked : Settings → State → List ℕ → List ℕ → 
 clientChecked s st os ms place c d = first (clientRefusals s st os ms place c d)
 
 unfoldable pub pauseChecked : Settings → List ℕ → List ℕ → ℕ → Quanta → Checked
-pauseChecked s os ms place q = first (controlRefusals s os ms place (isPauseMode (s .flow)) (pauseSymbols s q))
+pauseChecked s os ms place q = first (controlRefusals s os ms place (isPauseMode (s .flow)) (pauseSymbols plainIdles s q))
 
 unfoldable pub pfcChecked : Settings → List ℕ → List ℕ → ℕ → Classes → Checked
-pfcChecked s os ms place k = first (controlRefusals s os ms place (isPfcMode (s .flow)) (pfcSymbols s k))
+pfcChecked s os ms place k = first (controlRefusals s os ms place (isPfcMode (s .flow)) (pfcSymbols plainIdles s k))
 
 unfoldable pub idleChecked : List ℕ → List ℕ → ℕ → ℕ → Checked
 idleChecked os ms place n = first (idleRefusals os ms place (idleSymbols n))
 
 -- the four calls, of any octets, marks and place
 unfoldable pub clientSending : Settings → State → List ℕ → List ℕ → ℕ → Client → List ℕ → Sending
-clientSending s st os ms place c d = sendChecked (clientChecked s st os ms place c d) st os ms place (clientSymbols s c d)
+clientSending s st os ms place c d = sendChecked (clientChecked s st os ms place c d) st os ms place (clientSymbols plainIdles s c d)
 
 unfoldable pub pauseSending : Settings → State → List ℕ → List ℕ → ℕ → Quanta → Sending
-pauseSending s st os ms place q = sendChecked (pauseChecked s os ms place q) st os ms place (pauseSymbols s q)
+pauseSending s st os ms place q = sendChecked (pauseChecked s os ms place q) st os ms place (pauseSymbols plainIdles s q)
 
 unfoldable pub pfcSending : Settings → State → List ℕ → List ℕ → ℕ → Classes → Sending
-pfcSending s st os ms place k = sendChecked (pfcChecked s os ms place k) st os ms place (pfcSymbols s k)
+pfcSending s st os ms place k = sendChecked (pfcChecked s os ms place k) st os ms place (pfcSymbols plainIdles s k)
 
 unfoldable pub idleSending : State → List ℕ → List ℕ → ℕ → ℕ → Sending
 idleSending st os ms place n = sendChecked (idleChecked os ms place n) st os ms place (idleSymbols n)

@@ -206,6 +206,9 @@ fn check_idle(octets: &[u8], marks: &[u8], place: usize, n: usize) -> Checked
 
 // ---- the four calls
 
+// How many Idles the gap behind a frame has.
+const IDLES: usize = 11;
+
 // The state after n symbols were written: each timer is lowered by them.
 fn state_sent(state: State, n: usize) -> State
     ensures { λ r. ⌜ r ≡ stateSent state n ⌝ }
@@ -257,7 +260,7 @@ pub fn send_client(
     if let Checked::Refused(x) = checked {
         return refused(x, place, state);
     }
-    let next = writing::client_at(octets, marks, place, s, client, data);
+    let next = writing::client_at(octets, marks, place, s, client, data, IDLES);
     wrote(state, place, next)
 }
 
@@ -277,7 +280,7 @@ pub fn send_pause(
     if let Checked::Refused(x) = checked {
         return refused(x, place, state);
     }
-    let next = writing::pause_at(octets, marks, place, s, quanta);
+    let next = writing::pause_at(octets, marks, place, s, quanta, IDLES);
     wrote(state, place, next)
 }
 
@@ -297,7 +300,7 @@ pub fn send_pfc(
     if let Checked::Refused(x) = checked {
         return refused(x, place, state);
     }
-    let next = writing::pfc_at(octets, marks, place, s, classes);
+    let next = writing::pfc_at(octets, marks, place, s, classes, IDLES);
     wrote(state, place, next)
 }
 

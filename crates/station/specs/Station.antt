@@ -31,6 +31,13 @@ unfoldable pub total : List ℕ → ℕ
 total [] = 0
 total (c ∷ cs) = c + total cs
 
+-- "The state is these eleven counters and the eight timers below": a state with other counters, and one with other timers. Nothing else of it changes.
+abbrev pub withCounters : List ℕ → State → State
+withCounters cs st = record { counters = cs; timers = st .timers }
+
+abbrev pub withTimers : List Slots → State → State
+withTimers ts st = record { counters = st .counters; timers = ts }
+
 -- "a fresh state is all zeros"
 unfoldable pub fresh : State
 fresh = record { counters = replicate 11 0; timers = replicate 8 (record { 0 = 0 }) }

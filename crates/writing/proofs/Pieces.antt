@@ -11,7 +11,7 @@ use lib.Dec.{eqb}
 use lib.Seq.{sets, drop-cons}
 use lib.ListN.{length, getD, take, drop, replicate, length-append, length-replicate, drop-of-length-le}
 use borrow.Rule.Slice.PartMut.{midOf, putMid}
-use Rattle.line.specs.Line.{Symbol, octetsOf, marksOf, asData, asControl, overwrite, preamble, idle}
+use Rattle.line.specs.Line.{Symbol, octetsOf, marksOf, asData, asControl, overwrite, preamble, idle, terminate}
 use Rattle.line.specs.Octets.{highFirst, between}
 use Rattle.line.proofs.Buffers.{octetsOf-append, marksOf-append, length-octetsOf, length-marksOf}
 use Rattle.line.proofs.Octets.{between-middle}
@@ -45,13 +45,13 @@ pub control-size : (own : Address) (opcode : ℕ) → length (own .0) ≡ 6 → 
 unfolding controlOf
 control-size own opcode o = simp (length-append, two, head-size reservedGroup own group-six o)
 
-pub end-size : (os : List ℕ) (at : ℕ) → length (endOf os at) ≡ 16
+pub end-size : (idles : ℕ) (os : List ℕ) (at : ℕ) → length (endOf idles os at) ≡ idles + 5
 unfolding endOf gapOctets
-end-size os at = simp (length-append, fcs-four)
+end-size idles os at = simp (length-append, fcs-four, length-replicate) (omega arith)
 
-pub marks-size : (n : ℕ) → 13 ≤ n → length (frameMarks n) ≡ n
+pub marks-size : (idles n : ℕ) → idles + 2 ≤ n → length (frameMarks idles n) ≡ n
 unfolding frameMarks
-marks-size n h = simp (length-append, length-replicate) (omega arith)
+marks-size idles n h = simp (length-append, length-replicate) (omega arith)
 
 -- ---- each body, associated as it is written
 
@@ -126,26 +126,26 @@ unfolding marksOf asControl idleSymbols
 idle-marks zero = refl
 idle-marks (suc n) = ap (λ (t : List ℕ). 1 ∷ t) (idle-marks n)
 
-gap-octets : octetsOf gap ≡ gapOctets
-unfolding octetsOf asControl gap gapOctets
-gap-octets = refl
+gap-octets : (idles : ℕ) → octetsOf (gap idles) ≡ gapOctets idles
+unfolding octetsOf asControl gap gapOctets idleSymbols
+gap-octets idles = ap (λ (t : List ℕ). terminate ∷ t) (idle-octets idles)
 
-gap-marks : marksOf gap ≡ replicate 12 1
-unfolding marksOf asControl gap
-gap-marks = refl
+gap-marks : (idles : ℕ) → marksOf (gap idles) ≡ replicate (idles + 1) 1
+unfolding marksOf asControl gap idleSymbols
+gap-marks idles = ap (λ (t : List ℕ). 1 ∷ t) (idle-marks idles) ∙ ap (λ (n : ℕ). replicate n 1) (sym (add-one idles))
 
-pub line-octets : (body : List ℕ) → octetsOf (onLine body) ≡ (lead ++ body) ++ (fcs body ++ gapOctets)
+pub line-octets : (idles : ℕ) (body : List ℕ) → octetsOf (onLine idles body) ≡ (lead ++ body) ++ (fcs body ++ gapOctets idles)
 unfolding octetsOf asControl onLine lead
-line-octets body = simp (octetsOf-append, data-octets, gap-octets, append-assoc)
+line-octets idles body = simp (octetsOf-append, data-octets, gap-octets, append-assoc)
 
 seven : length preamble ≡ 7
 unfolding preamble
 seven = refl
 
-pub line-marks : (body : List ℕ) → marksOf (onLine body) ≡ frameMarks (24 + length body)
+pub line-marks : (idles : ℕ) (body : List ℕ) → marksOf (onLine idles body) ≡ frameMarks idles (13 + idles + length body)
 unfolding marksOf asControl onLine frameMarks
-line-marks body =
-    let n : length (preamble ++ (body ++ fcs body)) ≡ (24 + length body) - 13 = simp (length-append, fcs-four, seven) (omega arith) in
+line-marks idles body =
+    let n : length (preamble ++ (body ++ fcs body)) ≡ (13 + idles + length body) - (idles + 2) = simp (length-append, fcs-four, seven) (omega arith) in
     simp (marksOf-append, data-marks, gap-marks, n)
 
 -- ---- a frame that is written up to its FCS, and then finished
@@ -160,20 +160,22 @@ covered {os} {os₁} {body} {e} p h =
     ap (λ (l : List ℕ). between l 8 e) (put-overwrite p (omega (arith, p .goes)) ∙ append-assoc lead body rest)
     ∙ between-middle lead body rest 8 e lead-size (omega (arith, p .goes))
 
-pub frame-laid : (body : List ℕ) {os ms os₁ os′ ms′ : List ℕ} {e r : ℕ} → Put os 0 (lead ++ body) e os₁ → Put os₁ e (endOf os₁ e) r os′
-    → Put ms 0 (frameMarks r) r ms′ → length (onLine body) ≤ length os → length (onLine body) ≤ length ms → Laid os ms 0 (onLine body) r os′ ms′
+pub frame-laid : (idles : ℕ) (body : List ℕ) {os ms os₁ os′ ms′ : List ℕ} {e r : ℕ} → Put os 0 (lead ++ body) e os₁ → Put os₁ e (endOf idles os₁ e) r os′
+    → Put ms 0 (frameMarks idles r) r ms′ → length (onLine idles body) ≤ length os → length (onLine idles body) ≤ length ms
+    → Laid os ms 0 (onLine idles body) r os′ ms′
 unfolding endOf
-frame-laid body {os} {ms} {os₁} {os′} {ms′} {e} {r} front end marks room room′ =
-    let size = line-size body in
+frame-laid idles body {os} {ms} {os₁} {os′} {ms′} {e} {r} front end marks room room′ =
+    let size = line-size idles body in
     let n : length (lead ++ body) ≡ 8 + length body = simp (length-append, lead-size) in
     let whole = front ⨾ rw (covered front (omega (arith, front .goes))) at end in
-    let k : length ((lead ++ body) ++ (fcs body ++ gapOctets)) ≡ length (onLine body) = ap length (sym (line-octets body)) ∙ length-octetsOf (onLine body) in
-    let last : r ≡ 24 + length body = omega (arith, whole .goes) in
-    let m = marks-size r (omega arith) in
+    let k : length ((lead ++ body) ++ (fcs body ++ gapOctets idles)) ≡ length (onLine idles body) =
+    ap length (sym (line-octets idles body)) ∙ length-octetsOf (onLine idles body) in
+    let last : r ≡ 13 + idles + length body = omega (arith, whole .goes) in
+    let m = marks-size idles r (omega arith) in
     record {
       goes = omega arith;
-      octets = put-overwrite whole (omega arith) ∙ ap (overwrite os 0) (sym (line-octets body));
-      marks = put-overwrite marks (omega arith) ∙ ap (overwrite ms 0) (ap frameMarks last ∙ sym (line-marks body));
+      octets = put-overwrite whole (omega arith) ∙ ap (overwrite os 0) (sym (line-octets idles body));
+      marks = put-overwrite marks (omega arith) ∙ ap (overwrite ms 0) (ap (frameMarks idles) last ∙ sym (line-marks idles body));
     }
 
 pub idle-laid : (n : ℕ) {os ms os′ ms′ : List ℕ} {e r : ℕ} → Put os 0 (replicate n idle) e os′ → Put ms 0 (replicate n 1) r ms′ → n ≤ length os → n ≤ length ms

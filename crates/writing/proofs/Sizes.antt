@@ -28,9 +28,9 @@ unfolding reservedGroup
 group-six = refl
 
 -- what a frame's octets up to the FCS take, and what the line adds: Start, preamble, FCS and gap
-pub line-size : (body : List ℕ) → length (onLine body) ≡ 24 + length body
+pub line-size : (idles : ℕ) (body : List ℕ) → length (onLine idles body) ≡ 13 + idles + length body
 unfolding onLine gap preamble
-line-size body = simp (length-append, length-map, fcs-four) (omega arith)
+line-size idles body = simp (length-append, length-map, length-replicate, fcs-four) (omega arith)
 
 pub padded-size : (d : List ℕ) → length (padded d) ≡ length d + (46 - length d)
 unfolding padded
@@ -41,18 +41,18 @@ pub client-body-size : (s : Settings) (c : Client) (d : List ℕ) → length (c 
 unfolding clientBody
 client-body-size s c d dest own = simp (length-append, two, tag-length, padded-size) (omega arith)
 
-pub client-size : (s : Settings) (c : Client) (d : List ℕ) → length (c .dest .0) ≡ 6 → length (s .own .0) ≡ 6
-    → length (clientSymbols s c d) ≡ 38 + 4 * length (tagsSent c) + (length d + (46 - length d))
+pub client-size : (idles : ℕ) (s : Settings) (c : Client) (d : List ℕ) → length (c .dest .0) ≡ 6 → length (s .own .0) ≡ 6
+    → length (clientSymbols idles s c d) ≡ 27 + idles + 4 * length (tagsSent c) + (length d + (46 - length d))
 unfolding clientSymbols
-client-size s c d dest own = simp (line-size, client-body-size s c d dest own) (omega arith)
+client-size idles s c d dest own = simp (line-size, client-body-size s c d dest own) (omega arith)
 
 pub pause-body-size : (s : Settings) (q : Quanta) → length (s .own .0) ≡ 6 → length (pauseBody s q) ≡ 60
 unfolding pauseBody
 pause-body-size s q own = simp (length-append, two, group-six, length-replicate) (omega arith)
 
-pub pause-size : (s : Settings) (q : Quanta) → length (s .own .0) ≡ 6 → length (pauseSymbols s q) ≡ 84
+pub pause-size : (idles : ℕ) (s : Settings) (q : Quanta) → length (s .own .0) ≡ 6 → length (pauseSymbols idles s q) ≡ 73 + idles
 unfolding pauseSymbols
-pause-size s q own = simp (line-size, pause-body-size s q own)
+pause-size idles s q own = simp (line-size, pause-body-size s q own) (omega arith)
 
 pub quanta-size : (named : ℕ) (qs : List Quanta) → length (classQuanta named qs) ≡ 2 * length qs
 unfolding classQuanta
@@ -63,9 +63,9 @@ pub pfc-body-size : (s : Settings) (k : Classes) → length (s .own .0) ≡ 6 �
 unfolding pfcBody
 pfc-body-size s k own eight = simp (length-append, two, group-six, quanta-size, length-replicate) (omega arith)
 
-pub pfc-size : (s : Settings) (k : Classes) → length (s .own .0) ≡ 6 → length (k .quanta) ≡ 8 → length (pfcSymbols s k) ≡ 84
+pub pfc-size : (idles : ℕ) (s : Settings) (k : Classes) → length (s .own .0) ≡ 6 → length (k .quanta) ≡ 8 → length (pfcSymbols idles s k) ≡ 73 + idles
 unfolding pfcSymbols
-pfc-size s k own eight = simp (line-size, pfc-body-size s k own eight)
+pfc-size idles s k own eight = simp (line-size, pfc-body-size s k own eight) (omega arith)
 
 pub idle-size : (n : ℕ) → length (idleSymbols n) ≡ n
 unfolding idleSymbols

@@ -47,16 +47,21 @@ padded d = d ++ replicate (46 - length d) 0
 unfoldable pub clientBody : Settings → Client → List ℕ → List ℕ
 clientBody s c d = c .dest .0 ++ (s .own .0 ++ (tagOctets (tagsSent c) ++ (highFirst (fieldSent (c .form) d) ++ padded d)))
 
--- "one Terminate and eleven Idles". Item 5 of document 02 gives this the place and the deficit count.
-unfoldable pub gap : List Symbol
-gap = asControl terminate ∷ replicate 11 (asControl idle)
+-- "one Terminate and eleven Idles": the gap, of a number of Idles, since item 5 of document 02 makes it vary by the place and the deficit count
+unfoldable pub gap : ℕ → List Symbol
+gap idles = asControl terminate ∷ replicate idles (asControl idle)
 
--- The line: "Start; six data octets 0x55; data 0xD5 …; the frame from destination to FCS; Terminate; Idle", of what the FCS covers
-unfoldable pub onLine : List ℕ → List Symbol
-onLine body = asControl start ∷ (map asData (preamble ++ (body ++ fcs body)) ++ gap)
+-- and how many of them every call writes
+abbrev pub plainIdles : ℕ
+plainIdles = 11
 
-unfoldable pub clientSymbols : Settings → Client → List ℕ → List Symbol
-clientSymbols s c d = onLine (clientBody s c d)
+-- The line: "Start; six data octets 0x55; data 0xD5 …; the frame from destination to FCS; Terminate; Idle", with a gap of so many Idles, of what the
+-- FCS covers
+unfoldable pub onLine : ℕ → List ℕ → List Symbol
+onLine idles body = asControl start ∷ (map asData (preamble ++ (body ++ fcs body)) ++ gap idles)
+
+unfoldable pub clientSymbols : ℕ → Settings → Client → List ℕ → List Symbol
+clientSymbols idles s c d = onLine idles (clientBody s c d)
 
 -- ---- Pause, PFC and Idle fill
 
@@ -77,11 +82,11 @@ pfcBody s k =
     ++ (highFirst 0x8808 ++ (highFirst 0x0101 ++ (0 ∷ k .named ∷ (classQuanta (k .named) (k .quanta) ++ replicate 26 0)))))
 
 -- "Both get preamble, FCS and gap like others"
-unfoldable pub pauseSymbols : Settings → Quanta → List Symbol
-pauseSymbols s q = onLine (pauseBody s q)
+unfoldable pub pauseSymbols : ℕ → Settings → Quanta → List Symbol
+pauseSymbols idles s q = onLine idles (pauseBody s q)
 
-unfoldable pub pfcSymbols : Settings → Classes → List Symbol
-pfcSymbols s k = onLine (pfcBody s k)
+unfoldable pub pfcSymbols : ℕ → Settings → Classes → List Symbol
+pfcSymbols idles s k = onLine idles (pfcBody s k)
 
 -- "Idle fill writes a stated number of Idles."
 unfoldable pub idleSymbols : ℕ → List Symbol

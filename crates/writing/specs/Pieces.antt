@@ -20,17 +20,17 @@ headOf dest own = (lead ++ dest) ++ own .0
 unfoldable pub controlOf : Address → ℕ → List ℕ
 controlOf own opcode = (headOf reservedGroup own ++ highFirst 0x8808) ++ highFirst opcode
 
--- the octets and the marks of the gap
-unfoldable pub gapOctets : List ℕ
-gapOctets = (terminate ∷ []) ++ replicate 11 idle
+-- the octets of the gap
+unfoldable pub gapOctets : ℕ → List ℕ
+gapOctets idles = (terminate ∷ []) ++ replicate idles idle
 
 -- what is written after the octets `os` up to place `at`: the FCS of all but Start and the preamble, and the gap
-unfoldable pub endOf : List ℕ → ℕ → List ℕ
-endOf os at = fcs (between os 8 at) ++ gapOctets
+unfoldable pub endOf : ℕ → List ℕ → ℕ → List ℕ
+endOf idles os at = fcs (between os 8 at) ++ gapOctets idles
 
 -- the marks of a frame of n symbols: Start is control, then all is data but the gap
-unfoldable pub frameMarks : ℕ → List ℕ
-frameMarks n = ((1 ∷ []) ++ replicate (n - 13) 0) ++ replicate 12 1
+unfoldable pub frameMarks : ℕ → ℕ → List ℕ
+frameMarks idles n = ((1 ∷ []) ++ replicate (n - (idles + 2)) 0) ++ replicate (idles + 1) 1
 
 -- the symbols `new` were written over the buffers `os` and `ms` from `at` on: the next place, and what both hold now
 pub record Laid (os ms : List ℕ) (at : ℕ) (new : List Symbol) (next : ℕ) (os′ ms′ : List ℕ) : Type 0 where

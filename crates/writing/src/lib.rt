@@ -214,71 +214,84 @@ fn put_pfc(octets: &mut [u8], s: Settings, classes: Classes) -> usize
 
 // ---- what all frames end in
 
-// The gap: Terminate and eleven Idles.
-fn put_gap(octets: &mut [u8], at: usize) -> usize
-    requires { ⌜ at + 12 ≤ length (now octets) ⌝ }
-    ensures { λ r. ⌜ Put (now (octets .entry)) at gapOctets r (now (octets .exit)) ⌝ }
+// The gap: Terminate and Idles.
+fn put_gap(octets: &mut [u8], at: usize, idles: usize) -> usize
+    requires { ⌜ at + (idles + 1) ≤ length (now octets) ⌝ }
+    ensures { λ r. ⌜ Put (now (octets .entry)) at (gapOctets idles) r (now (octets .exit)) ⌝ }
 {
     let a = put(octets, at, &[0xFD]);
-    fill(octets, a, 11, 0x07)
+    fill(octets, a, idles, 0x07)
 }
 
 // The FCS of a frame that is written up to `at`, and the gap.
-fn put_end(octets: &mut [u8], at: usize) -> usize
-    requires { ⌜ (8 ≤ at) × (at + 16 ≤ length (now octets)) ⌝ }
-    ensures { λ r. ⌜ Put (now (octets .entry)) at (endOf (now (octets .entry)) at) r (now (octets .exit)) ⌝ }
+fn put_end(octets: &mut [u8], at: usize, idles: usize) -> usize
+    requires { ⌜ (8 ≤ at) × (at + (idles + 5) ≤ length (now octets)) ⌝ }
+    ensures { λ r. ⌜ Put (now (octets .entry)) at (endOf idles (now (octets .entry)) at) r (now (octets .exit)) ⌝ }
 {
     let check = fcs::octets(fcs::check(&octets[8..at]));
     let a = put(octets, at, &check);
-    put_gap(octets, a)
+    put_gap(octets, a, idles)
 }
 
 // The marks of a frame of n symbols.
-fn put_marks(marks: &mut [u8], n: usize) -> usize
-    requires { ⌜ (13 ≤ n) × (n ≤ length (now marks)) ⌝ }
-    ensures { λ r. ⌜ Put (now (marks .entry)) 0 (frameMarks n) r (now (marks .exit)) ⌝ }
+fn put_marks(marks: &mut [u8], n: usize, idles: usize) -> usize
+    requires { ⌜ (idles + 2 ≤ n) × (n ≤ length (now marks)) ⌝ }
+    ensures { λ r. ⌜ Put (now (marks .entry)) 0 (frameMarks idles n) r (now (marks .exit)) ⌝ }
 {
     let a = put(marks, 0, &[1]);
-    let b = fill(marks, a, n - 13, 0);
-    fill(marks, b, 12, 1)
+    let b = fill(marks, a, n - (idles + 2), 0);
+    fill(marks, b, idles + 1, 1)
 }
 
 // ---- frames and Idles, written from the start of two lent parts
 
 // A frame that is written up to its FCS at `at`: its marks, and then, as the octets are in memory by now, its end.
-fn finish(octets: &mut [u8], marks: &mut [u8], at: usize) -> usize
-    requires { ⌜ (8 ≤ at) × (at + 16 ≤ length (now octets)) × (at + 16 ≤ length (now marks)) ⌝ }
-    ensures octets { λ r. ⌜ Put (now (octets .entry)) at (endOf (now (octets .entry)) at) r (now (octets .exit)) ⌝ }
-    ensures marks { λ r. ⌜ Put (now (marks .entry)) 0 (frameMarks r) r (now (marks .exit)) ⌝ }
+fn finish(octets: &mut [u8], marks: &mut [u8], at: usize, idles: usize) -> usize
+    requires { ⌜ (8 ≤ at) × (at + (idles + 5) ≤ length (now octets)) × (at + (idles + 5) ≤ length (now marks)) ⌝ }
+    ensures octets { λ r. ⌜ Put (now (octets .entry)) at (endOf idles (now (octets .entry)) at) r (now (octets .exit)) ⌝ }
+    ensures marks { λ r. ⌜ Put (now (marks .entry)) 0 (frameMarks idles r) r (now (marks .exit)) ⌝ }
 {
-    put_marks(marks, at + 16);
-    put_end(octets, at)
+    put_marks(marks, at + (idles + 5), idles);
+    put_end(octets, at, idles)
 }
 
-fn write_client(octets: &mut [u8], marks: &mut [u8], s: Settings, client: Client, d: &[u8]) -> usize
-    requires { ⌜ (length (clientSymbols s client (now d)) ≤ length (now octets))
-        × (length (clientSymbols s client (now d)) ≤ length (now marks)) × (length (now d) < 65536) × (client .count ≤ 8) ⌝ }
-    ensures { λ r. ⌜ Laid (now (octets .entry)) (now (marks .entry)) 0 (clientSymbols s client (now (d .entry))) r
+fn write_client(
+    octets: &mut [u8],
+    marks: &mut [u8],
+    s: Settings,
+    client: Client,
+    d: &[u8],
+    idles: usize,
+) -> usize
+    requires { ⌜ (length (clientSymbols idles s client (now d)) ≤ length (now octets))
+        × (length (clientSymbols idles s client (now d)) ≤ length (now marks)) × (length (now d) < 65536) × (client .count ≤ 8) ⌝ }
+    ensures { λ r. ⌜ Laid (now (octets .entry)) (now (marks .entry)) 0 (clientSymbols idles s client (now (d .entry))) r
         (now (octets .exit)) (now (marks .exit)) ⌝ }
 {
     let a = put_client(octets, s, client, d);
-    finish(octets, marks, a)
+    finish(octets, marks, a, idles)
 }
 
-fn write_pause(octets: &mut [u8], marks: &mut [u8], s: Settings, q: Quanta) -> usize
-    requires { ⌜ (length (pauseSymbols s q) ≤ length (now octets)) × (length (pauseSymbols s q) ≤ length (now marks)) ⌝ }
-    ensures { λ r. ⌜ Laid (now (octets .entry)) (now (marks .entry)) 0 (pauseSymbols s q) r (now (octets .exit)) (now (marks .exit)) ⌝ }
+fn write_pause(octets: &mut [u8], marks: &mut [u8], s: Settings, q: Quanta, idles: usize) -> usize
+    requires { ⌜ (length (pauseSymbols idles s q) ≤ length (now octets)) × (length (pauseSymbols idles s q) ≤ length (now marks)) ⌝ }
+    ensures { λ r. ⌜ Laid (now (octets .entry)) (now (marks .entry)) 0 (pauseSymbols idles s q) r (now (octets .exit)) (now (marks .exit)) ⌝ }
 {
     let a = put_pause(octets, s, q);
-    finish(octets, marks, a)
+    finish(octets, marks, a, idles)
 }
 
-fn write_pfc(octets: &mut [u8], marks: &mut [u8], s: Settings, classes: Classes) -> usize
-    requires { ⌜ (length (pfcSymbols s classes) ≤ length (now octets)) × (length (pfcSymbols s classes) ≤ length (now marks)) ⌝ }
-    ensures { λ r. ⌜ Laid (now (octets .entry)) (now (marks .entry)) 0 (pfcSymbols s classes) r (now (octets .exit)) (now (marks .exit)) ⌝ }
+fn write_pfc(
+    octets: &mut [u8],
+    marks: &mut [u8],
+    s: Settings,
+    classes: Classes,
+    idles: usize,
+) -> usize
+    requires { ⌜ (length (pfcSymbols idles s classes) ≤ length (now octets)) × (length (pfcSymbols idles s classes) ≤ length (now marks)) ⌝ }
+    ensures { λ r. ⌜ Laid (now (octets .entry)) (now (marks .entry)) 0 (pfcSymbols idles s classes) r (now (octets .exit)) (now (marks .exit)) ⌝ }
 {
     let a = put_pfc(octets, s, classes);
-    finish(octets, marks, a)
+    finish(octets, marks, a, idles)
 }
 
 fn write_idle(octets: &mut [u8], marks: &mut [u8], n: usize) -> usize
@@ -299,20 +312,36 @@ pub fn client_at(
     s: Settings,
     client: Client,
     d: &[u8],
+    idles: usize,
 ) -> usize
-    requires { ⌜ (place + length (clientSymbols s client (now d)) ≤ length (now octets))
-        × (place + length (clientSymbols s client (now d)) ≤ length (now marks)) × (length (now d) < 65536) × (client .count ≤ 8) ⌝ }
-    ensures { λ r. ⌜ Laid (now (octets .entry)) (now (marks .entry)) place (clientSymbols s client (now (d .entry))) r
+    requires { ⌜ (place + length (clientSymbols idles s client (now d)) ≤ length (now octets))
+        × (place + length (clientSymbols idles s client (now d)) ≤ length (now marks)) × (length (now d) < 65536) × (client .count ≤ 8) ⌝ }
+    ensures { λ r. ⌜ Laid (now (octets .entry)) (now (marks .entry)) place (clientSymbols idles s client (now (d .entry))) r
         (now (octets .exit)) (now (marks .exit)) ⌝ }
 {
-    place + write_client(&mut octets[place..], &mut marks[place..], s, client, d)
+    place
+        + write_client(
+            &mut octets[place..],
+            &mut marks[place..],
+            s,
+            client,
+            d,
+            idles,
+        )
 }
 
-pub fn pause_at(octets: &mut [u8], marks: &mut [u8], place: usize, s: Settings, q: Quanta) -> usize
-    requires { ⌜ (place + length (pauseSymbols s q) ≤ length (now octets)) × (place + length (pauseSymbols s q) ≤ length (now marks)) ⌝ }
-    ensures { λ r. ⌜ Laid (now (octets .entry)) (now (marks .entry)) place (pauseSymbols s q) r (now (octets .exit)) (now (marks .exit)) ⌝ }
+pub fn pause_at(
+    octets: &mut [u8],
+    marks: &mut [u8],
+    place: usize,
+    s: Settings,
+    q: Quanta,
+    idles: usize,
+) -> usize
+    requires { ⌜ (place + length (pauseSymbols idles s q) ≤ length (now octets)) × (place + length (pauseSymbols idles s q) ≤ length (now marks)) ⌝ }
+    ensures { λ r. ⌜ Laid (now (octets .entry)) (now (marks .entry)) place (pauseSymbols idles s q) r (now (octets .exit)) (now (marks .exit)) ⌝ }
 {
-    place + write_pause(&mut octets[place..], &mut marks[place..], s, q)
+    place + write_pause(&mut octets[place..], &mut marks[place..], s, q, idles)
 }
 
 pub fn pfc_at(
@@ -321,11 +350,12 @@ pub fn pfc_at(
     place: usize,
     s: Settings,
     classes: Classes,
+    idles: usize,
 ) -> usize
-    requires { ⌜ (place + length (pfcSymbols s classes) ≤ length (now octets)) × (place + length (pfcSymbols s classes) ≤ length (now marks)) ⌝ }
-    ensures { λ r. ⌜ Laid (now (octets .entry)) (now (marks .entry)) place (pfcSymbols s classes) r (now (octets .exit)) (now (marks .exit)) ⌝ }
+    requires { ⌜ (place + length (pfcSymbols idles s classes) ≤ length (now octets)) × (place + length (pfcSymbols idles s classes) ≤ length (now marks)) ⌝ }
+    ensures { λ r. ⌜ Laid (now (octets .entry)) (now (marks .entry)) place (pfcSymbols idles s classes) r (now (octets .exit)) (now (marks .exit)) ⌝ }
 {
-    place + write_pfc(&mut octets[place..], &mut marks[place..], s, classes)
+    place + write_pfc(&mut octets[place..], &mut marks[place..], s, classes, idles)
 }
 
 pub fn idle_at(octets: &mut [u8], marks: &mut [u8], place: usize, n: usize) -> usize

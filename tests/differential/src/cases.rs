@@ -3,16 +3,18 @@
 use crate::compare::{Bench, Difference, Lent};
 use crate::generate::{self, Sending, Symbols, IDLE, START, TERMINATE};
 use crate::prng::Prng;
+use crate::records;
 use reference::{Client, Flow, Form, Settings};
 
-/// Makes the calls of one case.
-pub fn run(bench: &mut Bench, case: u64) -> Result<(), Difference> {
-    let mut prng = bench.begin(case);
-    match prng.below(16) {
+/// Makes the calls of one case of a seed.
+pub fn run(bench: &mut Bench, seed: u64, case: u64) -> Result<(), Difference> {
+    let mut prng = bench.begin(seed, case);
+    match prng.below(18) {
         0..=7 => reading(bench, &mut prng),
         8..=13 => sending(bench, &mut prng),
         14 => holding(bench, &mut prng),
-        _ => checking(bench, &mut prng),
+        15 => checking(bench, &mut prng),
+        _ => records(bench, &mut prng),
     }
 }
 
@@ -127,4 +129,50 @@ fn checking(bench: &mut Bench, prng: &mut Prng) -> Result<(), Difference> {
     }
     let (first, second) = octets.split_at(prng.below(n + 1));
     bench.fcs_from(first, second)
+}
+
+/// Any records through the C face: a capture is walked and read, or buffers are written into.
+fn records(bench: &mut Bench, prng: &mut Prng) -> Result<(), Difference> {
+    let drawn = generate::settings(prng);
+    let mut settings = generate::settings_record(prng, &drawn);
+    if prng.one_in(8) {
+        generate::spoil(prng, &mut settings.0);
+    }
+    let s = records::settings(&settings);
+    if prng.coin() {
+        let symbols = generate::capture(prng, &s);
+        let lent = lend(prng, &symbols);
+        for _ in 0..prng.between(3, 6) {
+            let state = generate::state(prng);
+            let mut numbers = generate::state_record(prng, &state);
+            let place = generate::place(prng, &symbols);
+            bench.c_read(&settings, &mut numbers, &lent, place)?;
+        }
+        let state = generate::state(prng);
+        let mut numbers = generate::state_record(prng, &state);
+        return bench.c_walk(&settings, &mut numbers, &lent);
+    }
+    let symbols = generate::blank_line(prng, &s);
+    let mut lent = lend(prng, &symbols);
+    let length = symbols.octets.len();
+    for _ in 0..prng.between(3, 6) {
+        let mut call = generate::sending(prng, &s, length);
+        let client = match &mut call {
+            Sending::Client(client, _) => {
+                let mut record = generate::client_record(prng, client);
+                if prng.one_in(8) {
+                    generate::spoil(prng, &mut record.0);
+                }
+                *client = records::client(&record);
+                Some(record)
+            }
+            _ => None,
+        };
+        let state = generate::timed(prng, &call);
+        let mut numbers = generate::state_record(prng, &state);
+        let place = generate::sending_place(prng, length, 0, &call);
+        let sending = (&call, client.as_ref());
+        bench.c_send(&settings, &mut numbers, &mut lent, place, sending)?;
+    }
+    bench.c_part(prng)
 }

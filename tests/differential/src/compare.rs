@@ -3,8 +3,8 @@ use crate::coverage::Coverage;
 use crate::generate::{Sending, Symbols};
 use crate::prng::Prng;
 use crate::seen::{By, FcsSeen, ReadingSeen, SendingSeen, WalkSeen};
-use crate::{face, show};
-use fenhamper::{Capture, Fcs, Sender};
+use crate::{face, names, show};
+use fenhamper::{Capture, Counted, Fcs, Refusal, Sender};
 use reference::{Answer, Check, Reading, Sent, Settings, State};
 use std::fmt;
 
@@ -39,7 +39,8 @@ impl Lent {
         &self.marks[AROUND..self.marks.len() - AROUND]
     }
 
-    fn both(&mut self) -> (&mut [u8], &mut [u8]) {
+    /// Both, to be written into.
+    pub(crate) fn both(&mut self) -> (&mut [u8], &mut [u8]) {
         let (octets, marks) = (self.octets.len() - AROUND, self.marks.len() - AROUND);
         (
             &mut self.octets[AROUND..octets],
@@ -90,20 +91,20 @@ impl fmt::Display for Difference {
 pub struct Bench {
     seed: u64,
     case: u64,
-    calls: u64,
+    pub(crate) calls: u64,
     /// A difference shows its inputs in full.
-    whole: bool,
+    pub(crate) whole: bool,
     /// How the reference checks.
-    check: Check,
+    pub(crate) check: Check,
     /// What was hit so far.
     pub coverage: Coverage,
 }
 
 impl Bench {
-    /// A bench for this seed.
-    pub fn new(seed: u64, whole: bool) -> Bench {
+    /// A bench before any call.
+    pub fn new(whole: bool) -> Bench {
         Bench {
-            seed,
+            seed: 0,
             case: 0,
             calls: 0,
             whole,
@@ -117,16 +118,16 @@ impl Bench {
         self.calls
     }
 
-    /// Begins a case: its numbers, and how the reference checks in it.
-    pub fn begin(&mut self, case: u64) -> Prng {
-        let mut prng = Prng::new(self.seed, case);
-        self.case = case;
+    /// Begins a case of a seed: its numbers, and how the reference checks in it.
+    pub fn begin(&mut self, seed: u64, case: u64) -> Prng {
+        let mut prng = Prng::new(seed, case);
+        (self.seed, self.case) = (seed, case);
         self.check = prng.pick(&[Check::Bitwise, Check::ByteTable, Check::Slicing16]);
         prng
     }
 
     /// Compares one thing that came out of a call; the inputs are written out only if it differs.
-    fn same<T: PartialEq + fmt::Debug>(
+    pub(crate) fn same<T: PartialEq + fmt::Debug>(
         &self,
         (call, thing): (&str, &str),
         (library, reference): (T, T),
@@ -149,6 +150,57 @@ impl Bench {
         )))
     }
 
+    /// Compares buffers, each whole.
+    pub(crate) fn same_lent(
+        &self,
+        call: &str,
+        (library, reference): (&Lent, &Lent),
+        inputs: impl Fn() -> String,
+    ) -> Result<(), Difference> {
+        if library == reference {
+            return Ok(());
+        }
+        let octets = first_other(&library.octets, &reference.octets);
+        self.same((call, "octets, first other"), (octets, None), &inputs)?;
+        let marks = first_other(&library.marks, &reference.marks);
+        self.same((call, "marks, first other"), (marks, None), &inputs)
+    }
+
+    /// What a counted reading hands out, and how it is told: the data, the outcome's name and the
+    /// status word's parts.
+    fn counted(
+        &self,
+        call: &str,
+        counted: &Counted,
+        octets: &[u8],
+        expected: Reading,
+        inputs: impl Fn() -> String,
+    ) -> Result<(), Difference> {
+        let parts = parts(counted.data, octets, expected);
+        self.same((call, "data"), parts, &inputs)?;
+        let Answer::Counted {
+            outcome, status, ..
+        } = expected.answer
+        else {
+            return Ok(());
+        };
+        let names = (counted.outcome.name(), names::outcome(outcome));
+        self.same((call, "outcome's name"), names, &inputs)?;
+        let statuses = (face::status(counted.status), names::status(status));
+        self.same((call, "status"), statuses, &inputs)
+    }
+
+    /// How a refusal, whose number was compared, is told.
+    fn refused(
+        &self,
+        call: &str,
+        refusal: Refusal,
+        inputs: impl FnOnce() -> String,
+    ) -> Result<(), Difference> {
+        let names = (refusal.name(), names::refusal(refusal.number()));
+        self.same((call, "refusal's name"), names, inputs)
+    }
+
     /// One reading; the state goes on to that after it.
     pub fn read(
         &mut self,
@@ -168,9 +220,12 @@ impl Bench {
         let inputs = || inputs(s, &before, lent, place, self.whole);
         let readings = (face::reading(place, &answer), expected);
         self.same(("read", "reading"), readings, inputs)?;
-        if let Ok(fenhamper::Reading::Counted(counted)) = &answer {
-            let parts = parts(counted.data, octets, expected);
-            self.same(("read", "data"), parts, inputs)?;
+        match &answer {
+            Ok(fenhamper::Reading::Counted(counted)) => {
+                self.counted("read", counted, octets, expected, inputs)?;
+            }
+            Ok(_) => {}
+            Err(refusal) => self.refused("read", *refusal, inputs)?,
         }
         let states = (library_state, face::state(state));
         self.same(("read", "state"), states, inputs)?;
@@ -211,9 +266,10 @@ impl Bench {
                 Answer::Refused(_) | Answer::Counted { .. } => Some(expected),
             };
             self.same(("readings", "item"), (handed, item_expected), inputs)?;
-            if let Some(Ok(counted)) = &item {
-                let parts = parts(counted.data, octets, expected);
-                self.same(("readings", "data"), parts, inputs)?;
+            match &item {
+                Some(Ok(counted)) => self.counted("readings", counted, octets, expected, inputs)?,
+                Some(Err(refusal)) => self.refused("readings", *refusal, inputs)?,
+                None => {}
             }
             let (symbols, states) = ((octets, marks, at), (&earlier, &*state));
             let seen = ReadingSeen::new(By::Readings, s, symbols, states, expected);
@@ -245,6 +301,9 @@ impl Bench {
         let inputs = || inputs(s, &before, lent, 0, self.whole);
         let walks = (face::walked(answer), expected);
         self.same(("walk", "walk"), walks, inputs)?;
+        if let Err(refusal) = answer {
+            self.refused("walk", refusal, inputs)?;
+        }
         let states = (library_state, face::state(state));
         self.same(("walk", "state"), states, inputs)?;
         self.coverage.walk(&WalkSeen {
@@ -290,22 +349,22 @@ impl Bench {
             format!("{sending}\n{others}")
         };
         self.same((call, "answer"), (face::sent(answer), expected), inputs)?;
+        if let Err(refusal) = answer {
+            self.refused(call, refusal, inputs)?;
+        }
         let places = (place_after, written.unwrap_or(place));
         self.same((call, "place"), places, inputs)?;
         let states = (library_state, face::state(state));
         self.same((call, "state"), states, inputs)?;
-        if library_lent != *lent {
-            let octets = first_other(&library_lent.octets, &lent.octets);
-            self.same((call, "octets, first other"), (octets, None), inputs)?;
-            let marks = first_other(&library_lent.marks, &lent.marks);
-            self.same((call, "marks, first other"), (marks, None), inputs)?;
-        }
+        self.same_lent(call, (&library_lent, lent), inputs)?;
         self.coverage.sending(&SendingSeen {
             call: sending,
             s,
             lengths: (lent.octets().len(), lent.marks().len()),
             place,
             before: &before,
+            after: state,
+            octets: lent.octets(),
             sent: expected,
         });
         Ok(written)
@@ -341,7 +400,13 @@ impl Bench {
 }
 
 /// A call's inputs, to be shown if the two sides differ.
-fn inputs(s: &Settings, state: &State, lent: &Lent, place: usize, whole: bool) -> String {
+pub(crate) fn inputs(
+    s: &Settings,
+    state: &State,
+    lent: &Lent,
+    place: usize,
+    whole: bool,
+) -> String {
     let symbols = show::symbols(lent.octets(), lent.marks(), whole);
     format!("{s:?}\n{state:?}\nplace {place}\nsymbols: {symbols}")
 }
@@ -360,7 +425,8 @@ fn parts(
     ((handed.as_ptr(), handed.len()), (part.as_ptr(), part.len()))
 }
 
-fn by_reference(
+/// A sending by the reference.
+pub(crate) fn by_reference(
     check: Check,
     s: &Settings,
     state: &mut State,

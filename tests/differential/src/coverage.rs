@@ -1,5 +1,5 @@
 //! The coverage table: what has to be hit, and how often it was.
-use crate::seen::{FcsSeen, ReadingSeen, SendingSeen, WalkSeen};
+use crate::seen::{CSeen, FcsSeen, ReadingSeen, SendingSeen, WalkSeen};
 use crate::table;
 use std::fmt;
 
@@ -11,6 +11,8 @@ pub(crate) enum When {
     Walk(Box<dyn Fn(&WalkSeen) -> bool>),
     /// By a sending.
     Sending(Box<dyn Fn(&SendingSeen) -> bool>),
+    /// By a call through the C face.
+    C(Box<dyn Fn(&CSeen) -> bool>),
     /// By an FCS.
     Fcs(Box<dyn Fn(&FcsSeen) -> bool>),
 }
@@ -54,6 +56,14 @@ impl Coverage {
     pub(crate) fn sending(&mut self, seen: &SendingSeen) {
         for row in &mut self.rows {
             if let When::Sending(test) = &row.when {
+                row.count += u64::from(test(seen));
+            }
+        }
+    }
+
+    pub(crate) fn c(&mut self, seen: &CSeen) {
+        for row in &mut self.rows {
+            if let When::C(test) = &row.when {
                 row.count += u64::from(test(seen));
             }
         }

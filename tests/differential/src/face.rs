@@ -1,5 +1,6 @@
 //! The reference's values as those of the library's face, and back.
-use fenhamper::{Address, Counted, Refusal};
+use crate::names::StatusParts;
+use fenhamper::{Address, Counted, Refusal, Status};
 use reference::{Answer, Client, Flow, Form, Reading, Sent, Settings, State, Tag, TagKind, Walked};
 
 /// Settings for the library.
@@ -21,7 +22,8 @@ pub fn settings(s: &Settings) -> fenhamper::Settings {
 
 /// A state for the library. Two of them are equal only if all that the library keeps is.
 pub fn state(state: &State) -> fenhamper::State {
-    fenhamper::State::with(state.counters, state.timers)
+    let (counters, timers) = (state.counters, state.timers);
+    fenhamper::State::with(counters.map(Into::into), timers.map(Into::into))
 }
 
 /// A tag for the library.
@@ -41,6 +43,24 @@ pub fn frame(client: &Client) -> fenhamper::Frame {
         Form::Type(field) => frame.by_type(field),
     };
     frame.tags(&tags)
+}
+
+/// A status word by the face's own accessors.
+pub fn status(status: Status) -> StatusParts {
+    StatusParts {
+        bits: [
+            status.pfc(),
+            status.unicast(),
+            status.multicast(),
+            status.broadcast(),
+            status.pause(),
+            status.control(),
+            status.tagged(),
+            status.stacked(),
+        ],
+        frame_length: status.frame_length(),
+        data_length: status.data_length(),
+    }
 }
 
 /// A counted reading of the library.

@@ -1,6 +1,7 @@
 //! What a call was given and answered, taken apart for the coverage table. Everything here comes
 //! from the inputs themselves, not from what the generator meant to draw.
 use crate::generate::{Sending, PREAMBLE, RESERVED_GROUP, SYMBOLS};
+use crate::raw;
 use reference::{fcs, Answer, Check, Client, Flow, Form, Reading, Sent, Settings, State, Walked};
 
 /// The call that made a reading.
@@ -361,6 +362,10 @@ pub struct SendingSeen<'a> {
     pub place: usize,
     /// The state given.
     pub before: &'a State,
+    /// The state after.
+    pub after: &'a State,
+    /// The octets after.
+    pub octets: &'a [u8],
     /// The answer.
     pub sent: Sent,
 }
@@ -390,6 +395,20 @@ impl SendingSeen<'_> {
             Sent::Wrote(after) => Some(after - self.place),
             Sent::Refused(_) => None,
         }
+    }
+
+    /// The frame that was written, from destination to FCS; nothing where none was.
+    pub fn frame(&self) -> &[u8] {
+        match (self.sent, self.call) {
+            (Sent::Refused(_), _) | (_, Sending::Idle(_)) => &[],
+            // behind Start and preamble, before Terminate and gap
+            (Sent::Wrote(after), _) => &self.octets[self.place + 8..after - 12],
+        }
+    }
+
+    /// Are these the octets from here on in the frame that was written?
+    pub fn frame_has(&self, at: usize, octets: &[u8]) -> bool {
+        self.frame().get(at..at + octets.len()) == Some(octets)
     }
 
     /// The symbols from the place to the end.
@@ -431,6 +450,68 @@ impl SendingSeen<'_> {
             }
             _ => false,
         }
+    }
+}
+
+/// A call through the C face: the records given, besides what they mean and what was answered.
+pub struct CSeen<'a> {
+    /// The settings given; not to an Idle fill.
+    pub settings: &'a raw::Settings,
+    /// The client frame given, to the call that takes one.
+    pub client: Option<&'a raw::Client>,
+    /// The state given.
+    pub before: &'a raw::State,
+    /// The state after.
+    pub after: &'a raw::State,
+    /// The call.
+    pub call: CCall<'a>,
+}
+
+/// Which call it was, with what its records mean.
+pub enum CCall<'a> {
+    /// A reading.
+    Read(ReadingSeen<'a>),
+    /// A walk.
+    Walk(WalkSeen<'a>),
+    /// A sending.
+    Send(SendingSeen<'a>),
+}
+
+impl CSeen<'_> {
+    /// A name for it.
+    pub fn name(&self) -> &'static str {
+        match &self.call {
+            CCall::Read(_) => "read",
+            CCall::Walk(_) => "walk",
+            CCall::Send(sending) => sending.call.name(),
+        }
+    }
+
+    /// The answer's refusal, or 0.
+    pub fn refusal(&self) -> u8 {
+        match &self.call {
+            CCall::Read(reading) => reading.refusal,
+            CCall::Walk(walk) => walk.refusal(),
+            CCall::Send(sending) => sending.refusal(),
+        }
+    }
+
+    /// A reading of which this is true.
+    pub fn read(&self, test: impl FnOnce(&ReadingSeen) -> bool) -> bool {
+        matches!(&self.call, CCall::Read(reading) if test(reading))
+    }
+
+    /// A sending of which this is true.
+    pub fn sent(&self, test: impl FnOnce(&SendingSeen) -> bool) -> bool {
+        matches!(&self.call, CCall::Send(sending) if test(sending))
+    }
+
+    /// A client frame that was written, and of whose record and frame this is true.
+    pub fn client(&self, test: impl FnOnce(&[u8], &SendingSeen) -> bool) -> bool {
+        let Some(record) = self.client else {
+            return false;
+        };
+        self.sent(|w| w.wrote().is_some() && test(&record.0, w))
     }
 }
 

@@ -1,6 +1,7 @@
 //! The printing program against the reference's printer.
 use differential::generate::{capture, IDLE, START};
 use differential::prng::Prng;
+use differential::seed::seeds;
 use differential::show;
 use reference::Settings;
 use std::collections::BTreeSet;
@@ -16,7 +17,7 @@ use std::time::Duration;
 const RUN: &str = "../../tools/run_x86_64";
 /// Most records that the program reads.
 const RECORDS: usize = 32_768;
-/// Inputs drawn, besides those at the limits.
+/// Inputs drawn with each seed, besides those at the limits.
 const DRAWN: u64 = 500;
 
 /// The program, or nothing if it is to be left out.
@@ -115,6 +116,10 @@ fn kinds(text: &str) -> impl Iterator<Item = String> + '_ {
 fn compare(program: &Path, name: &str, input: &[u8], piece: usize) -> String {
     let (library, reference) = (printed(program, input, piece), reference::print(input));
     if library == reference {
+        // refused exactly if it ends in half a record or has too many, whatever both sides say
+        let whole = input.chunks_exact(2).remainder().is_empty();
+        let taken = whole && input.len() <= 2 * RECORDS;
+        assert_eq!(reference != "bad input\n", taken, "{name}");
         return reference;
     }
     let kept = Path::new(env!("CARGO_TARGET_TMPDIR")).join("input");
@@ -144,14 +149,18 @@ fn prints_what_the_reference_prints() {
     let Some(program) = program() else {
         return;
     };
-    let seed = env::var("FENHAMPER_SEED").map_or(1, |seed| seed.parse().expect("a number"));
     let mut seen = BTreeSet::new();
     for (i, input) in edges().iter().enumerate() {
         let piece = input.len().max(1);
         let text = compare(&program, &format!("edge {i}"), input, piece);
         seen.extend(kinds(&text));
     }
-    for i in 0..DRAWN {
+    let drawn_with = seeds();
+    println!("seeds {drawn_with:?}");
+    let all = drawn_with
+        .iter()
+        .flat_map(|&seed| (0..DRAWN).map(move |i| (seed, i)));
+    for (seed, i) in all {
         let mut prng = Prng::new(seed, i);
         let input = drawn(&mut prng);
         // one in eight comes in up to four pieces

@@ -1,11 +1,11 @@
--- `fcs::make_tables` meets its contract: every entry below `i` is right.
+-- `fcs::make_tables` meets its contract: every entry below `i` is right, and at the end all are.
 -- Assumes nothing.
 use mathlib.Core.Path.{_≡_}
 use Prim.Native.Nat.{ℕ, _-_, _≤_}
 use native.Mathlib.Omega.{arith}
 use lib.ListN.{length, length-set}
 use Rattle.fcs.specs.Lent.{Filled}
-use Rattle.fcs.proofs.Lent.{fill-more}
+use Rattle.fcs.proofs.Lent.{fill-more, entries-only}
 use borrow.Author.Needs.{needs}
 use Rattle.fcs.proofs.make_tables.Statement.{statement}
 use Rattle.fcs.proofs.make_tables.Tie as tie
@@ -16,11 +16,18 @@ Inv-loop t₀ i₀ t i = (i ≤ 4096) × (length t ≡ 4096) × Filled i t
 abbrev μ-loop : tie.MeasureT-loop
 μ-loop t₀ i₀ t i = 4096 - i
 
+-- the loop, from the place where an entry is made and from behind its last turn
+abbrev turn : tie.After-next-entry-arg Inv-loop μ-loop → tie.At-loop Inv-loop μ-loop
+turn c = c .before .before
+
+abbrev all : tie.After-loop Inv-loop μ-loop → tie.At-loop Inv-loop μ-loop
+all c = c .before
+
 loop-holds : tie.Need-loop-holds Inv-loop μ-loop
 loop-holds c = (search needs, c .before .pre, λ j h. omega arith)
 
 next-entry-requires : tie.Need-next-entry-requires Inv-loop μ-loop
-next-entry-requires c κs = (omega arith, c .before .before .loop .inv .2)
+next-entry-requires c κs = (omega arith, turn c .loop .inv .2)
 
 mul-t : tie.Need-mul-t Inv-loop μ-loop
 mul-t c = search needs
@@ -36,19 +43,19 @@ loop-less c = search needs
 
 loop-again : tie.Need-loop-again Inv-loop μ-loop
 loop-again c =
-    let at = c .before .before .before .loop in (
+    let at = turn (c .before) .loop in (
       search needs,
       simp length-set (omega arith),
       fill-more (at .t) (at .i) (c .next-entry .result) (omega arith) (c .next-entry .ensures) (at .inv .2),
     )
 
 same-length : tie.Need-same-length Inv-loop μ-loop
-same-length c = let at = c .before .loop in omega (arith, at .inv .1, c .before .before .before .pre)
+same-length c = let at = all c in omega (arith, at .loop .inv .1, at .before .before .pre)
 
 returns : tie.Need-returns Inv-loop μ-loop
 returns c =
-    let at = c .before .loop in
-    (at .inv .1, λ j h. at .inv .2 j (omega arith))
+    let at = all c .loop in
+    entries-only 4096 (at .t) (at .inv .1) (λ j h. at .inv .2 j (omega arith))
 
 pub make-tables-spec : {M : Type 1} → statement M
 make-tables-spec =

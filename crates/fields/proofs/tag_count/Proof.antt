@@ -1,15 +1,24 @@
--- `fields::tag_count` meets its contract: the run behind the two addresses, its first tag by the first field. Assumes nothing.
+-- `fields::tag_count` meets its contract: no tag by the first field, else the run behind the two addresses. Assumes nothing.
 use borrow.Author.Needs.{needs}
-use native.Mathlib.Omega.{arith}
-use Prim.Native.Nat.{ℕ, _+_}
-use mathlib.Core.Path.{sym, ap, _∙_}
+use borrow.Author.Tests.{not-true}
+use Prim.Native.Nat.{ℕ}
+use mathlib.Core.Path.{_≡_, sym, ap, _∙_}
+use mathlib.Core.List.{List}
 use denote.Ref.{now}
-use lib.Dec.{lit<}
+use Rattle.line.specs.Octets.{highFirstAt}
 use Rattle.fields.specs.Tags.{isTagKind, mostTags, tagCount}
 use Rattle.fields.specs.Fields.{firstField}
-use Rattle.fields.proofs.Tags.{run-none, run-more}
+use Rattle.fields.proofs.Tags.{run-none}
 use Rattle.fields.proofs.tag_count.Statement.{statement}
 use Rattle.fields.proofs.tag_count.Tie as tie
+
+-- the frame, seen from where its first field is tested, and what is tested
+abbrev frame : tie.After-is-tag-kind → List ℕ
+frame c = now (c .before .before .before .args .f)
+
+tested : (c : tie.After-is-tag-kind) → c .is-tag-kind .result ≡ isTagKind (highFirstAt (frame c) 12)
+unfolding firstField
+tested c = c .is-tag-kind .ensures ∙ ap isTagKind (c .before .first-field .ensures)
 
 first-field-requires : tie.Need-first-field-requires
 first-field-requires c κs = search needs
@@ -17,25 +26,16 @@ first-field-requires c κs = search needs
 is-tag-kind-requires : tie.Need-is-tag-kind-requires
 is-tag-kind-requires c κs = search needs
 
+returns : tie.Need-returns
+unfolding tagCount mostTags
+returns c = sym (run-none (frame (c .before)) 12 8 (sym (tested (c .before)) ∙ not-true _ (c .if1 .taken)))
+
 tag-run-requires : tie.Need-tag-run-requires
 tag-run-requires c κs = search needs
 
-add-result : tie.Need-add-result
-add-result c = omega arith
-
-returns : tie.Need-returns
-unfolding tagCount mostTags firstField
-returns c =
-    let a = c .before .before .before .before .before .args in
-    let k = sym (c .before .before .is-tag-kind .ensures ∙ ap isTagKind (c .before .before .before .first-field .ensures)) ∙ c .before .if1 .taken in
-    ap (λ (n : ℕ). 1 + n) (c .tag-run .ensures .0) ∙ sym (run-more (now (a .f)) 12 8 (lit< tt) k)
-
 returns-2 : tie.Need-returns-2
-unfolding tagCount mostTags firstField
-returns-2 c =
-    let a = c .before .before .before .before .args in
-    let k = sym (c .before .is-tag-kind .ensures ∙ ap isTagKind (c .before .before .first-field .ensures)) ∙ c .if1 .left in
-    sym (run-none (now (a .f)) 12 8 k)
+unfolding tagCount mostTags
+returns-2 c = c .tag-run .ensures .0
 
 pub tag-count-spec : {M : Type 1} → statement M
-tag-count-spec = tie.close (tie.spec first-field-requires is-tag-kind-requires tag-run-requires add-result returns returns-2)
+tag-count-spec = tie.close (tie.spec first-field-requires is-tag-kind-requires returns tag-run-requires returns-2)

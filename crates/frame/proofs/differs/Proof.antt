@@ -1,12 +1,27 @@
 -- `frame::differs` meets its contract: four octets are those of a check exactly when their number is the check. Assumes nothing.
 use borrow.Author.Needs.{needs}
-use Rattle.frame.proofs.Fcs.{last-number, last-short}
+use Rattle.frame.proofs.Fcs.{last-number, last-sum, last-short}
 use denote.Ref.{now}
 use mathlib.Core.Bool.{not}
-use mathlib.Core.Path.{sym, ap}
+use mathlib.Core.Path.{sym, ap, _∙_}
+use Prim.Native.Nat.{ℕ}
+use lib.Dec.{eqb}
 use native.Mathlib.Omega.{arith}
 use Rattle.frame.proofs.differs.Statement.{statement}
 use Rattle.frame.proofs.differs.Tie as tie
+
+-- the entry, with what is known of the octets lent, and the places behind the first three of the last four
+abbrev known : tie.After-wide32 → tie.After-shared-slice-known
+known c = c .before .before .before
+
+abbrev first : tie.After-wide322 → tie.After-wide32
+first c = c .before .before
+
+abbrev second : tie.After-wide323 → tie.After-wide322
+second c = c .before .before
+
+abbrev third : tie.After-wide324 → tie.After-wide323
+third c = c .before .before
 
 returns : tie.Need-returns
 returns c = let a = c .before .before .args in rw (last-short (now (a .f)) (a .check) (c .if1 .taken))
@@ -64,15 +79,15 @@ add-last-3 c = search needs
 
 returns-2 : tie.Need-returns-2
 returns-2 c =
-    let w = c .before .before in
-    let x = w .before .before in
-    let y = x .before .before in
-    let s = y .before .before .before .before in
-    let f = now (s .args .f) in
+    let z = third c in
+    let y = second z in
+    let x = first y in
+    let s = known x in
+    let a = s .before .args in
     ap not
-    (sym
-    (last-number f _ _ _ _ (s .args .check) (omega arith) (y .wide32 .ensures .0) (x .wide322 .ensures .0) (w .wide323 .ensures .0) (c .wide324 .ensures .0)
-    (y .wide32 .ensures .1) (x .wide322 .ensures .1) (w .wide323 .ensures .1) (c .wide324 .ensures .1) (omega arith)))
+    (ap (λ (w : ℕ). eqb w (a .check))
+    (last-sum (now (a .f)) _ _ _ _ (omega arith) (x .wide32 .ensures .0) (y .wide322 .ensures .0) (z .wide323 .ensures .0) (c .wide324 .ensures .0))
+    ∙ sym (last-number (now (a .f)) (a .check) (omega arith) (λ k. omega (arith, s .shared-slice-known .given k)) (omega arith)))
 
 pub differs-spec : {M : Type 1} → statement M
 differs-spec =

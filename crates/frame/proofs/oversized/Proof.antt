@@ -1,5 +1,6 @@
 -- `frame::oversized` meets its contract. Assumes nothing.
 use borrow.Author.Needs.{needs}
+use Prim.Native.Nat.{_≤_}
 use Rattle.fields.proofs.Tags.{tagCount-small}
 use Rattle.frame.specs.Frame.{oversized}
 use denote.Ref.{now}
@@ -7,14 +8,18 @@ use native.Mathlib.Omega.{arith}
 use Rattle.frame.proofs.oversized.Statement.{statement}
 use Rattle.frame.proofs.oversized.Tie as tie
 
+-- there are few tags, so that no sum wraps
+few : (c : tie.After-tag-count) → c .tag-count .result ≤ 8
+few c = omega (arith, c .tag-count .ensures, tagCount-small (now (c .before .before .args .f)))
+
 tag-count-requires : tie.Need-tag-count-requires
 tag-count-requires c κs = search needs
 
 mul-result : tie.Need-mul-result
-mul-result c = omega (arith, c .tag-count .ensures, tagCount-small (now (c .before .before .args .f)))
+mul-result c = omega (arith, few c)
 
 add-result : tie.Need-add-result
-add-result c = omega (arith, c .tag-count .ensures, tagCount-small (now (c .before .before .args .f)))
+add-result c = omega (arith, few c)
 
 returns : tie.Need-returns
 unfolding oversized

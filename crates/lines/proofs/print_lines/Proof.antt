@@ -2,11 +2,21 @@
 use native.Mathlib.Omega.{arith}
 use mathlib.Core.Path.{sym, _∙_}
 use denote.Ref.{now}
-use Rattle.lines.proofs.Puts.{put-as, put-counts}
+use Rattle.lines.proofs.Puts.{put-as, put-whole}
 use Rattle.lines.proofs.Records.{bad-printed}
 use borrow.Author.Needs.{needs}
 use Rattle.lines.proofs.print_lines.Statement.{statement}
 use Rattle.lines.proofs.print_lines.Tie as tie
+
+-- the test, from the two places behind it, and the entry
+abbrev bad : tie.After-put → tie.Then1
+bad c = c .before .before .before
+
+abbrev good : tie.After-print-good-arg → tie.Else1
+good c = c .before
+
+abbrev start : tie.After-bad-input → tie.Start
+start c = c .before .before
 
 bad-input-requires : tie.Need-bad-input-requires
 bad-input-requires c κs = search needs
@@ -19,16 +29,16 @@ put-requires c κs = search needs
 
 returns : tie.Need-returns
 returns c =
-    let p = put-as (bad-printed (now (c .before .before .before .before .before .before .args .input)) (sym (c .before .before .before .before .bad-input .ensures) ∙ c .before .before .before .if1 .taken)) (c .put .ensures) in
-    (p, put-counts p (omega (arith, c .put .ensures .goes)))
+    let t = bad c in
+    let b = t .before in
+    let is = bad-printed (now (start b .args .input)) (sym (b .bad-input .ensures) ∙ t .if1 .taken) in
+    put-whole (put-as is (c .put .ensures)) (omega (arith, c .put .ensures .goes))
 
 print-good-requires : tie.Need-print-good-requires
-print-good-requires c κs = (sym (c .before .before .bad-input .ensures) ∙ c .before .if1 .left, search needs)
+print-good-requires c κs = let e = good c in (sym (e .before .bad-input .ensures) ∙ e .if1 .left, search needs)
 
 returns-2 : tie.Need-returns-2
-returns-2 c =
-    let p = c .print-good .ensures in
-    (p .0, put-counts (p .0) (p .1))
+returns-2 c = let p = c .print-good .ensures in put-whole (p .0) (p .1)
 
 pub print-lines-spec : {M : Type 1} → statement M
 print-lines-spec =

@@ -1,14 +1,61 @@
 -- `outcome::before_fcs` meets its contract: each way out passes the rows that did not hold and stops at the one that did. Assumes nothing.
+use Prim.Native.Nat.{ℕ}
 use mathlib.Core.Path.{_≡_, sym, ap, _∙_}
+use denote.Ref.{now}
 use borrow.Author.Needs.{needs}
-use Rattle.outcome.specs.declared.Early.the-variants.{Decided, Framed}
-use Rattle.outcome.specs.Steps.{earlyOutcomes}
-use Rattle.frame.specs.Frame.{undersized, oversized}
+use Rattle.line.specs.Table.{Table, first}
 use Rattle.line.proofs.Tables.{first-here, first-next, first-other}
-use Rattle.outcome.proofs.Rules.{cut-by, not-cut}
 use Rattle.station.specs.declared.Outcome.the-variants.{Cut, BadPreamble, Undersized, Oversized}
+use Rattle.frame.specs.Frame.{undersized, oversized}
+use Rattle.outcome.specs.declared.Early.{Early}
+use Rattle.outcome.specs.declared.Early.the-variants.{Decided, Framed}
+use Rattle.outcome.specs.Outcomes.{frameOf}
+use Rattle.outcome.specs.Steps.{earlyOutcomes}
+use Rattle.outcome.proofs.Rules.{cut-by, not-cut, after, row-holds, row-passed}
 use Rattle.outcome.proofs.before_fcs.Statement.{statement}
 use Rattle.outcome.proofs.before_fcs.Tie as tie
+
+-- the table, seen from each place behind a row
+abbrev rows : tie.Start → Table Early
+rows c = earlyOutcomes (c .args .limit) (now (c .args .run)) (c .args .by)
+
+abbrev past : ℕ → tie.Start → Type 0
+past n c = first (rows c) ≡ first (after n (rows c))
+
+abbrev at1 : tie.Else1 → tie.Start
+at1 c = c .before .before
+
+abbrev at2 : tie.Else2 → tie.Start
+at2 c = at1 (c .before .before)
+
+abbrev at3 : tie.Else3 → tie.Start
+at3 c = at2 (c .before .before .before)
+
+abbrev at4 : tie.Else4 → tie.Start
+at4 c = at3 (c .before .before)
+
+-- what the tests of the frame say of the run's frame
+small : (c : tie.After-undersized) → c .undersized .result ≡ undersized (frameOf (now (at2 (c .before .before) .args .run)))
+small c = c .undersized .ensures ∙ ap undersized (c .before .frame-of .ensures)
+
+large : (c : tie.After-oversized) → let a = at3 (c .before) .args in c .oversized .result ≡ oversized (a .limit) (frameOf (now (a .run)))
+large c = c .oversized .ensures ∙ ap (oversized _) (c .before .before .before .frame-of .ensures)
+
+past-1 : (c : tie.Else1) → past 1 (at1 c)
+unfolding earlyOutcomes
+past-1 c = first-next (Decided Cut) _ (not-cut _ (c .if1 .left))
+
+past-2 : (c : tie.Else2) → past 2 (at2 c)
+unfolding earlyOutcomes
+past-2 c = row-passed (Decided BadPreamble) _ (past-1 (c .before .before)) (c .before .bad-preamble .ensures) (c .if2 .left)
+
+past-3 : (c : tie.Else3) → past 3 (at3 c)
+unfolding earlyOutcomes
+past-3 c = row-passed (Decided Undersized) _ (past-2 (c .before .before .before)) (small (c .before)) (c .if3 .left)
+
+past-4 : (c : tie.Else4) → past 4 (at4 c)
+unfolding earlyOutcomes
+past-4 c = row-passed (Decided Oversized) _ (past-3 (c .before .before)) (large (c .before)) (c .if4 .left)
 
 returns : tie.Need-returns
 unfolding earlyOutcomes
@@ -19,9 +66,7 @@ bad-preamble-requires c κs = search needs
 
 returns-2 : tie.Need-returns-2
 unfolding earlyOutcomes
-returns-2 c =
-    sym (first-next (Decided Cut) _ (not-cut _ (c .before .before .if1 .left))
-    ∙ first-here (Decided BadPreamble) _ (sym (c .before .bad-preamble .ensures) ∙ c .if2 .taken))
+returns-2 c = row-holds (Decided BadPreamble) _ (past-1 (c .before .before)) (c .before .bad-preamble .ensures) (c .if2 .taken)
 
 frame-of-requires : tie.Need-frame-of-requires
 frame-of-requires c κs = search needs
@@ -31,35 +76,18 @@ undersized-requires c κs = search needs
 
 returns-3 : tie.Need-returns-3
 unfolding earlyOutcomes
-returns-3 c =
-    let p = c .before .before .before in
-    sym (first-next (Decided Cut) _ (not-cut _ (p .before .before .if1 .left))
-    ∙ first-next (Decided BadPreamble) _ (sym (p .before .bad-preamble .ensures) ∙ p .if2 .left)
-    ∙ first-here (Decided Undersized) _ (ap undersized (sym (c .before .before .frame-of .ensures)) ∙ sym (c .before .undersized .ensures) ∙ c .if3 .taken))
+returns-3 c = row-holds (Decided Undersized) _ (past-2 (c .before .before .before)) (small (c .before)) (c .if3 .taken)
 
 oversized-requires : tie.Need-oversized-requires
 oversized-requires c κs = search needs
 
 returns-4 : tie.Need-returns-4
 unfolding earlyOutcomes
-returns-4 c =
-    let u = c .before .before in
-    let p = u .before .before .before in
-    sym (first-next (Decided Cut) _ (not-cut _ (p .before .before .if1 .left))
-    ∙ first-next (Decided BadPreamble) _ (sym (p .before .bad-preamble .ensures) ∙ p .if2 .left)
-    ∙ first-next (Decided Undersized) _ (ap undersized (sym (u .before .before .frame-of .ensures)) ∙ sym (u .before .undersized .ensures) ∙ u .if3 .left)
-    ∙ first-here (Decided Oversized) _ (ap (oversized _) (sym (u .before .before .frame-of .ensures)) ∙ sym (c .before .oversized .ensures) ∙ c .if4 .taken))
+returns-4 c = row-holds (Decided Oversized) _ (past-3 (c .before .before)) (large (c .before)) (c .if4 .taken)
 
 returns-5 : tie.Need-returns-5
 unfolding earlyOutcomes
-returns-5 c =
-    let u = c .before .before in
-    let p = u .before .before .before in
-    sym (first-next (Decided Cut) _ (not-cut _ (p .before .before .if1 .left))
-    ∙ first-next (Decided BadPreamble) _ (sym (p .before .bad-preamble .ensures) ∙ p .if2 .left)
-    ∙ first-next (Decided Undersized) _ (ap undersized (sym (u .before .before .frame-of .ensures)) ∙ sym (u .before .undersized .ensures) ∙ u .if3 .left)
-    ∙ first-next (Decided Oversized) _ (ap (oversized _) (sym (u .before .before .frame-of .ensures)) ∙ sym (c .before .oversized .ensures) ∙ c .if4 .left)
-    ∙ first-other Framed)
+returns-5 c = sym (past-4 c ∙ first-other Framed)
 
 pub before-fcs-spec : {M : Type 1} → statement M
 before-fcs-spec =

@@ -68,8 +68,7 @@ returns c =
     let b1 = multicast .before in
     let broadcast = b1 .before in
     let group = broadcast .before in
-    let tags = group .before .before .pre .1 in
-    (rw (c .flag6 .ensures .0, b5 .flag5 .ensures .0, b4 .flag4 .ensures .0, b3 .flag3 .ensures .0, b2 .flag2 .ensures .0, b1 .flag .ensures .0, control .is-control-frame .ensures, multicast .is-multicast .ensures, broadcast .is-broadcast .ensures, group .to-group .ensures, tags), omega arith)
+    (rw (c .flag6 .ensures .0, b5 .flag5 .ensures .0, b4 .flag4 .ensures .0, b3 .flag3 .ensures .0, b2 .flag2 .ensures .0, b1 .flag .ensures .0, control .is-control-frame .ensures, multicast .is-multicast .ensures, broadcast .is-broadcast .ensures, group .to-group .ensures), omega arith)
 
 pub frame-bits-spec : {M : Type 1} → statement M
 frame-bits-spec =

@@ -1,46 +1,70 @@
 -- `receive::check_read` meets its contract: each way out passes the rows that did not hold and stops at the one that did. Assumes nothing.
+use Prim.Native.Nat.{ℕ}
+use mathlib.Core.Path.{_≡_, refl, sym, _∙_}
+use denote.Ref.{now}
 use borrow.Author.Needs.{needs}
-use mathlib.Core.Path.{_≡_, sym, _∙_}
-use Rattle.receive.specs.Reading.{readRefusals}
+use Rattle.line.specs.Table.{Table, first}
+use Rattle.line.proofs.Tables.{first-other}
+use Rattle.station.specs.declared.Checked.{Checked}
 use Rattle.station.specs.declared.Checked.the-variants.{Fine, Refused}
 use Rattle.station.specs.declared.Refusal.the-variants.{BadSettings, BadBuffers, BadPlace}
-use Rattle.line.proofs.Tables.{first-here, first-next, first-other}
+use Rattle.outcome.proofs.Rules.{after, row-holds, row-passed}
+use Rattle.receive.specs.Reading.{readRefusals}
 use Rattle.receive.proofs.check_read.Statement.{statement}
 use Rattle.receive.proofs.check_read.Tie as tie
+
+-- the table, seen from each place behind a row
+abbrev rows : tie.Start → Table Checked
+rows c = let a = c .args in readRefusals (a .s) (now (a .octets)) (now (a .marks)) (a .place)
+
+abbrev past : ℕ → tie.Start → Type 0
+past n c = first (rows c) ≡ first (after n (rows c))
+
+abbrev at1 : tie.Else1 → tie.Start
+at1 c = c .before .before .before .before
+
+abbrev at2 : tie.Else2 → tie.Start
+at2 c = at1 (c .before .before)
+
+abbrev at3 : tie.Else3 → tie.Start
+at3 c = at2 (c .before .before)
+
+past-1 : (c : tie.Else1) → past 1 (at1 c)
+unfolding readRefusals
+past-1 c = row-passed (Refused BadSettings) _ refl (c .before .bad-settings .ensures) (c .if1 .left)
+
+past-2 : (c : tie.Else2) → past 2 (at2 c)
+unfolding readRefusals
+past-2 c = row-passed (Refused BadBuffers) _ (past-1 (c .before .before)) (c .before .bad-buffers .ensures) (c .if2 .left)
+
+past-3 : (c : tie.Else3) → past 3 (at3 c)
+unfolding readRefusals
+past-3 c = row-passed (Refused BadPlace) _ (past-2 (c .before .before)) (c .before .bad-place .ensures) (c .if3 .left)
 
 bad-settings-requires : tie.Need-bad-settings-requires
 bad-settings-requires c κs = search needs
 
 returns : tie.Need-returns
 unfolding readRefusals
-returns c = sym (first-here (Refused BadSettings) _ (sym (c .before .bad-settings .ensures) ∙ c .if1 .taken))
+returns c = row-holds (Refused BadSettings) _ refl (c .before .bad-settings .ensures) (c .if1 .taken)
 
 bad-buffers-requires : tie.Need-bad-buffers-requires
 bad-buffers-requires c κs = search needs
 
 returns-2 : tie.Need-returns-2
 unfolding readRefusals
-returns-2 c =
-    sym (first-next (Refused BadSettings) _ (sym (c .before .before .before .bad-settings .ensures) ∙ c .before .before .if1 .left)
-    ∙ first-here (Refused BadBuffers) _ (sym (c .before .bad-buffers .ensures) ∙ c .if2 .taken))
+returns-2 c = row-holds (Refused BadBuffers) _ (past-1 (c .before .before)) (c .before .bad-buffers .ensures) (c .if2 .taken)
 
 bad-place-requires : tie.Need-bad-place-requires
 bad-place-requires c κs = search needs
 
 returns-3 : tie.Need-returns-3
 unfolding readRefusals
-returns-3 c =
-    sym (first-next (Refused BadSettings) _ (sym (c .before .before .before .before .before .bad-settings .ensures) ∙ c .before .before .before .before .if1 .left)
-    ∙ first-next (Refused BadBuffers) _ (sym (c .before .before .before .bad-buffers .ensures) ∙ c .before .before .if2 .left)
-    ∙ first-here (Refused BadPlace) _ (sym (c .before .bad-place .ensures) ∙ c .if3 .taken))
+returns-3 c = row-holds (Refused BadPlace) _ (past-2 (c .before .before)) (c .before .bad-place .ensures) (c .if3 .taken)
 
 returns-4 : tie.Need-returns-4
 unfolding readRefusals
-returns-4 c =
-    sym (first-next (Refused BadSettings) _ (sym (c .before .before .before .before .before .bad-settings .ensures) ∙ c .before .before .before .before .if1 .left)
-    ∙ first-next (Refused BadBuffers) _ (sym (c .before .before .before .bad-buffers .ensures) ∙ c .before .before .if2 .left)
-    ∙ first-next (Refused BadPlace) _ (sym (c .before .bad-place .ensures) ∙ c .if3 .left)
-    ∙ first-other Fine)
+returns-4 c = sym (past-3 c ∙ first-other Fine)
 
 pub check-read-spec : {M : Type 1} → statement M
 check-read-spec =

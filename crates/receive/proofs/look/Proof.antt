@@ -1,6 +1,7 @@
 -- `receive::look` meets its contract: four ways out, each by the law of its case. Assumes nothing.
 use mathlib.Core.Path.{_≡_, sym, ap, _∙_, subst}
 use mathlib.Core.Bool.{false≢true}
+use mathlib.Core.List.{List}
 use native.Mathlib.Omega.{arith}
 use Prim.Native.Nat.{ℕ, _+_, _-_, _≤_, _<_}
 use lib.ListN.{length, length-take, length-drop}
@@ -22,25 +23,49 @@ use Rattle.line.specs.Table.{first}
 use Rattle.receive.proofs.look.Statement.{statement}
 use Rattle.receive.proofs.look.Tie as tie
 
+-- the places that others look back to: the call, from where it is not refused; that, from where the Start is found; that, from where the end of its
+-- run is found; and that, from where the outcome is known
+abbrev call : tie.After-enum-told → tie.Start
+call c = c .before .before .before .before .before
+
+abbrev passing : tie.After-known-told2 → tie.After-enum-told
+passing c = c .before .before .before .before
+
+abbrev starting : tie.After-known-told3 → tie.After-known-told2
+starting c = c .before .before .before .before
+
+abbrev ending : tie.After-outcome → tie.After-known-told3
+ending c = c .before .before .before .before
+
+-- the octets, the Start's place and that of the end of its run
+abbrev octets : tie.After-known-told2 → List ℕ
+octets c = now (call (passing c) .args .octets)
+
+abbrev start : tie.After-known-told2 → ℕ
+start c = c .before .start .given .0 .0
+
+abbrev end : tie.After-known-told3 → ℕ
+end c = c .before .end .given .0 .0
+
 -- what each branch knows: the call is not refused, where the Start is, and where its run ends
-fine : (c : tie.After-enum-told) → let a = c .before .before .before .before .before .args in first (readRefusals (a .s) (now (a .octets)) (now (a .marks)) (a .place)) ≡ Fine
+fine : (c : tie.After-enum-told) → let a = call c .args in first (readRefusals (a .s) (now (a .octets)) (now (a .marks)) (a .place)) ≡ Fine
 fine c = sym (c .before .before .check-read .ensures) ∙ c .enum-told .given .1
 
-found-start : (c : tie.After-known-told2) → let a = c .before .before .before .before .before .before .before .before .before .args in findStart (capture (now (a .octets)) (now (a .marks))) (a .place) ≡ At (c .before .start .given .0 .0)
+found-start : (c : tie.After-known-told2)
+    → let a = call (passing c) .args in findStart (capture (now (a .octets)) (now (a .marks))) (a .place) ≡ At (start c)
 found-start c = sym (c .before .before .before .find-start .ensures) ∙ c .before .start .given .1
 
 found-end : (c : tie.After-known-told3)
-    → let a = c .before .before .before .before .before .before .before .before .before .before .before .before .before .args in findControl (capture (now (a .octets)) (now (a .marks))) (c .before .before .before .before .before .start .given .0 .0 + 1) ≡ At (c .before .end .given .0 .0)
+    → let a = call (passing (starting c)) .args in findControl (capture (now (a .octets)) (now (a .marks))) (start (starting c) + 1) ≡ At (end c)
 found-end c = sym (c .before .before .before .find-control .ensures) ∙ c .before .end .given .1
 
 -- so both lie inside the buffers, and these are small
-start-inside : (c : tie.After-known-told2) → let os = now (c .before .before .before .before .before .before .before .before .before .args .octets) in (length os ≤ 65536) × (c .before .start .given .0 .0 < length os)
-start-inside c = let k = passed _ _ _ _ (fine (c .before .before .before .before)) in (k .small, start-found _ _ (k .even) _ _ (found-start c) .1)
+start-inside : (c : tie.After-known-told2) → (length (octets c) ≤ 65536) × (start c < length (octets c))
+start-inside c = let k = passed _ _ _ _ (fine (passing c)) in (k .small, start-found _ _ (k .even) _ _ (found-start c) .1)
 
-end-inside : (c : tie.After-known-told3)
-    → let os = now (c .before .before .before .before .before .before .before .before .before .before .before .before .before .args .octets) in (c .before .before .before .before .before .start .given .0 .0 + 1 ≤ c .before .end .given .0 .0) × (c .before .end .given .0 .0 < length os)
+end-inside : (c : tie.After-known-told3) → (start (starting c) + 1 ≤ end c) × (end c < length (octets (starting c)))
 end-inside c =
-    let k = passed _ _ _ _ (fine (c .before .before .before .before .before .before .before .before)) in
+    let k = passed _ _ _ _ (fine (passing (starting c))) in
     let e = control-found _ _ (k .even) _ _ (found-end c) in
     (e .0, e .1)
 
@@ -52,7 +77,9 @@ enum-known-checked c = search needs
 
 returns : tie.Need-returns
 unfolding readOf afterSight
-returns c = (λ st. sym (read-refused _ st _ _ _ _ (sym (c .before .before .before .check-read .ensures) ∙ c .before .checked .given .1)), λ h. absurd (false≢true h))
+returns c =
+    let refused = sym (c .before .before .before .check-read .ensures) ∙ c .before .checked .given .1 in
+    (λ st. sym (read-refused _ st _ _ _ _ refused), λ h. absurd (false≢true h))
 
 enum-told : tie.Need-enum-told
 enum-told c = search needs
@@ -68,7 +95,9 @@ enum-told-2 c = search needs
 
 returns-2 : tie.Need-returns-2
 unfolding readOf afterSight
-returns-2 c = (λ st. sym (read-none _ st _ _ _ (fine (c .before .before .before)) (sym (c .before .before .find-start .ensures) ∙ c .enum-told2 .given .1)), λ h. absurd (false≢true h))
+returns-2 c =
+    let none = sym (c .before .before .find-start .ensures) ∙ c .enum-told2 .given .1 in
+    (λ st. sym (read-none _ st _ _ _ (fine (c .before .before .before)) none), λ h. absurd (false≢true h))
 
 add-from : tie.Need-add-from
 add-from c = let k = start-inside c in omega arith
@@ -84,7 +113,10 @@ enum-told-3 c = search needs
 
 returns-3 : tie.Need-returns-3
 unfolding readOf afterSight
-returns-3 c = let k = c .before .before .before in (λ st. sym (read-open _ st _ _ _ (fine (k .before .before .before .before)) _ (found-start k) (sym (c .before .before .find-control .ensures) ∙ c .enum-told3 .given .1)), λ h. absurd (false≢true h))
+returns-3 c =
+    let k = c .before .before .before in
+    let unended = sym (c .before .before .find-control .ensures) ∙ c .enum-told3 .given .1 in
+    (λ st. sym (read-open _ st _ _ _ (fine (passing k)) _ (found-start k) unended), λ h. absurd (false≢true h))
 
 array-share-prefix-none : tie.Need-array-share-prefix-none
 array-share-prefix-none c = search needs
@@ -108,37 +140,36 @@ outcome-requires : tie.Need-outcome-requires
 outcome-requires c κs = λ h. absurd (omega arith)
 
 sub-look-run : tie.Need-sub-look-run
-sub-look-run c = let e = end-inside (c .before .before .before .before) in omega arith
+sub-look-run c = let e = end-inside (ending c) in omega arith
 
 part-look-run-start : tie.Need-part-look-run-start
-part-look-run-start c = let e = end-inside (c .before .before .before .before) in omega arith
+part-look-run-start c = let e = end-inside (ending c) in omega arith
 
 part-look-run-end : tie.Need-part-look-run-end
-part-look-run-end c = let e = end-inside (c .before .before .before .before) in omega arith
+part-look-run-end c = let e = end-inside (ending c) in omega arith
 
 look-run-requires : tie.Need-look-run-requires
 look-run-requires c κs =
-    let e = end-inside (c .before .before .before .before .before) in
-    let k = start-inside (c .before .before .before .before .before .before .before .before .before) in
+    let e = end-inside (ending (c .before)) in
+    let k = start-inside (starting (ending (c .before))) in
     (omega arith, simp length-take (omega arith))
 
 returns-4 : tie.Need-returns-4
 unfolding between sightOf
 returns-4 c =
-    let k = c .before .before .before .before .before .before in
-    let a = k .before .before .before .before .before .before .before .before .before .before .before .before .before .args in
-    let os = now (a .octets) in
-    let start = k .before .before .before .before .before .start .given .0 .0 in
-    let end = k .before .end .given .0 .0 in
-    let run = between os (start + 1) end in
-    let o = c .before .before .outcome .result in
+    let o = c .before .before in
+    let k = ending o in
+    let os = octets (starting k) in
+    let a = call (passing (starting k)) .args in
+    let from = start (starting k) in
+    let run = between os (from + 1) (end k) in
     let e = end-inside k in
-    let n : length run ≡ end - (start + 1) = simp (length-take, length-drop) (omega arith) in
-    let next : start + 1 + length run ≡ end = omega arith in (
+    let n : length run ≡ end k - (from + 1) = simp (length-take, length-drop) (omega arith) in
+    let next : from + 1 + length run ≡ end k = omega arith in (
       λ st. ap (λ (l : Sight). readOf os l st) (c .look-run .ensures)
-          ∙ sight-read (a .s) os start run o st (ap (between os (start + 1)) next)
-          ∙ ap (readRun (a .s) st start run) (c .before .before .outcome .ensures)
-          ∙ sym (read-ended _ st _ _ _ (fine (k .before .before .before .before .before .before .before .before)) _ (found-start (k .before .before .before .before)) _ (found-end k)),
+          ∙ sight-read (a .s) os from run (o .outcome .result) st (ap (between os (from + 1)) next)
+          ∙ ap (readRun (a .s) st from run) (o .outcome .ensures)
+          ∙ sym (read-ended _ st _ _ _ (fine (passing (starting k))) _ (found-start (starting k)) _ (found-end k)),
       subst (Inside os) (sym (c .look-run .ensures)) (λ h. (omega arith, omega arith)),
     )
 

@@ -16,9 +16,16 @@ use Rattle.receive.proofs.Sights.{at-state, not-counted}
 use Rattle.receive.proofs.state_after.Statement.{statement}
 use Rattle.receive.proofs.state_after.Tie as tie
 
+-- the call, seen from where a Start is counted, and that place from where timers may be set
+abbrev call : tie.After-known-told → tie.Start
+call c = c .before .before .before .before .before .before
+
+abbrev counting : tie.After-sets-timers → tie.After-known-told
+counting c = c .before .before .before
+
 -- the run of a Start that is counted lies inside the octets
-inside : (c : tie.After-known-told) → let a = c .before .before .before .before .before .before .args in (a .seen .start + 1 ≤ a .seen .next) × (a .seen .next ≤ length (now (a .octets)))
-inside c = c .before .before .before .before .before .before .pre (ap isCounted (c .before .answer .given .1))
+inside : (c : tie.After-known-told) → let a = call c .args in (a .seen .start + 1 ≤ a .seen .next) × (a .seen .next ≤ length (now (a .octets)))
+inside c = call c .pre (ap isCounted (c .before .answer .given .1))
 
 enum-known-answer : tie.Need-enum-known-answer
 enum-known-answer c = search needs
@@ -30,16 +37,16 @@ sets-timers-requires : tie.Need-sets-timers-requires
 sets-timers-requires c κs = search needs
 
 add-from : tie.Need-add-from
-add-from c = let k = inside (c .before .before .before .before .before) in omega arith
+add-from c = let k = inside (counting (c .before .before)) in omega arith
 
 sub-frame-of : tie.Need-sub-frame-of
-sub-frame-of c = let k = inside (c .before .before .before .before .before) in omega arith
+sub-frame-of c = let k = inside (counting (c .before .before)) in omega arith
 
 part-frame-of-start : tie.Need-part-frame-of-start
-part-frame-of-start c = let k = inside (c .before .before .before .before .before) in omega arith
+part-frame-of-start c = let k = inside (counting (c .before .before)) in omega arith
 
 part-frame-of-end : tie.Need-part-frame-of-end
-part-frame-of-end c = let k = inside (c .before .before .before .before .before) in omega arith
+part-frame-of-end c = let k = inside (counting (c .before .before)) in omega arith
 
 frame-of-requires : tie.Need-frame-of-requires
 frame-of-requires c κs = search needs
@@ -51,16 +58,17 @@ returns : tie.Need-returns
 unfolding afterSight stateAfter between
 returns c =
     let s = c .before .before .before .before .before in
-    let k = s .before .before .before in
-    let ts = k .before .before .before .before .before .before .args .state .timers in
+    let k = counting s in
+    let o = k .before .answer .given .0 .0 in
+    let ts = call k .args .state .timers in
     rw (k .before .answer .given .1)
-    (ap₂ at-state (s .before .count .ensures) (c .timers-after .ensures ∙ ap (λ (f : List ℕ). timersAfter (k .before .answer .given .0 .0) f ts) (c .before .frame-of .ensures)))
+    (ap₂ at-state (s .before .count .ensures) (c .timers-after .ensures ∙ ap (λ (f : List ℕ). timersAfter o f ts) (c .before .frame-of .ensures)))
 
 returns-2 : tie.Need-returns-2
 unfolding afterSight stateAfter
 returns-2 c =
     let s = c .before in
-    let k = s .before .before .before in
+    let k = counting s in
     rw (k .before .answer .given .1) (ap₂ at-state (s .before .count .ensures) (stays _ _ _ (sym (s .sets-timers .ensures) ∙ c .if1 .left)))
 
 returns-3 : tie.Need-returns-3

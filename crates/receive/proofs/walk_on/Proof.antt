@@ -33,27 +33,52 @@ Inv-loop t s octets marks counters₀ timers₀ n₀ at₀ counters timers n at 
 abbrev μ-loop : tie.MeasureT-loop
 μ-loop t s octets marks counters₀ timers₀ n₀ at₀ counters timers n at = length octets - at
 
+-- the places that others look back to: the call, from a turn of the loop; the turn, from where its Start is found; that, from where the end of its
+-- run is found; that, from where the outcome is known; and that, from the end of the turn
+abbrev call : tie.At-loop Inv-loop μ-loop → tie.Start Inv-loop μ-loop
+call c = c .before .before .before .before .before .before
+
+abbrev turning : tie.After-known-told Inv-loop μ-loop → tie.At-loop Inv-loop μ-loop
+turning c = c .before .before .before .before
+
+abbrev starting : tie.After-known-told2 Inv-loop μ-loop → tie.After-known-told Inv-loop μ-loop
+starting c = c .before .before .before .before
+
+abbrev ending : tie.After-outcome Inv-loop μ-loop → tie.After-known-told2 Inv-loop μ-loop
+ending c = c .before .before .before
+
+abbrev settled : tie.Joined1 Inv-loop μ-loop → tie.After-outcome Inv-loop μ-loop
+settled c = c .before .before .before .before
+
+-- the octets, the Start's place and that of the end of its run
+abbrev octets : tie.After-known-told Inv-loop μ-loop → List ℕ
+octets c = now (call (turning c) .args .octets)
+
+abbrev start : tie.After-known-told Inv-loop μ-loop → ℕ
+start c = c .before .start .given .0 .0
+
+abbrev end : tie.After-known-told2 Inv-loop μ-loop → ℕ
+end c = c .before .end .given .0 .0
+
 -- what each branch knows: where the Start is, and where its run ends; both lie inside the buffers
 found-start : (c : tie.After-known-told Inv-loop μ-loop)
-    → let a = c .before .before .before .before .before .before .before .before .before .before .args in findStart (capture (now (a .octets)) (now (a .marks))) (c .before .before .before .before .loop .at) ≡ At (c .before .start .given .0 .0)
+    → let a = call (turning c) .args in findStart (capture (now (a .octets)) (now (a .marks))) (turning c .loop .at) ≡ At (start c)
 found-start c = sym (c .before .before .before .find-start .ensures) ∙ c .before .start .given .1
 
 found-end : (c : tie.After-known-told2 Inv-loop μ-loop)
-    → let a = c .before .before .before .before .before .before .before .before .before .before .before .before .before .before .args in findControl (capture (now (a .octets)) (now (a .marks))) (c .before .before .before .before .before .start .given .0 .0 + 1) ≡ At (c .before .end .given .0 .0)
+    → let a = call (turning (starting c)) .args in findControl (capture (now (a .octets)) (now (a .marks))) (start (starting c) + 1) ≡ At (end c)
 found-end c = sym (c .before .before .before .find-control .ensures) ∙ c .before .end .given .1
 
 start-inside : (c : tie.After-known-told Inv-loop μ-loop)
-    → let os = now (c .before .before .before .before .before .before .before .before .before .before .args .octets) in
-    (c .before .before .before .before .loop .at ≤ c .before .start .given .0 .0) × (c .before .start .given .0 .0 < length os) × (length os ≤ 65536)
+    → (turning c .loop .at ≤ start c) × (start c < length (octets c)) × (length (octets c) ≤ 65536)
 start-inside c =
-    let k = passed _ _ _ _ (c .before .before .before .before .before .before .before .before .before .before .pre .1) in
+    let k = passed _ _ _ _ (call (turning c) .pre .1) in
     let f = start-found _ _ (k .even) _ _ (found-start c) in
     (f .0, f .1, k .small)
 
-end-inside : (c : tie.After-known-told2 Inv-loop μ-loop)
-    → (c .before .before .before .before .before .start .given .0 .0 + 1 ≤ c .before .end .given .0 .0) × (c .before .end .given .0 .0 < length (now (c .before .before .before .before .before .before .before .before .before .before .before .before .before .before .args .octets)))
+end-inside : (c : tie.After-known-told2 Inv-loop μ-loop) → (start (starting c) + 1 ≤ end c) × (end c < length (octets (starting c)))
 end-inside c =
-    let e = control-found _ _ (passed _ _ _ _ (c .before .before .before .before .before .before .before .before .before .before .before .before .before .before .pre .1) .even) _ _ (found-end c) in
+    let e = control-found _ _ (passed _ _ _ _ (call (turning (starting c)) .pre .1) .even) _ _ (found-end c) in
     (e .0, e .1)
 
 loop-holds : tie.Need-loop-holds Inv-loop μ-loop
@@ -70,8 +95,8 @@ enum-told c = search needs
 
 returns : tie.Need-returns Inv-loop μ-loop
 returns c =
-    let l = c .before .before .before in
-    sym (turn-none _ _ _ _ _ _ (sym (c .before .before .find-start .ensures) ∙ c .enum-told .given .1)) ∙ l .loop .inv .0
+    let none = sym (c .before .before .find-start .ensures) ∙ c .enum-told .given .1 in
+    sym (turn-none _ _ _ _ _ _ none) ∙ c .before .before .before .loop .inv .0
 
 add-from : tie.Need-add-from Inv-loop μ-loop
 add-from c = let k = start-inside c in omega arith
@@ -88,8 +113,8 @@ enum-told-2 c = search needs
 returns-2 : tie.Need-returns-2 Inv-loop μ-loop
 returns-2 c =
     let k = c .before .before .before in
-    let l = k .before .before .before .before in
-    sym (turn-open _ _ _ _ _ _ _ (found-start k) (sym (c .before .before .find-control .ensures) ∙ c .enum-told2 .given .1)) ∙ l .loop .inv .0
+    let unended = sym (c .before .before .find-control .ensures) ∙ c .enum-told2 .given .1 in
+    sym (turn-open _ _ _ _ _ _ _ (found-start k) unended) ∙ turning k .loop .inv .0
 
 sub-outcome : tie.Need-sub-outcome Inv-loop μ-loop
 sub-outcome c = let e = end-inside c in omega arith
@@ -104,7 +129,7 @@ shared-slice-read-outcome : tie.Need-shared-slice-read-outcome Inv-loop μ-loop
 shared-slice-read-outcome c = let e = end-inside (c .before .before) in omega arith
 
 outcome-requires : tie.Need-outcome-requires Inv-loop μ-loop
-outcome-requires c κs = c .before .before .before .before .before .before .before .before .before .before .before .before .before .before .before .before .pre .0
+outcome-requires c κs = call (turning (starting (c .before .before))) .pre .0
 
 count-requires : tie.Need-count-requires Inv-loop μ-loop
 count-requires c κs = search needs
@@ -113,13 +138,13 @@ sets-timers-requires : tie.Need-sets-timers-requires Inv-loop μ-loop
 sets-timers-requires c κs = search needs
 
 sub-frame-of : tie.Need-sub-frame-of Inv-loop μ-loop
-sub-frame-of c = let e = end-inside (c .before .before .before .before .before .before .before) in omega arith
+sub-frame-of c = let e = end-inside (ending (c .before .before .before .before)) in omega arith
 
 part-frame-of-start : tie.Need-part-frame-of-start Inv-loop μ-loop
-part-frame-of-start c = let e = end-inside (c .before .before .before .before .before .before .before) in omega arith
+part-frame-of-start c = let e = end-inside (ending (c .before .before .before .before)) in omega arith
 
 part-frame-of-end : tie.Need-part-frame-of-end Inv-loop μ-loop
-part-frame-of-end c = let e = end-inside (c .before .before .before .before .before .before .before) in omega arith
+part-frame-of-end c = let e = end-inside (ending (c .before .before .before .before)) in omega arith
 
 frame-of-requires : tie.Need-frame-of-requires Inv-loop μ-loop
 frame-of-requires c κs = search needs
@@ -128,41 +153,41 @@ timers-after-requires : tie.Need-timers-after-requires Inv-loop μ-loop
 timers-after-requires c κs = search needs
 
 add-n : tie.Need-add-n Inv-loop μ-loop
-add-n c = let e = end-inside (c .before .before .before .before .before .before .before) in let k = start-inside (c .before .before .before .before .before .before .before .before .before .before .before) in omega arith
+add-n c = let e = end-inside (ending (settled c)) in let k = start-inside (starting (ending (settled c))) in omega arith
 
 loop-less : tie.Need-loop-less Inv-loop μ-loop
-loop-less c = let e = end-inside (c .before .before .before .before .before .before .before) in let k = start-inside (c .before .before .before .before .before .before .before .before .before .before .before) in omega arith
+loop-less c = let e = end-inside (ending (settled c)) in let k = start-inside (starting (ending (settled c))) in omega arith
 
--- the timers after a turn, set or left as they were
-timers-now : (c : tie.Joined1 Inv-loop μ-loop)
-    → let k1 = c .before .before .before .before .before .before .before .before .before .before .before in
-    let f = frameOf (between (now (k1 .before .before .before .before .before .before .before .before .before .before .args .octets)) (k1 .before .start .given .0 .0 + 1) (c .before .before .before .before .before .before .before .before .end .given .0 .0)) in
-    c .if1 .timers ≡ timersAfter (c .before .before .before .before .outcome .result) f (k1 .before .before .before .before .loop .timers)
+-- the frame of the run, and the timers after a turn, set or left as they were
+abbrev frame : tie.Joined1 Inv-loop μ-loop → List ℕ
+frame c = let k = ending (settled c) in frameOf (between (octets (starting k)) (start (starting k) + 1) (end k))
+
+abbrev Moved : tie.Joined1 Inv-loop μ-loop → Type 0
+Moved c = c .if1 .timers ≡ timersAfter (settled c .outcome .result) (frame c) (turning (starting (ending (settled c))) .loop .timers)
+
+timers-now : (c : tie.Joined1 Inv-loop μ-loop) → Moved c
 unfolding between
 timers-now c =
-    ⊎-elim
-    (λ w. w .4 ∙ w .3 .ensures ∙ ap (λ (l : List ℕ). timersAfter (c .before .before .before .before .outcome .result) l (c .before .before .before .before .before .before .before .before .before .before .before .before .before .before .before .loop .timers)) (w .2 .ensures))
+    let was = turning (starting (ending (settled c))) .loop .timers in
+    ⊎-elim {C = Moved c}
+    (λ w. w .4 ∙ w .3 .ensures ∙ ap (λ (l : List ℕ). timersAfter (settled c .outcome .result) l was) (w .2 .ensures))
     (λ w. w .1 ∙ stays _ _ _ (sym (c .before .sets-timers .ensures) ∙ w .0 .left))
     (c .if1 .came)
 
 loop-again : tie.Need-loop-again Inv-loop μ-loop
 unfolding between stateAfter
 loop-again c =
-    let k2 = c .before .before .before .before .before .before .before in
-    let k1 = k2 .before .before .before .before in
-    let l = k1 .before .before .before .before in
-    let a = k1 .before .before .before .before .before .before .before .before .before .before .args in
-    let start = k1 .before .start .given .0 .0 in
-    let end = k2 .before .end .given .0 .0 in
-    let f = frameOf (between (now (a .octets)) (start + 1) end) in
-    let even = passed _ _ _ _ (k1 .before .before .before .before .before .before .before .before .before .before .pre .1) .even in
-    let o = c .before .before .before .before .outcome .ensures in
-    let e = end-inside k2 in
-    let k = start-inside k1 in (
-      ap₂ (λ (cs : List ℕ) (ts : List Slots). left (a .s) (now (a .octets)) (now (a .marks)) (l .loop .n + 1) (at-state cs ts) end)
+    let k = ending (settled c) in
+    let l = turning (starting k) in
+    let a = call l .args in
+    let even = passed _ _ _ _ (call l .pre .1) .even in
+    let o = settled c .outcome .ensures in
+    let s = start-inside (starting k) in
+    let e = end-inside k in (
+      ap₂ (λ (cs : List ℕ) (ts : List Slots). left (a .s) (now (a .octets)) (now (a .marks)) (l .loop .n + 1) (at-state cs ts) (end k))
           (c .before .before .count .ensures ∙ ap (λ (x : Outcome). counted x (l .loop .counters)) o)
-          (timers-now c ∙ ap (λ (x : Outcome). timersAfter x f (l .loop .timers)) o)
-          ∙ sym (turn-ended _ _ _ _ _ _ _ (found-start k1) even end (found-end k2) (e .0) (e .1))
+          (timers-now c ∙ ap (λ (x : Outcome). timersAfter x (frame c) (l .loop .timers)) o)
+          ∙ sym (turn-ended _ _ _ _ _ _ _ (found-start (starting k)) even (end k) (found-end k) (e .0) (e .1))
           ∙ l .loop .inv .0,
       omega arith,
       omega arith,

@@ -10,7 +10,7 @@ use Rattle.line.proofs.Tables.{first-other}
 use Rattle.station.specs.declared.Checked.{Checked}
 use Rattle.station.specs.declared.Checked.the-variants.{Fine}
 use Rattle.station.specs.declared.Refusal.the-variants.{BadSettings, BadBuffers, BadPlace, BadClass, BadType, LongData, NoRoom, Held, ManyTags}
-use Rattle.writing.specs.Frames.{clientSymbols}
+use Rattle.writing.specs.Frames.{plainIdles, clientSymbols}
 use Rattle.send.specs.Sending.{noRoom, clientRefusals, clientChecked}
 use Rattle.writing.proofs.Sizes.{length-mapped, client-size}
 use Rattle.writing.proofs.TagLaws.{tags-count}
@@ -93,13 +93,14 @@ tags-8 : (c : tie.Start) → length (c .args .client .tags) ≡ 8
 tags-8 c = search (length-mapped, needs)
 
 -- the room that is asked for is that of the frame's symbols
-room : (c : tie.After-no-room) → let a = at7 (c .before .before) .args in c .no-room .result ≡ noRoom (now (a .octets)) (a .place) (clientSymbols (a .s) (a .client) (now (a .d)))
+room : (c : tie.After-no-room) → let a = at7 (c .before .before) .args in
+    c .no-room .result ≡ noRoom (now (a .octets)) (a .place) (clientSymbols plainIdles (a .s) (a .client) (now (a .d)))
 room c =
     let s = at7 (c .before .before) in
     let a = s .args in
     let p6 = c .before .before .before .before in
     let few = tags-to-8 (a .client) (sym (p6 .before .many-tags .ensures) ∙ p6 .if6 .left) in
-    let size = client-size (a .s) (a .client) (now (a .d)) (dest-6 s) (own-6 s) in
+    let size = client-size plainIdles (a .s) (a .client) (now (a .d)) (dest-6 s) (own-6 s) in
     let counted = ap (λ (n : ℕ). 38 + 4 * n + (length (now (a .d)) + (46 - length (now (a .d))))) (tags-count (a .client) (tags-8 s) few) in
     c .no-room .ensures ∙ room-by (now (a .octets)) (a .place) _ _ (size ∙ counted ∙ sym (c .before .client-size .ensures))
 

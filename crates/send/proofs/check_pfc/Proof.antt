@@ -2,11 +2,16 @@
 use mathlib.Core.Path.{_≡_}
 use lib.ListN.{length}
 use borrow.Author.Needs.{needs}
-use Rattle.writing.specs.Frames.{pfcSymbols}
+use Rattle.writing.specs.Frames.{plainIdles}
 use Rattle.send.specs.Sending.{pfcChecked}
 use Rattle.writing.proofs.Sizes.{pfc-size}
+use Rattle.send.proofs.Refusals.{in-mode}
 use Rattle.send.proofs.check_pfc.Statement.{statement}
 use Rattle.send.proofs.check_pfc.Tie as tie
+
+-- the start, seen from behind the calls
+abbrev start : tie.After-check-control → tie.Start
+start c = c .before .before .before .before
 
 is-pfc-mode-requires : tie.Need-is-pfc-mode-requires
 is-pfc-mode-requires c κs = search needs
@@ -20,8 +25,8 @@ own-6 c = search needs
 returns : tie.Need-returns
 unfolding pfcChecked
 returns c = λ k eight.
-    let a = c .before .before .before .before .args in
-    rw (c .before .is-pfc-mode .ensures) at (c .check-control .ensures (pfcSymbols (a .s) k) (pfc-size (a .s) k (own-6 (c .before .before .before .before)) eight))
+    let s = start c in
+    in-mode _ _ _ _ _ (c .check-control .ensures _ (pfc-size plainIdles (s .args .s) k (own-6 s) eight)) (c .before .is-pfc-mode .ensures)
 
 pub check-pfc-spec : {M : Type 1} → statement M
 check-pfc-spec = tie.close (tie.spec is-pfc-mode-requires check-control-requires returns)

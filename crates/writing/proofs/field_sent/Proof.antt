@@ -1,4 +1,4 @@
--- `send::field_sent` meets its contract: by cases. Assumes nothing.
+-- `writing::field_sent` meets its contract: by cases. Assumes nothing.
 use Rattle.writing.specs.Frames.{fieldSent}
 use borrow.Author.Needs.{needs}
 use Rattle.writing.proofs.field_sent.Statement.{statement}

@@ -1,4 +1,4 @@
--- `send::pause_at` meets its contract: what is written through the lent parts is written over the whole (`lent-back`). Assumes nothing.
+-- `writing::pause_at` meets its contract: what is written through the lent parts is written over the whole (`lent-back`). Assumes nothing.
 use native.Mathlib.Omega.{arith}
 use Rattle.writing.proofs.Pieces.{lent-back}
 use borrow.Author.Needs.{needs}

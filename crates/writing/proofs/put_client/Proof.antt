@@ -1,4 +1,4 @@
--- `send::put_client` meets its contract: four writes, by `_⨾_`, with what `field_sent` ensures put into the third. Assumes nothing.
+-- `writing::put_client` meets its contract: four writes, by `_⨾_`, with what `field_sent` ensures put into the third. Assumes nothing.
 use native.Mathlib.Omega.{arith}
 use mathlib.Core.Path.{_≡_}
 use lib.ListN.{length}

@@ -1,4 +1,4 @@
--- `send::put_control` meets its contract: three writes, by `_⨾_`. Assumes nothing.
+-- `writing::put_control` meets its contract: three writes, by `_⨾_`. Assumes nothing.
 use native.Mathlib.Omega.{arith}
 use mathlib.Core.Path.{_≡_}
 use lib.ListN.{length}

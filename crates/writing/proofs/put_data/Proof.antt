@@ -1,4 +1,4 @@
--- `send::put_data` meets its contract: two writes, by `_⨾_`, with what `padding` ensures put into the second. Assumes nothing.
+-- `writing::put_data` meets its contract: two writes, by `_⨾_`, with what `padding` ensures put into the second. Assumes nothing.
 use native.Mathlib.Omega.{arith}
 use denote.Ref.{now}
 use Rattle.splice.proofs.Laws.{_⨾_}

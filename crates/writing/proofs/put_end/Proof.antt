@@ -1,4 +1,4 @@
--- `send::put_end` meets its contract: two writes, by `_⨾_`; the check of the part is the FCS. Assumes nothing.
+-- `writing::put_end` meets its contract: two writes, by `_⨾_`; the check of the part is the FCS. Assumes nothing.
 use mathlib.Core.Path.{ap, _∙_}
 use Rattle.splice.proofs.Laws.{_⨾_}
 use Rattle.line.specs.Octets.{between}

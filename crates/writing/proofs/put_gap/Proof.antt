@@ -1,4 +1,4 @@
--- `send::put_gap` meets its contract: two writes, by `_⨾_`. Assumes nothing.
+-- `writing::put_gap` meets its contract: two writes, by `_⨾_`. Assumes nothing.
 use Rattle.splice.proofs.Laws.{_⨾_}
 use Rattle.writing.specs.Pieces.{gapOctets}
 use borrow.Author.Needs.{needs}

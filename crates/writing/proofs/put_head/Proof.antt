@@ -1,4 +1,4 @@
--- `send::put_head` meets its contract: three writes, by `_⨾_`. Assumes nothing.
+-- `writing::put_head` meets its contract: three writes, by `_⨾_`. Assumes nothing.
 use native.Mathlib.Omega.{arith}
 use Prim.Native.Nat.{_+_, _≤_}
 use mathlib.Core.Path.{_≡_}

@@ -1,4 +1,4 @@
--- `send::put_number` meets its contract: the two octets are `highFirst`. Assumes nothing.
+-- `writing::put_number` meets its contract: the two octets are `highFirst`. Assumes nothing.
 use Rattle.line.specs.Octets.{highFirst}
 use borrow.Author.Needs.{needs}
 use Rattle.writing.proofs.put_number.Statement.{statement}

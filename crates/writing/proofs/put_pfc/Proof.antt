@@ -1,4 +1,4 @@
--- `send::put_pfc` meets its contract: four writes, by `_⨾_`. Assumes nothing.
+-- `writing::put_pfc` meets its contract: four writes, by `_⨾_`. Assumes nothing.
 use native.Mathlib.Omega.{arith}
 use mathlib.Core.Path.{_≡_}
 use lib.ListN.{length}

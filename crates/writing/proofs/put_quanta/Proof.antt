@@ -1,4 +1,4 @@
--- `send::put_quanta` meets its contract. The invariant: what is still to be written over what is written gives the whole. Assumes nothing.
+-- `writing::put_quanta` meets its contract. The invariant: what is still to be written over what is written gives the whole. Assumes nothing.
 use native.Mathlib.Omega.{arith}
 use Prim.Native.Nat.{ℕ, _+_, _-_, _*_, _≤_}
 use mathlib.Core.Path.{_≡_, refl, sym, _∙_}

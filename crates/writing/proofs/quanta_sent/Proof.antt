@@ -1,4 +1,4 @@
--- `send::quanta_sent` meets its contract: the test decides. Assumes nothing.
+-- `writing::quanta_sent` meets its contract: the test decides. Assumes nothing.
 use borrow.Author.Tests.{eq-eqb, ne-eqb}
 use Rattle.writing.proofs.quanta_sent.Statement.{statement}
 use Rattle.writing.proofs.quanta_sent.Tie as tie

@@ -1,5 +1,7 @@
--- `send::write_client` meets its contract: a frame written up to its FCS and then finished is the frame (`frame-laid`). Assumes nothing.
+-- `writing::write_client` meets its contract: a frame written up to its FCS and then finished is the frame (`frame-laid`). Assumes nothing.
 use native.Mathlib.Omega.{arith}
+use Prim.Native.Nat.{ℕ}
+use mathlib.Core.List.{List}
 use denote.Ref.{now}
 use Rattle.writing.specs.Frames.{clientBody, clientSymbols}
 use Rattle.writing.proofs.Pieces.{lead-size, frame-laid}
@@ -10,19 +12,33 @@ use borrow.Author.Needs.{needs}
 use Rattle.writing.proofs.write_client.Statement.{statement}
 use Rattle.writing.proofs.write_client.Tie as tie
 
+-- the places: the start, seen from the first call; behind the first call; behind the second
+abbrev start : tie.After-put-client-arg → tie.Start
+start c = c .before .before .before .before
+
+abbrev put : tie.After-finish-arg2 → tie.After-put-client
+put c = c .before .before .before .before
+
+abbrev finished : tie.After-slice-known5 → tie.After-finish
+finished c = c .before .before .before .before
+
+-- what the FCS covers
+abbrev body : tie.Start → List ℕ
+body s = clientBody (s .args .s) (s .args .client) (now (s .args .d))
+
 put-client-requires : tie.Need-put-client-requires
 unfolding clientSymbols
 put-client-requires c κs =
-    let a = c .before .before .before .before .args in
-    let n = line-size (clientBody (a .s) (a .client) (now (a .d))) in
+    let s = start c in
+    let n = line-size (s .args .idles) (body s) in
     (omega arith, search needs, search needs)
 
 finish-requires : tie.Need-finish-requires
 unfolding clientSymbols
 finish-requires c κs =
-    let a = c .before .before .before .before .before .before .before .before .before .args in
-    let n = line-size (clientBody (a .s) (a .client) (now (a .d))) in
-    let m = length-append lead (clientBody (a .s) (a .client) (now (a .d))) in
+    let s = start (put c .before) in
+    let n = line-size (s .args .idles) (body s) in
+    let m = length-append lead (body s) in
     let k = lead-size in
     omega arith
 
@@ -35,9 +51,10 @@ same-length-2 c = search needs
 returns : tie.Need-returns
 unfolding clientSymbols
 returns c =
-    let s = c .before .before .before .before .before .before .before .before .before .before .before .before .before .before in
-    let end = c .before .before .before .before .finish .ensures in
-    frame-laid (clientBody (s .args .s) (s .args .client) (now (s .args .d))) (c .before .before .before .before .before .before .before .before .before .put-client .ensures) (end .0) (end .1) (s .pre .0) (s .pre .1)
+    let end = finished c in
+    let front = put (end .before) in
+    let s = start (front .before) in
+    frame-laid (s .args .idles) (body s) (front .put-client .ensures) (end .finish .ensures .0) (end .finish .ensures .1) (s .pre .0) (s .pre .1)
 
 pub write-client-spec : {M : Type 1} → statement M
 write-client-spec =

@@ -1,4 +1,4 @@
--- `send::write_idle` meets its contract: each buffer is filled. Assumes nothing.
+-- `writing::write_idle` meets its contract: each buffer is filled. Assumes nothing.
 use Rattle.writing.proofs.Pieces.{idle-laid}
 use borrow.Author.Needs.{needs}
 use Rattle.writing.proofs.write_idle.Statement.{statement}

@@ -1,6 +1,8 @@
--- `send::write_pause` meets its contract, as write_client. Assumes nothing.
+-- `writing::write_pause` meets its contract, as write_client. Assumes nothing.
 use native.Mathlib.Omega.{arith}
+use Prim.Native.Nat.{ℕ}
 use mathlib.Core.Path.{_≡_}
+use mathlib.Core.List.{List}
 use lib.ListN.{length}
 use Rattle.writing.specs.Frames.{pauseBody, pauseSymbols}
 use Rattle.writing.proofs.Pieces.{lead-size, frame-laid}
@@ -11,6 +13,20 @@ use borrow.Author.Needs.{needs}
 use Rattle.writing.proofs.write_pause.Statement.{statement}
 use Rattle.writing.proofs.write_pause.Tie as tie
 
+-- the places: the start, seen from the first call; behind the first call; behind the second
+abbrev start : tie.After-put-pause-arg → tie.Start
+start c = c .before .before .before
+
+abbrev put : tie.After-finish-arg2 → tie.After-put-pause
+put c = c .before .before .before .before
+
+abbrev finished : tie.After-slice-known5 → tie.After-finish
+finished c = c .before .before .before .before
+
+-- what the FCS covers
+abbrev body : tie.Start → List ℕ
+body s = pauseBody (s .args .s) (s .args .q)
+
 -- the lengths of the arrays
 six : (s : tie.Start) → length (s .args .s .own .0) ≡ 6
 six s = search needs
@@ -18,20 +34,18 @@ six s = search needs
 put-pause-requires : tie.Need-put-pause-requires
 unfolding pauseSymbols
 put-pause-requires c κs =
-    let s = c .before .before .before in
-    let a = s .args in
-    let n = line-size (pauseBody (a .s) (a .q)) in
-    let whole = pause-size (a .s) (a .q) (six s) in
+    let s = start c in
+    let n = line-size (s .args .idles) (body s) in
+    let whole = pause-size (s .args .idles) (s .args .s) (s .args .q) (six s) in
     omega arith
 
 finish-requires : tie.Need-finish-requires
 unfolding pauseSymbols
 finish-requires c κs =
-    let s = c .before .before .before .before .before .before .before .before in
-    let a = s .args in
-    let n = line-size (pauseBody (a .s) (a .q)) in
-    let whole = pause-size (a .s) (a .q) (six s) in
-    let m = length-append lead (pauseBody (a .s) (a .q)) in
+    let s = start (put c .before) in
+    let n = line-size (s .args .idles) (body s) in
+    let whole = pause-size (s .args .idles) (s .args .s) (s .args .q) (six s) in
+    let m = length-append lead (body s) in
     let k = lead-size in
     omega arith
 
@@ -44,10 +58,10 @@ same-length-2 c = search needs
 returns : tie.Need-returns
 unfolding pauseSymbols
 returns c =
-    let s = c .before .before .before .before .before .before .before .before .before .before .before .before .before in
-    let a = s .args in
-    let end = c .before .before .before .before .finish .ensures in
-    frame-laid (pauseBody (a .s) (a .q)) (c .before .before .before .before .before .before .before .before .before .put-pause .ensures) (end .0) (end .1) (s .pre .0) (s .pre .1)
+    let end = finished c in
+    let front = put (end .before) in
+    let s = start (front .before) in
+    frame-laid (s .args .idles) (body s) (front .put-pause .ensures) (end .finish .ensures .0) (end .finish .ensures .1) (s .pre .0) (s .pre .1)
 
 pub write-pause-spec : {M : Type 1} → statement M
 write-pause-spec =

@@ -1,6 +1,8 @@
--- `send::write_pfc` meets its contract, as write_client. Assumes nothing.
+-- `writing::write_pfc` meets its contract, as write_client. Assumes nothing.
 use native.Mathlib.Omega.{arith}
+use Prim.Native.Nat.{ℕ}
 use mathlib.Core.Path.{_≡_}
+use mathlib.Core.List.{List}
 use lib.ListN.{length}
 use Rattle.writing.specs.Frames.{pfcBody, pfcSymbols}
 use Rattle.writing.proofs.Pieces.{lead-size, frame-laid}
@@ -10,6 +12,20 @@ use Rattle.writing.specs.Pieces.{lead}
 use borrow.Author.Needs.{needs}
 use Rattle.writing.proofs.write_pfc.Statement.{statement}
 use Rattle.writing.proofs.write_pfc.Tie as tie
+
+-- the places: the start, seen from the first call; behind the first call; behind the second
+abbrev start : tie.After-put-pfc-arg → tie.Start
+start c = c .before .before .before
+
+abbrev put : tie.After-finish-arg2 → tie.After-put-pfc
+put c = c .before .before .before .before
+
+abbrev finished : tie.After-slice-known5 → tie.After-finish
+finished c = c .before .before .before .before
+
+-- what the FCS covers
+abbrev body : tie.Start → List ℕ
+body s = pfcBody (s .args .s) (s .args .classes)
 
 -- the lengths of the arrays
 six : (s : tie.Start) → length (s .args .s .own .0) ≡ 6
@@ -21,20 +37,18 @@ eight s = search (length-mapped, needs)
 put-pfc-requires : tie.Need-put-pfc-requires
 unfolding pfcSymbols
 put-pfc-requires c κs =
-    let s = c .before .before .before in
-    let a = s .args in
-    let n = line-size (pfcBody (a .s) (a .classes)) in
-    let whole = pfc-size (a .s) (a .classes) (six s) (eight s) in
+    let s = start c in
+    let n = line-size (s .args .idles) (body s) in
+    let whole = pfc-size (s .args .idles) (s .args .s) (s .args .classes) (six s) (eight s) in
     omega arith
 
 finish-requires : tie.Need-finish-requires
 unfolding pfcSymbols
 finish-requires c κs =
-    let s = c .before .before .before .before .before .before .before .before in
-    let a = s .args in
-    let n = line-size (pfcBody (a .s) (a .classes)) in
-    let whole = pfc-size (a .s) (a .classes) (six s) (eight s) in
-    let m = length-append lead (pfcBody (a .s) (a .classes)) in
+    let s = start (put c .before) in
+    let n = line-size (s .args .idles) (body s) in
+    let whole = pfc-size (s .args .idles) (s .args .s) (s .args .classes) (six s) (eight s) in
+    let m = length-append lead (body s) in
     let k = lead-size in
     omega arith
 
@@ -47,10 +61,10 @@ same-length-2 c = search needs
 returns : tie.Need-returns
 unfolding pfcSymbols
 returns c =
-    let s = c .before .before .before .before .before .before .before .before .before .before .before .before .before in
-    let a = s .args in
-    let end = c .before .before .before .before .finish .ensures in
-    frame-laid (pfcBody (a .s) (a .classes)) (c .before .before .before .before .before .before .before .before .before .put-pfc .ensures) (end .0) (end .1) (s .pre .0) (s .pre .1)
+    let end = finished c in
+    let front = put (end .before) in
+    let s = start (front .before) in
+    frame-laid (s .args .idles) (body s) (front .put-pfc .ensures) (end .finish .ensures .0) (end .finish .ensures .1) (s .pre .0) (s .pre .1)
 
 pub write-pfc-spec : {M : Type 1} → statement M
 write-pfc-spec =

@@ -1,6 +1,7 @@
 //! Captures: frames one behind the other, many of them damaged, and noise.
 use super::frames::frame;
-use super::{BEYOND_32_BITS, ERROR, IDLE, PREAMBLE, SEQUENCE, START, SYMBOLS, TERMINATE};
+use super::TERMINATE;
+use super::{BEYOND_32_BITS, ERROR, IDLE, PREAMBLE, SEQUENCE, START, SYMBOLS, TABLES_FROM};
 use crate::prng::Prng;
 use reference::Settings;
 
@@ -175,6 +176,18 @@ impl Pen<'_> {
         capture
     }
 
+    /// As many symbols as a walk makes tables for, or one less; every second time the last run ends.
+    fn tabled(&mut self, s: &Settings) -> Symbols {
+        let n = self.prng.pick(&[TABLES_FROM - 1, TABLES_FROM]);
+        let mut symbols = self.frames(s, n);
+        symbols.resize(n);
+        if self.prng.coin() {
+            let mark = self.mark();
+            (symbols.octets[n - 1], symbols.marks[n - 1]) = (TERMINATE, mark);
+        }
+        symbols
+    }
+
     /// About as many symbols as a call takes.
     fn large(&mut self, s: &Settings) -> Symbols {
         let n = self
@@ -215,7 +228,8 @@ pub fn capture(prng: &mut Prng, s: &Settings) -> Symbols {
     let mut pen = Pen { prng, odd };
     let mut symbols = match pen.prng.below(256) {
         0 => pen.large(s),
-        1..=3 => Symbols::default(),
+        1 => pen.tabled(s),
+        2..=3 => Symbols::default(),
         4..=8 => Symbols {
             octets: vec![START, START, TERMINATE],
             marks: [(); 3].map(|()| pen.mark()).to_vec(),

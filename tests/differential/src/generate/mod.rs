@@ -2,16 +2,20 @@
 
 mod captures;
 mod frames;
+mod records;
 mod sendings;
 mod settings;
 mod tags;
 
 pub use captures::{capture, place, Symbols};
+pub use records::{client_record, settings_record, spoil, state_record};
 pub use sendings::{blank_line, sending, sending_place, timed, Sending};
-pub use settings::{settings, state, valid_settings, BROADCAST, RESERVED_GROUP};
+pub use settings::{settings, state, valid_settings, BROADCAST, HIGHEST_BIT, RESERVED_GROUP};
 
 /// The most symbols that a call takes.
 pub const SYMBOLS: usize = 65_536;
+/// A walk over so many symbols makes tables of the FCS for itself; one over fewer does not.
+pub const TABLES_FROM: usize = 8_192;
 /// The most tags that a frame has.
 pub const MOST_TAGS: usize = 8;
 

@@ -1,7 +1,7 @@
 //! Things to send, and the buffers they go to.
 use super::captures::{unequal, Symbols};
 use super::frames::quanta;
-use super::settings::{destination, state};
+use super::settings::{destination, state, HIGHEST_BIT};
 use super::tags::tags;
 use super::{BEYOND_16_BITS, BEYOND_32_BITS, SYMBOLS};
 use crate::prng::Prng;
@@ -163,7 +163,8 @@ pub fn timed(prng: &mut Prng, call: &Sending) -> State {
     for timer in &mut state.timers {
         let any = prng.number() as u32;
         let about = [n.saturating_sub(1), n, n.saturating_add(1)];
-        *timer = prng.pick(&[0, 0, 1, about[0], about[1], about[2], u32::MAX, any]);
+        let far = prng.pick(&[HIGHEST_BIT, u32::MAX, any]);
+        *timer = prng.pick(&[0, 0, 1, about[0], about[1], about[2], u32::MAX, far]);
     }
     if let Sending::Client(client, _) = call {
         if let Some(own) = state.timers.get_mut(usize::from(client.class)) {

@@ -53,21 +53,25 @@ pub fn valid_settings(prng: &mut Prng) -> Settings {
     }
 }
 
-/// Any state: counters about to roll over, timers of all sorts.
+/// A number whose highest bit alone is set.
+pub const HIGHEST_BIT: u32 = 1 << 31;
+
+/// Any state: counters about to roll over or to reach their highest bit, timers of all sorts.
 pub fn state(prng: &mut Prng) -> State {
-    let counters = match prng.below(4) {
+    let counters = match prng.below(5) {
         0 => [0; 11],
         1 => [u32::MAX; 11],
+        2 => [HIGHEST_BIT - 1; 11],
         _ => [(); 11].map(|()| {
             let any = prng.number() as u32;
-            prng.pick(&[0, 1, u32::MAX - 1, u32::MAX, any])
+            prng.pick(&[0, 1, HIGHEST_BIT, u32::MAX - 1, u32::MAX, any])
         }),
     };
     let timers = match prng.below(3) {
         0 => [0; 8],
         _ => [(); 8].map(|()| {
             let any = prng.number() as u32;
-            prng.pick(&[0, 0, 1, 64, 65_535 * 64, u32::MAX, any])
+            prng.pick(&[0, 0, 1, 64, 65_535 * 64, HIGHEST_BIT, u32::MAX, any])
         }),
     };
     State { counters, timers }

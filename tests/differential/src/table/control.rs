@@ -1,6 +1,6 @@
 //! Control frames, timers set, status words and counters.
 use super::{tags, Table};
-use crate::generate::{BROADCAST, RESERVED_GROUP};
+use crate::generate::{BROADCAST, HIGHEST_BIT, RESERVED_GROUP};
 use crate::seen::FrameSeen;
 use reference::Flow;
 
@@ -206,13 +206,22 @@ fn statuses(t: &mut Table) {
     }
 }
 
-/// Each counter's step from 2^32 - 1.
+/// Each counter's step from 2^32 - 1, and into its highest bit.
 fn counters(t: &mut Table) {
-    for outcome in 1..=11 {
-        let name = format!("counter of outcome {outcome} rolls over to 0");
-        t.reading(name, move |r| {
-            let i = usize::from(outcome - 1);
-            r.outcome == outcome && (r.before.counters[i], r.after.counters[i]) == (u32::MAX, 0)
-        });
+    for (step, from, to) in [
+        ("rolls over to 0", u32::MAX, 0),
+        (
+            "goes on from 2^31 - 1 to 2^31",
+            HIGHEST_BIT - 1,
+            HIGHEST_BIT,
+        ),
+    ] {
+        for outcome in 1..=11 {
+            let name = format!("counter of outcome {outcome} {step}");
+            t.reading(name, move |r| {
+                let i = usize::from(outcome - 1);
+                r.outcome == outcome && (r.before.counters[i], r.after.counters[i]) == (from, to)
+            });
+        }
     }
 }

@@ -1,5 +1,6 @@
 //! The rows of the coverage table. A row that names an answer is hit only if the reference, and so
 //! the library too, gives that answer.
+mod c_face;
 mod control;
 mod frames;
 mod reading;
@@ -7,7 +8,7 @@ mod sending;
 mod tags;
 
 use crate::coverage::{Row, When};
-use crate::seen::{FcsSeen, ReadingSeen, SendingSeen, WalkSeen};
+use crate::seen::{CSeen, FcsSeen, ReadingSeen, SendingSeen, WalkSeen};
 use std::collections::BTreeSet;
 
 /// All rows, none hit yet.
@@ -18,6 +19,7 @@ pub(crate) fn rows() -> Vec<Row> {
     tags::rows(&mut table);
     control::rows(&mut table);
     sending::rows(&mut table);
+    c_face::rows(&mut table);
     fcs_rows(&mut table);
     let names: BTreeSet<_> = table.0.iter().map(|row| &row.name).collect();
     assert_eq!(names.len(), table.0.len(), "two rows have one name");
@@ -63,6 +65,10 @@ impl Table {
 
     fn sending(&mut self, name: impl Into<String>, test: impl Fn(&SendingSeen) -> bool + 'static) {
         self.row(name, When::Sending(Box::new(test)));
+    }
+
+    fn c(&mut self, name: impl Into<String>, test: impl Fn(&CSeen) -> bool + 'static) {
+        self.row(name, When::C(Box::new(test)));
     }
 
     fn fcs(&mut self, name: impl Into<String>, test: impl Fn(&FcsSeen) -> bool + 'static) {

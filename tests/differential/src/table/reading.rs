@@ -1,27 +1,16 @@
 //! Answers of readings and walks; settings, captures, places, ends and preambles.
 use super::Table;
-use crate::generate::{BEYOND_32_BITS, ERROR, IDLE, PREAMBLE, SEQUENCE, START, SYMBOLS, TERMINATE};
+use crate::generate::{
+    BEYOND_32_BITS, ERROR, IDLE, PREAMBLE, SEQUENCE, START, SYMBOLS, TABLES_FROM, TERMINATE,
+};
+use crate::names::OUTCOMES;
 use crate::seen::{By, Fcs, ReadingSeen};
 use reference::Walked;
-
-/// Document 01's names of the outcomes 1 to 11.
-const OUTCOMES: [&str; 11] = [
-    "cut",
-    "bad preamble",
-    "undersized",
-    "oversized",
-    "wrong FCS",
-    "wrong length",
-    "filtered",
-    "pause taken",
-    "PFC taken",
-    "control dropped",
-    "handed out",
-];
 
 pub fn rows(t: &mut Table) {
     reading_answers(t);
     walk_answers(t);
+    walk_tables(t);
     settings(t);
     captures(t);
     places(t);
@@ -89,6 +78,43 @@ fn walk_answers(t: &mut Table) {
         let rolled = |&i: &usize| w.after.counters[i] < w.before.counters[i];
         (0..11).filter(rolled).count() > 1
     });
+}
+
+/// Each outcome and end of a walk, on both sides of the number of symbols from which on it makes
+/// tables of the FCS for itself.
+fn walk_tables(t: &mut Table) {
+    for (symbols, lengths) in [
+        (format!("under {TABLES_FROM} symbols"), 0..TABLES_FROM),
+        (
+            format!("{} symbols", TABLES_FROM - 1),
+            TABLES_FROM - 1..TABLES_FROM,
+        ),
+        (
+            format!("{TABLES_FROM} symbols"),
+            TABLES_FROM..TABLES_FROM + 1,
+        ),
+        (
+            format!("{TABLES_FROM} symbols or more"),
+            TABLES_FROM..SYMBOLS + 1,
+        ),
+    ] {
+        for (outcome, name) in (1..).zip(OUTCOMES) {
+            let (name, lengths) = (
+                format!("walk, {symbols}: {outcome} {name}"),
+                lengths.clone(),
+            );
+            t.walk(name, move |w| {
+                lengths.contains(&w.lengths.0) && w.risen(outcome) > 0
+            });
+        }
+        for (end, at_end) in [("none", false), ("open", true)] {
+            let (name, lengths) = (format!("walk, {symbols}: {end}"), lengths.clone());
+            t.walk(name, move |w| {
+                let ended = matches!(w.walked, Walked::Ended { open, .. } if open == at_end);
+                lengths.contains(&w.lengths.0) && ended
+            });
+        }
+    }
 }
 
 /// Both sides of refusal 1.

@@ -1,8 +1,10 @@
 //! Sending: answers, buffers, places, room, timers; client, pause and PFC frames, Idles.
 use super::{tags, with_tags, Table};
-use crate::generate::{Sending, BEYOND_16_BITS, BEYOND_32_BITS, BEYOND_8_BITS, SYMBOLS};
+use crate::generate::{
+    Sending, BEYOND_16_BITS, BEYOND_32_BITS, BEYOND_8_BITS, HIGHEST_BIT, RESERVED_GROUP, SYMBOLS,
+};
 use crate::seen::{Kind, SendingSeen};
-use reference::{Flow, Form, TagKind};
+use reference::{Client, Flow, Form, TagKind};
 
 /// The sending calls and the refusals that each can give, in the order of their tests.
 const KINDS: [(Kind, &str, &[u8]); 4] = [
@@ -26,6 +28,7 @@ pub fn rows(t: &mut Table) {
     too_many_tags(t);
     classes(t);
     flow_frames(t);
+    sent_octets(t);
     idles(t);
 }
 
@@ -112,6 +115,17 @@ fn timers(t: &mut Table, kind: Kind, call: &str) {
     row("a timer at 2^32 - 1", |timers, _| {
         timers.contains(&u32::MAX)
     });
+    for (name, slots) in [("2^31", HIGHEST_BIT), ("2^32 - 1", u32::MAX)] {
+        let name = format!("{call}: a timer at {name}: lowered by the symbols");
+        t.sending(name, move |w| {
+            let written = w.wrote().filter(|&n| n > 1);
+            let mut timers = w.before.timers.iter().zip(&w.after.timers);
+            w.kind() == kind
+                && written.is_some_and(|n| {
+                    timers.any(|(&before, &after)| before == slots && after == slots - n as u32)
+                })
+        });
+    }
 }
 
 /// The types of client frames with so many tags.
@@ -133,23 +147,32 @@ fn types(t: &mut Table, n: usize) {
 
 /// The kinds of the tags of client frames, from outside.
 fn tag_kinds(t: &mut Table) {
-    let kinds = [("0x8100", TagKind::Customer), ("0x88A8", TagKind::Service)];
-    for (outer, outer_kind) in kinds {
+    let kinds = [(0x8100_u16, TagKind::Customer), (0x88A8, TagKind::Service)];
+    // does tag k have this kind, and does the frame that was written say so?
+    let is = |w: &SendingSeen, c: &Client, k: usize, (field, kind): (u16, TagKind)| {
+        c.tags[k].kind == kind && w.frame_has(12 + 4 * k, &field.to_be_bytes())
+    };
+    for outer in kinds {
         for n in [1, 2, 8] {
-            let name = format!("client: {}, {outer} outermost: written", tags(n));
-            t.sending(name, move |w| {
-                w.wrote().is_some() && w.client(Some(n), |c, _| c.tags[0].kind == outer_kind)
-            });
+            let name = format!("client: {}, {:#06X} outermost: sent", tags(n), outer.0);
+            t.sending(name, move |w| w.client(Some(n), |c, _| is(w, c, 0, outer)));
         }
-        for (inner, inner_kind) in kinds {
-            let name = format!("client: 2 tags, {outer} outside {inner}: written");
+        for inner in kinds {
+            let name = format!(
+                "client: 2 tags, {:#06X} outside {:#06X}: sent",
+                outer.0, inner.0
+            );
             t.sending(name, move |w| {
-                let kinds = [outer_kind, inner_kind];
-                w.wrote().is_some()
-                    && w.client(Some(2), |c, _| c.tags.iter().map(|tag| tag.kind).eq(kinds))
+                w.client(Some(2), |c, _| is(w, c, 0, outer) && is(w, c, 1, inner))
             });
         }
     }
+    t.sending("client: 8 tags: each control sent high octet first", |w| {
+        w.client(Some(8), |c, _| {
+            let mut tags = c.tags.iter().enumerate();
+            tags.all(|(k, tag)| w.frame_has(14 + 4 * k, &tag.control.to_be_bytes()))
+        })
+    });
     for n in 3..=7 {
         t.sending(format!("client: {}: written", tags(n)), move |w| {
             w.wrote().is_some() && w.client(Some(n), |_, _| true)
@@ -242,7 +265,7 @@ fn classes(t: &mut Table) {
             w.refusal() == 5 && w.client(None, |c, _| c.class == class)
         });
     }
-    for slots in [1, 64, 4_194_240, u32::MAX] {
+    for slots in [1, 64, 4_194_240, HIGHEST_BIT, u32::MAX] {
         let name = format!("client: its timer at {slots}: refusal 9");
         t.sending(name, move |w| {
             w.refusal() == 9
@@ -294,6 +317,85 @@ fn flow_frames(t: &mut Table) {
         let mut unnamed = (0..8).filter(|class| named >> class & 1 == 0);
         w.wrote().is_some() && unnamed.any(|class| quanta[class] > 0)
     });
+}
+
+/// What stands in frames that were written, octet by octet. The buffers had other octets before.
+fn sent_octets(t: &mut Table) {
+    for (kind, call, _) in KINDS.into_iter().filter(|(kind, ..)| *kind != Kind::Idle) {
+        t.sending(format!("{call}: the source sent is own"), move |w| {
+            let own = &w.s.own;
+            w.kind() == kind && all_differ(own) && w.frame_has(6, own) && !w.frame_has(0, own)
+        });
+    }
+    t.sending("client: the destination sent is the one asked", |w| {
+        w.client(None, |c, _| all_differ(&c.dest) && w.frame_has(0, &c.dest))
+    });
+    for length in [0, 1, 45] {
+        let name = format!("client: {length} octets: padding sent as zeros");
+        t.sending(name, move |w| {
+            let padding = &[0; 46][length..];
+            w.client(Some(0), |_, data| {
+                data.len() == length && w.frame_has(14, data) && w.frame_has(14 + length, padding)
+            })
+        });
+    }
+    let begins = |w: &SendingSeen, opcode: [u8; 2]| {
+        w.frame_has(0, &RESERVED_GROUP) && w.frame_has(12, &[0x88, 0x08, opcode[0], opcode[1]])
+    };
+    t.sending("pause: quanta sent high octet first", move |w| {
+        let Sending::Pause(quanta) = w.call else {
+            return false;
+        };
+        let octets = quanta.to_be_bytes();
+        octets[0] != octets[1] && begins(w, [0x00, 0x01]) && w.frame_has(16, &octets)
+    });
+    t.sending("pause: padding sent as zeros", move |w| {
+        w.kind() == Kind::Pause && begins(w, [0x00, 0x01]) && w.frame_has(18, &[0; 42])
+    });
+    t.sending(
+        "PFC: quanta of a class named sent high octet first",
+        move |w| {
+            pfc_class(w, |named, quanta, sent| {
+                named && quanta[0] != quanta[1] && sent == quanta
+            })
+        },
+    );
+    t.sending("PFC: quanta of a class not named sent as zero", move |w| {
+        pfc_class(w, |named, quanta, sent| {
+            !named && quanta != [0, 0] && sent == [0, 0]
+        })
+    });
+    t.sending("PFC: the unused octet sent as zero", move |w| {
+        let Sending::Pfc(named, _) = w.call else {
+            return false;
+        };
+        *named != 0 && begins(w, [0x01, 0x01]) && w.frame_has(16, &[0, *named])
+    });
+    t.sending("PFC: padding sent as zeros", move |w| {
+        w.kind() == Kind::Pfc && begins(w, [0x01, 0x01]) && w.frame_has(34, &[0; 26])
+    });
+}
+
+/// Six octets, none of which stands for another.
+fn all_differ(address: &[u8; 6]) -> bool {
+    (1..6).all(|i| !address[..i].contains(&address[i]))
+}
+
+/// Is this true of a class of a PFC frame that was written: whether it was named, its quanta high
+/// octet first, and what was sent for it?
+fn pfc_class(w: &SendingSeen, test: impl Fn(bool, [u8; 2], [u8; 2]) -> bool) -> bool {
+    let Sending::Pfc(named, quanta) = w.call else {
+        return false;
+    };
+    let sent = w.frame().get(18..34).unwrap_or_default();
+    let mut classes = sent.chunks_exact(2).zip(quanta).enumerate();
+    classes.any(|(class, (sent, quanta))| {
+        test(
+            named >> class & 1 == 1,
+            quanta.to_be_bytes(),
+            [sent[0], sent[1]],
+        )
+    })
 }
 
 /// Numbers of Idles.

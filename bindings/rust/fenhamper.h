@@ -1,0 +1,497 @@
+/*
+ * Fenhamper: the software Ethernet MAC of a link tester. Read line symbols, send line symbols.
+ *
+ *   Platform      x86-64, System V calling convention; C11 or C++17. Link with libfenhamper.a (rt staticlib
+ *                 fenhamper), which itself needs memset and nothing else.
+ *   Memory        No heap. The archive is code and constants: it has no data section, neither .data nor .bss.
+ *   Reentrant     Yes. Nothing is kept between calls but what the caller lends.
+ *   Stack         At most FENHAMPER_STACK_READ octets for a reading, .._SEND for a sending call, .._WALK for a walk, of
+ *                 which 16 KB are for tables; a test measures them.
+ *   Client data   Of a reading: data_length octets from octets + data_place on, in the caller's own octets and
+ *                 never a copy. They always lie inside, so that no fenhamper_client_data is needed for them.
+ *
+ * Every function of the archive is proved to be the module's own function of that name on what its arguments
+ * stand for (of fenhamper_client_data, that the octets it names are those the module's function hands out). It
+ * takes any values, and never fails but by a refusal's number. The inline functions at the end only lay
+ * arguments out and take answers apart; no proof covers them.
+ *
+ * What is asked of the caller is what C cannot say: a pointer points at what its type says, or at n octets
+ * where their number n goes with it, and is never null (where n = 0 any other pointer will do); and nothing
+ * that a call writes overlaps another of its arguments.
+ *
+ * A symbol is an octet and a mark, kept in two buffers of equal length, at most FENHAMPER_MOST_SYMBOLS (else
+ * refusal 2). Mark 0 is data, any other is control; a place is an index from 0 to the length. Other
+ * octets, the data of a frame and what an FCS is taken of, may be of any length.
+ */
+#ifndef FENHAMPER_H
+#define FENHAMPER_H
+
+#include <stddef.h>
+#include <stdint.h>
+
+#if defined(__BYTE_ORDER__) && __BYTE_ORDER__ != __ORDER_LITTLE_ENDIAN__
+#error "libfenhamper.a keeps numbers low octet first, as x86-64 does"
+#endif
+
+#ifdef __cplusplus
+#define FENHAMPER_HOLDS(fact) static_assert(fact, "fenhamper.h: " #fact)
+#define FENHAMPER_ZEROS {}
+extern "C" {
+#else
+#define FENHAMPER_HOLDS(fact) _Static_assert(fact, "fenhamper.h: " #fact)
+#define FENHAMPER_ZEROS {0}
+#endif
+
+/*
+ * The layout of the records below, which is part of a symbol's name in the archive. An object that includes this
+ * header needs that symbol, so that one compiled for another layout does not link.
+ */
+#define FENHAMPER_LAYOUT 2
+uint32_t fenhamper_layout_2(void); /* gives FENHAMPER_LAYOUT */
+#ifdef __has_attribute
+#if __has_attribute(retain)
+static uint32_t (*const fenhamper_layout)(void) __attribute__((used, retain)) = fenhamper_layout_2;
+#elif __has_attribute(used)
+static uint32_t (*const fenhamper_layout)(void) __attribute__((used)) = fenhamper_layout_2;
+#endif
+#endif
+
+/* ---- limits, each under one name */
+
+#define FENHAMPER_MOST_SYMBOLS 65536 /* of a capture and of line buffers */
+#define FENHAMPER_LEAST_LIMIT 1518   /* of the limit M */
+#define FENHAMPER_MOST_LIMIT 9618    /* of the limit M */
+#define FENHAMPER_LEAST_FRAME 64     /* octets from destination to FCS */
+#define FENHAMPER_LEAST_DATA 46      /* octets; shorter data is padded to them */
+#define FENHAMPER_MOST_LENGTH 1500   /* octets of data in the length form */
+#define FENHAMPER_LEAST_TYPE 1536    /* a lower field is a length */
+#define FENHAMPER_QUANTUM 64         /* slots: symbols written, by which timers fall */
+#define FENHAMPER_MOST_LISTED 4      /* addresses */
+#define FENHAMPER_MOST_TAGS 8        /* of a frame */
+#define FENHAMPER_CLASSES 8          /* 0 to 7, a timer each */
+#define FENHAMPER_OUTCOMES 11        /* 1 to 11, a counter each */
+#define FENHAMPER_STACK_READ 1024    /* octets of stack that a call takes at most: fenhamper_read */
+#define FENHAMPER_STACK_SEND 512     /* the sending calls and Idle fill */
+#define FENHAMPER_STACK_WALK 18432   /* fenhamper_walk */
+
+/* ---- settings */
+
+/* An address, in the order on the line. */
+typedef struct fenhamper_address {
+  uint8_t octets[6];
+} fenhamper_address;
+FENHAMPER_HOLDS(sizeof(fenhamper_address) == 6);
+
+/* Which control frames can be sent, and which are taken and set timers. */
+typedef enum fenhamper_flow { FENHAMPER_FLOW_NONE = 0, FENHAMPER_FLOW_PAUSE = 1, FENHAMPER_FLOW_PFC = 2 } fenhamper_flow;
+
+/* What a station is set to. Any values are some settings; those that no call takes get refusal 1. */
+typedef struct fenhamper_settings {
+  fenhamper_address own;                           /* a group: refusal 1 */
+  fenhamper_address listed[FENHAMPER_MOST_LISTED]; /* accepted too */
+  uint8_t listed_count;                            /* how many of them count, from the front; above 4: refusal 1 */
+  uint8_t broadcast;                               /* accepted? Here and in the next three: 0 no, anything else yes */
+  uint8_t promiscuous;                             /* accept every destination? */
+  uint8_t checking;                                /* check lengths, and leave padding off what is handed out? */
+  uint8_t pass_control;                            /* hand out control frames that are not taken? */
+  uint8_t flow;                                    /* FENHAMPER_FLOW_..; anything else is NONE */
+  uint16_t limit;                                  /* M; outside 1518 to 9618: refusal 1 */
+  uint8_t spare[10];                               /* not looked at; give 0 */
+} fenhamper_settings;
+FENHAMPER_HOLDS(sizeof(fenhamper_settings) == 48);
+FENHAMPER_HOLDS(offsetof(fenhamper_settings, own) == 0);
+FENHAMPER_HOLDS(offsetof(fenhamper_settings, listed) == 6);
+FENHAMPER_HOLDS(offsetof(fenhamper_settings, listed_count) == 30);
+FENHAMPER_HOLDS(offsetof(fenhamper_settings, broadcast) == 31);
+FENHAMPER_HOLDS(offsetof(fenhamper_settings, promiscuous) == 32);
+FENHAMPER_HOLDS(offsetof(fenhamper_settings, checking) == 33);
+FENHAMPER_HOLDS(offsetof(fenhamper_settings, pass_control) == 34);
+FENHAMPER_HOLDS(offsetof(fenhamper_settings, flow) == 35);
+FENHAMPER_HOLDS(offsetof(fenhamper_settings, limit) == 36);
+FENHAMPER_HOLDS(offsetof(fenhamper_settings, spare) == 38);
+
+/* ---- state */
+
+/*
+ * What a station keeps from call to call, read and written by every call that takes it. A fresh state is all zeros.
+ * Of each counter and timer the low 32 bits are read, and the rest is written as 0. A refused call leaves the whole
+ * record as it was, to the bit.
+ */
+typedef struct fenhamper_state {
+  uint64_t counters[FENHAMPER_OUTCOMES]; /* of outcomes 1 to 11: fenhamper_counter takes the outcome's number */
+  uint64_t timers[FENHAMPER_CLASSES];    /* of classes 0 to 7, in slots */
+  uint64_t spare[5];                     /* not looked at, and written as 0 */
+} fenhamper_state;
+FENHAMPER_HOLDS(sizeof(fenhamper_state) == 192);
+FENHAMPER_HOLDS(offsetof(fenhamper_state, counters) == 0);
+FENHAMPER_HOLDS(offsetof(fenhamper_state, timers) == 88);
+FENHAMPER_HOLDS(offsetof(fenhamper_state, spare) == 152);
+
+/* ---- answers */
+
+/* The outcome of a Start. */
+typedef enum fenhamper_outcome {
+  FENHAMPER_CUT = 1,
+  FENHAMPER_BAD_PREAMBLE = 2,
+  FENHAMPER_UNDERSIZED = 3,
+  FENHAMPER_OVERSIZED = 4,
+  FENHAMPER_WRONG_FCS = 5,
+  FENHAMPER_WRONG_LENGTH = 6,
+  FENHAMPER_FILTERED = 7,
+  FENHAMPER_PAUSE_TAKEN = 8,
+  FENHAMPER_PFC_TAKEN = 9,
+  FENHAMPER_CONTROL_DROPPED = 10,
+  FENHAMPER_HANDED_OUT = 11
+} fenhamper_outcome;
+
+/*
+ * Why a call was refused: the first that holds, in the order of their numbers, but that 10 is tested after 6
+ * and before 7. A refused call leaves the state and every symbol.
+ */
+typedef enum fenhamper_refusal {
+  FENHAMPER_BAD_SETTINGS = 1, /* own address is a group, listed count above 4, or M out of range */
+  FENHAMPER_BAD_BUFFERS = 2,  /* octets and marks differ in length, or exceed FENHAMPER_MOST_SYMBOLS */
+  FENHAMPER_BAD_PLACE = 3,    /* place beyond the buffers' length */
+  FENHAMPER_OTHER_FLOW = 4,   /* pause or PFC asked in another flow mode */
+  FENHAMPER_BAD_CLASS = 5,    /* class above 7 */
+  FENHAMPER_BAD_TYPE = 6,     /* type under 1536, or 0x8100, 0x8808 or 0x88A8 */
+  FENHAMPER_LONG_DATA = 7,    /* data over 1500 (length form), or over M - 18 (type form) */
+  FENHAMPER_NO_ROOM = 8,      /* too few symbols from the place to the end of the buffers */
+  FENHAMPER_HELD = 9,         /* a client frame, and the timer of its class is above zero */
+  FENHAMPER_MANY_TAGS = 10    /* more than eight tags */
+} fenhamper_refusal;
+
+/* Whether a reading found a Start whose run ends inside the capture. */
+typedef enum fenhamper_kind { FENHAMPER_COUNTED = 0, FENHAMPER_NONE = 1, FENHAMPER_OPEN = 2 } fenhamper_kind;
+
+/* A reading's answer. */
+typedef struct fenhamper_reading {
+  uint64_t refusal;     /* 0, or the refusal: then both places are the call's and the rest is 0 */
+  uint64_t kind;        /* FENHAMPER_COUNTED, NONE or OPEN; 0 for a refusal */
+  uint64_t outcome;     /* 1 to 11 if counted, else 0 */
+  uint64_t start;       /* the Start's place; for NONE the capture's length */
+  uint64_t next;        /* where to read on: the ending symbol; for OPEN the Start, for NONE the length */
+  uint64_t status;      /* the status word; 0 unless counted */
+  uint64_t data_place;  /* the client data: from this place in octets on, */
+  uint64_t data_length; /* so many octets, 0 possible for outcome 11; else 0 and 0 */
+  uint64_t spare[4];    /* written as 0 */
+} fenhamper_reading;
+FENHAMPER_HOLDS(sizeof(fenhamper_reading) == 96);
+FENHAMPER_HOLDS(offsetof(fenhamper_reading, refusal) == 0);
+FENHAMPER_HOLDS(offsetof(fenhamper_reading, kind) == 8);
+FENHAMPER_HOLDS(offsetof(fenhamper_reading, outcome) == 16);
+FENHAMPER_HOLDS(offsetof(fenhamper_reading, start) == 24);
+FENHAMPER_HOLDS(offsetof(fenhamper_reading, next) == 32);
+FENHAMPER_HOLDS(offsetof(fenhamper_reading, status) == 40);
+FENHAMPER_HOLDS(offsetof(fenhamper_reading, data_place) == 48);
+FENHAMPER_HOLDS(offsetof(fenhamper_reading, data_length) == 56);
+FENHAMPER_HOLDS(offsetof(fenhamper_reading, spare) == 64);
+
+/*
+ * The status word, by masks: fenhamper_status_has(status, FENHAMPER_STATUS_TAGGED). Bits 31 to 16 are the frame's octets
+ * from destination to FCS, bits 15 to 0 those of its data (handed out for outcome 11; all of it for 8 to 10). For
+ * outcomes 1 to 7 the whole word is 0.
+ */
+#define FENHAMPER_STATUS_PFC (UINT64_C(1) << 39)       /* PFC taken */
+#define FENHAMPER_STATUS_UNICAST (UINT64_C(1) << 38)   /* to one station */
+#define FENHAMPER_STATUS_MULTICAST (UINT64_C(1) << 37) /* to a group other than broadcast */
+#define FENHAMPER_STATUS_BROADCAST (UINT64_C(1) << 36) /* to all */
+#define FENHAMPER_STATUS_PAUSE (UINT64_C(1) << 35)     /* pause taken */
+#define FENHAMPER_STATUS_CONTROL (UINT64_C(1) << 34)   /* a control frame */
+#define FENHAMPER_STATUS_TAGGED (UINT64_C(1) << 33)    /* exactly one tag */
+#define FENHAMPER_STATUS_STACKED (UINT64_C(1) << 32)   /* two tags or more */
+
+/* A walk's answer. */
+typedef struct fenhamper_walked {
+  uint64_t refusal; /* 0, or the refusal: then the rest is 0 */
+  uint64_t starts;  /* how many Starts were counted */
+  uint64_t open;    /* 1 if the walk ended open, else 0 */
+  uint64_t spare;   /* written as 0 */
+} fenhamper_walked;
+FENHAMPER_HOLDS(sizeof(fenhamper_walked) == 32);
+FENHAMPER_HOLDS(offsetof(fenhamper_walked, refusal) == 0);
+FENHAMPER_HOLDS(offsetof(fenhamper_walked, starts) == 8);
+FENHAMPER_HOLDS(offsetof(fenhamper_walked, open) == 16);
+FENHAMPER_HOLDS(offsetof(fenhamper_walked, spare) == 24);
+
+/* A sending call's answer. */
+typedef struct fenhamper_sent {
+  uint64_t refusal; /* 0, or the refusal */
+  uint64_t place;   /* the place after what was written; for a refusal the call's place */
+} fenhamper_sent;
+FENHAMPER_HOLDS(sizeof(fenhamper_sent) == 16);
+FENHAMPER_HOLDS(offsetof(fenhamper_sent, refusal) == 0);
+FENHAMPER_HOLDS(offsetof(fenhamper_sent, place) == 8);
+
+/* A part of octets. */
+typedef struct fenhamper_part {
+  uint64_t place;
+  uint64_t length;
+} fenhamper_part;
+FENHAMPER_HOLDS(sizeof(fenhamper_part) == 16);
+FENHAMPER_HOLDS(offsetof(fenhamper_part, place) == 0);
+FENHAMPER_HOLDS(offsetof(fenhamper_part, length) == 8);
+
+/* ---- client frames */
+
+/* What a frame's field is: the length of its data, or a type. */
+typedef enum fenhamper_form { FENHAMPER_FORM_LENGTH = 0, FENHAMPER_FORM_TYPE = 1 } fenhamper_form;
+
+/* The kinds of tags: 0x8100, and 0x88A8, which providers put outside the others. */
+typedef enum fenhamper_tag_kind { FENHAMPER_TAG_CUSTOMER = 0, FENHAMPER_TAG_SERVICE = 1 } fenhamper_tag_kind;
+
+typedef struct fenhamper_tag {
+  uint8_t kind;     /* FENHAMPER_TAG_..; anything but 0 is SERVICE */
+  uint8_t spare;    /* not looked at; give 0 */
+  uint16_t control; /* the tag control, a number like any other: priority << 13 | VLAN */
+} fenhamper_tag;
+FENHAMPER_HOLDS(sizeof(fenhamper_tag) == 4);
+FENHAMPER_HOLDS(offsetof(fenhamper_tag, kind) == 0);
+FENHAMPER_HOLDS(offsetof(fenhamper_tag, spare) == 1);
+FENHAMPER_HOLDS(offsetof(fenhamper_tag, control) == 2);
+
+/* A client frame but for its data; its source is the own address. Any values are some client frame. */
+typedef struct fenhamper_client {
+  fenhamper_address destination;
+  uint8_t traffic_class;                   /* 0 to 7, whose timer can hold it; above: refusal 5 */
+  uint8_t form;                            /* FENHAMPER_FORM_..; anything but 0 is TYPE */
+  uint16_t type;                           /* a number like any other, as 0x0800; not looked at in the length form */
+  uint8_t tag_count;                       /* how many of the tags count, from the front; above 8: refusal 10 */
+  uint8_t spare;                           /* not looked at; give 0 */
+  fenhamper_tag tags[FENHAMPER_MOST_TAGS]; /* the outermost first; those beyond the count are not looked at */
+} fenhamper_client;
+FENHAMPER_HOLDS(sizeof(fenhamper_client) == 44);
+FENHAMPER_HOLDS(offsetof(fenhamper_client, destination) == 0);
+FENHAMPER_HOLDS(offsetof(fenhamper_client, traffic_class) == 6);
+FENHAMPER_HOLDS(offsetof(fenhamper_client, form) == 7);
+FENHAMPER_HOLDS(offsetof(fenhamper_client, type) == 8);
+FENHAMPER_HOLDS(offsetof(fenhamper_client, tag_count) == 10);
+FENHAMPER_HOLDS(offsetof(fenhamper_client, spare) == 11);
+FENHAMPER_HOLDS(offsetof(fenhamper_client, tags) == 12);
+
+/* ---- the functions of the archive. With octets and marks in one struct, where neither stands for the other: see below */
+
+/* Read the first Start at `place` or later: its outcome is counted, and a pause or PFC frame sets timers. */
+void fenhamper_read(const fenhamper_settings *settings, fenhamper_state *state, const uint8_t *octets,
+                    size_t octets_length, const uint8_t *marks, size_t marks_length, size_t place,
+                    fenhamper_reading *reading);
+
+/* Read Start after Start from place 0 until NONE or OPEN, all in one call. */
+void fenhamper_walk(const fenhamper_settings *settings, fenhamper_state *state, const uint8_t *octets,
+                    size_t octets_length, const uint8_t *marks, size_t marks_length, fenhamper_walked *walked);
+
+/*
+ * The client data that a part stands for, where it is not a reading's own: the part itself if it lies inside
+ * octets_length octets, else 0 and 0.
+ */
+void fenhamper_client_data(size_t octets_length, size_t place, size_t length, fenhamper_part *part);
+
+/* Write a client frame and its gap from `place` on. */
+void fenhamper_send_client(const fenhamper_settings *settings, fenhamper_state *state, uint8_t *octets,
+                           size_t octets_length, uint8_t *marks, size_t marks_length, size_t place,
+                           const fenhamper_client *client, const uint8_t *data, size_t data_length,
+                           fenhamper_sent *sent);
+
+/* Write a pause frame and its gap from `place` on, whatever the timers say. */
+void fenhamper_send_pause(const fenhamper_settings *settings, fenhamper_state *state, uint8_t *octets,
+                          size_t octets_length, uint8_t *marks, size_t marks_length, size_t place, uint16_t quanta,
+                          fenhamper_sent *sent);
+
+/* Write a PFC frame and its gap: bit n of `named` names class n; quanta of a class not named go out as zero. */
+void fenhamper_send_pfc(const fenhamper_settings *settings, fenhamper_state *state, uint8_t *octets,
+                        size_t octets_length, uint8_t *marks, size_t marks_length, size_t place, uint8_t named,
+                        const uint16_t quanta[FENHAMPER_CLASSES], fenhamper_sent *sent);
+
+/* Write `idles` Idles from `place` on. */
+void fenhamper_fill_idle(fenhamper_state *state, uint8_t *octets, size_t octets_length, uint8_t *marks,
+                         size_t marks_length, size_t place, size_t idles, fenhamper_sent *sent);
+
+/* The FCS of octets, as a number whose low octet is sent first. */
+uint32_t fenhamper_fcs(const uint8_t *octets, size_t length);
+
+/* The register after more octets. It starts as 0xFFFFFFFF, and its complement is the FCS. */
+uint32_t fenhamper_fcs_update(uint32_t from, const uint8_t *octets, size_t length);
+
+/* All zeros: counters, timers and what is spare. */
+void fenhamper_fresh_state(fenhamper_state *state);
+
+/* ---- making records */
+
+/*
+ * The printing program's settings with this own address: none listed, broadcast on, promiscuous off, lengths
+ * checked, control frames not passed, flow mode none, M 1518.
+ */
+static inline fenhamper_settings fenhamper_settings_for(fenhamper_address own) {
+  fenhamper_settings settings = FENHAMPER_ZEROS;
+  settings.own = own;
+  settings.broadcast = 1;
+  settings.checking = 1;
+  settings.limit = FENHAMPER_LEAST_LIMIT;
+  return settings;
+}
+
+/* A client frame to this address: in the length form, of class 0 and with no tag, unless said otherwise. */
+static inline fenhamper_client fenhamper_client_to(fenhamper_address destination) {
+  fenhamper_client client = FENHAMPER_ZEROS;
+  client.destination = destination;
+  return client;
+}
+
+/* Put the frame into the type form, with this type. */
+static inline void fenhamper_set_type(fenhamper_client *client, uint16_t type) {
+  client->form = FENHAMPER_FORM_TYPE;
+  client->type = type;
+}
+
+/* Give the frame one more tag, inside those that it has. A ninth is counted and not kept: the frame is refused (10). */
+static inline void fenhamper_add_tag(fenhamper_client *client, fenhamper_tag_kind kind, uint16_t control) {
+  if (client->tag_count < FENHAMPER_MOST_TAGS) {
+    fenhamper_tag *tag = &client->tags[client->tag_count];
+    tag->kind = (uint8_t)kind;
+    tag->spare = 0;
+    tag->control = control;
+  }
+  if (client->tag_count < UINT8_MAX) client->tag_count = (uint8_t)(client->tag_count + 1);
+}
+
+/* ---- the same calls, with octets and marks in one struct */
+
+/* Symbols to read. Name the members when you fill it: {.octets = .., .marks = .., .length = ..} in C. */
+typedef struct fenhamper_capture {
+  const uint8_t *octets;
+  const uint8_t *marks;
+  size_t length; /* of both */
+} fenhamper_capture;
+
+/* Line buffers to write into. */
+typedef struct fenhamper_line {
+  uint8_t *octets;
+  uint8_t *marks;
+  size_t length; /* of both */
+} fenhamper_line;
+
+/* What stands in the line buffers before `end`, to be read; all of it, if they are no longer than that. */
+static inline fenhamper_capture fenhamper_captured(fenhamper_line line, size_t end) {
+  fenhamper_capture capture;
+  capture.octets = line.octets;
+  capture.marks = line.marks;
+  capture.length = end < line.length ? end : line.length;
+  return capture;
+}
+
+static inline fenhamper_reading fenhamper_capture_read(const fenhamper_settings *settings, fenhamper_state *state,
+                                                       fenhamper_capture capture, size_t place) {
+  fenhamper_reading reading;
+  fenhamper_read(settings, state, capture.octets, capture.length, capture.marks, capture.length, place, &reading);
+  return reading;
+}
+
+static inline fenhamper_walked fenhamper_capture_walk(const fenhamper_settings *settings, fenhamper_state *state,
+                                                      fenhamper_capture capture) {
+  fenhamper_walked walked;
+  fenhamper_walk(settings, state, capture.octets, capture.length, capture.marks, capture.length, &walked);
+  return walked;
+}
+
+/* Here data of no octets may be null. */
+static inline fenhamper_sent fenhamper_line_client(const fenhamper_settings *settings, fenhamper_state *state,
+                                                   fenhamper_line line, size_t place, const fenhamper_client *client,
+                                                   const uint8_t *data, size_t data_length) {
+  fenhamper_sent sent;
+  if (data_length == 0) data = client->destination.octets;
+  fenhamper_send_client(settings, state, line.octets, line.length, line.marks, line.length, place, client, data,
+                        data_length, &sent);
+  return sent;
+}
+
+static inline fenhamper_sent fenhamper_line_pause(const fenhamper_settings *settings, fenhamper_state *state,
+                                                  fenhamper_line line, size_t place, uint16_t quanta) {
+  fenhamper_sent sent;
+  fenhamper_send_pause(settings, state, line.octets, line.length, line.marks, line.length, place, quanta, &sent);
+  return sent;
+}
+
+static inline fenhamper_sent fenhamper_line_pfc(const fenhamper_settings *settings, fenhamper_state *state,
+                                                fenhamper_line line, size_t place, uint8_t named,
+                                                const uint16_t quanta[FENHAMPER_CLASSES]) {
+  fenhamper_sent sent;
+  fenhamper_send_pfc(settings, state, line.octets, line.length, line.marks, line.length, place, named, quanta, &sent);
+  return sent;
+}
+
+static inline fenhamper_sent fenhamper_line_idle(fenhamper_state *state, fenhamper_line line, size_t place,
+                                                 size_t idles) {
+  fenhamper_sent sent;
+  fenhamper_fill_idle(state, line.octets, line.length, line.marks, line.length, place, idles, &sent);
+  return sent;
+}
+
+/* ---- taking answers apart */
+
+/* How many Starts had this outcome, modulo 2^32. */
+static inline uint64_t fenhamper_counter(const fenhamper_state *state, fenhamper_outcome outcome) {
+  return outcome >= FENHAMPER_CUT && outcome <= FENHAMPER_HANDED_OUT ? state->counters[outcome - 1] : 0;
+}
+
+/* Six octets in the caller's own: the destination of the frame that a reading of this capture met; null unless that
+ * frame has FENHAMPER_LEAST_FRAME octets (outcomes 4 to 11). */
+static inline const uint8_t *fenhamper_destination(fenhamper_capture capture, const fenhamper_reading *reading) {
+  /* behind Start and preamble, where source and FENHAMPER_LEAST_FRAME octets in all lie inside */
+  if (reading->outcome < FENHAMPER_OVERSIZED || capture.length < 8 + FENHAMPER_LEAST_FRAME) return NULL;
+  if (reading->start > capture.length - 8 - FENHAMPER_LEAST_FRAME) return NULL;
+  return capture.octets + reading->start + 8;
+}
+
+/* Likewise, its source. */
+static inline const uint8_t *fenhamper_source(fenhamper_capture capture, const fenhamper_reading *reading) {
+  const uint8_t *destination = fenhamper_destination(capture, reading);
+  return destination ? destination + 6 : NULL;
+}
+
+/* Whether a status word has this bit. (An int is narrower than the masks: what status & mask gives does not fit.) */
+static inline int fenhamper_status_has(uint64_t status, uint64_t mask) { return (status & mask) != 0; }
+
+/* Of a status word: the frame's octets from destination to FCS, and those of its data. */
+static inline uint16_t fenhamper_frame_length(uint64_t status) { return (uint16_t)(status >> 16 & 0xFFFF); }
+static inline uint16_t fenhamper_data_length(uint64_t status) { return (uint16_t)(status & 0xFFFF); }
+
+/* An outcome's name; "none" of any other number, as of 0. */
+static inline const char *fenhamper_outcome_name(uint64_t outcome) {
+  switch (outcome) {
+    case FENHAMPER_CUT: return "cut";
+    case FENHAMPER_BAD_PREAMBLE: return "bad preamble";
+    case FENHAMPER_UNDERSIZED: return "undersized";
+    case FENHAMPER_OVERSIZED: return "oversized";
+    case FENHAMPER_WRONG_FCS: return "wrong FCS";
+    case FENHAMPER_WRONG_LENGTH: return "wrong length";
+    case FENHAMPER_FILTERED: return "filtered";
+    case FENHAMPER_PAUSE_TAKEN: return "pause taken";
+    case FENHAMPER_PFC_TAKEN: return "PFC taken";
+    case FENHAMPER_CONTROL_DROPPED: return "control dropped";
+    case FENHAMPER_HANDED_OUT: return "handed out";
+    default: return "none";
+  }
+}
+
+/* A refusal's name; "none" of any other number, as of 0. */
+static inline const char *fenhamper_refusal_name(uint64_t refusal) {
+  switch (refusal) {
+    case FENHAMPER_BAD_SETTINGS: return "bad settings";
+    case FENHAMPER_BAD_BUFFERS: return "bad buffers";
+    case FENHAMPER_BAD_PLACE: return "bad place";
+    case FENHAMPER_OTHER_FLOW: return "other flow";
+    case FENHAMPER_BAD_CLASS: return "bad class";
+    case FENHAMPER_BAD_TYPE: return "bad type";
+    case FENHAMPER_LONG_DATA: return "long data";
+    case FENHAMPER_NO_ROOM: return "no room";
+    case FENHAMPER_HELD: return "held";
+    case FENHAMPER_MANY_TAGS: return "many tags";
+    default: return "none";
+  }
+}
+
+#ifdef __cplusplus
+}
+#endif
+
+#endif

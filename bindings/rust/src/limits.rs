@@ -1,0 +1,56 @@
+//! The limits of documents 01 and 02, and how much stack a call takes, by name.
+//!
+//! The names are the header's, without its `FENHAMPER_`, and a test holds their values to it.
+//!
+//! ```
+//! use fenhamper::{limits, Settings};
+//!
+//! let jumbo = Settings::default().limit(limits::MOST_LIMIT);
+//! assert_eq!(jumbo.frame_limit(), 9618);
+//! ```
+use crate::sys;
+
+/// The most symbols of a capture or of line buffers: 65,536.
+pub const MOST_SYMBOLS: usize = sys::MOST_SYMBOLS;
+
+/// The least that the limit M can be: 1518 octets.
+pub const LEAST_LIMIT: u16 = sys::LEAST_LIMIT;
+
+/// The most that the limit M can be: 9618 octets.
+pub const MOST_LIMIT: u16 = 9618;
+
+/// The shortest frame, destination to FCS: 64 octets. A shorter one is undersized.
+pub const LEAST_FRAME: usize = 64;
+
+/// The shortest data of a frame that is sent: 46 octets. Shorter data is padded to them.
+pub const LEAST_DATA: usize = 46;
+
+/// The longest data in the length form: 1500 octets.
+pub const MOST_LENGTH: usize = 1500;
+
+/// The least field that is a type: 1536.
+pub const LEAST_TYPE: u16 = 1536;
+
+/// A quantum in slots: 64. A slot is one symbol written.
+pub const QUANTUM: u64 = 64;
+
+/// The most addresses that can be listed beside the own one: 4.
+pub const MOST_LISTED: usize = sys::MOST_LISTED;
+
+/// The most tags of a frame: 8. A ninth is an ordinary type.
+pub const MOST_TAGS: usize = sys::MOST_TAGS;
+
+/// How many classes there are, 0 to 7, with a timer each: 8.
+pub const CLASSES: usize = sys::CLASSES;
+
+/// How many outcomes there are, 1 to 11, with a counter each: 11.
+pub const OUTCOMES: usize = sys::OUTCOMES;
+
+/// Octets of stack that a reading takes at most: 1024.
+pub const STACK_READ: usize = 1024;
+
+/// Octets of stack that a sending call or an Idle fill takes at most: 512.
+pub const STACK_SEND: usize = 512;
+
+/// Octets of stack that a walk takes at most: 18,432, of which 16,384 are for tables.
+pub const STACK_WALK: usize = 18432;

@@ -1,0 +1,110 @@
+/*
+ * How much stack a call takes. Each runs on a painted stack of its own; what it painted over, less what a call of nothing does, is held to the bound that
+ * the header names. Prints the measured octets; exits with 1 where one is over its bound.
+ */
+#include <stdio.h>
+#include <stdlib.h>
+#include <string.h>
+#include <ucontext.h>
+
+#include "fenhamper.h"
+
+#define STACK (1 << 18)
+#define PAINT 0xA5
+
+static uint8_t stack[STACK];
+static ucontext_t caller, called;
+static void (*what)(void);
+
+static const fenhamper_address own = {{0x02, 0, 0, 0, 0, 1}};
+static uint8_t octets[FENHAMPER_MOST_SYMBOLS], marks[FENHAMPER_MOST_SYMBOLS], data[1500];
+static fenhamper_settings settings;
+static fenhamper_state state;
+static fenhamper_client client;
+static uint16_t quanta[FENHAMPER_CLASSES];
+static size_t symbols;
+
+static void run(void) { what(); }
+
+/* The octets of stack that a call paints over. */
+static size_t painted_over(void (*call)(void)) {
+  size_t untouched = 0;
+  what = call;
+  memset(stack, PAINT, sizeof stack);
+  if (getcontext(&called) != 0) exit(2);
+  called.uc_stack.ss_sp = stack;
+  called.uc_stack.ss_size = sizeof stack;
+  called.uc_link = &caller;
+  makecontext(&called, run, 0);
+  if (swapcontext(&caller, &called) != 0) exit(2);
+  while (untouched < sizeof stack && stack[untouched] == PAINT) untouched++;
+  return sizeof stack - untouched;
+}
+
+static void nothing(void) {}
+
+static void read_one(void) {
+  fenhamper_reading reading;
+  fenhamper_read(&settings, &state, octets, symbols, marks, symbols, 0, &reading);
+}
+
+static void walk_short(void) {
+  fenhamper_walked walked;
+  fenhamper_walk(&settings, &state, octets, 4096, marks, 4096, &walked);
+}
+
+static void walk_long(void) {
+  fenhamper_walked walked;
+  fenhamper_walk(&settings, &state, octets, symbols, marks, symbols, &walked);
+}
+
+static void send_client(void) {
+  fenhamper_sent sent;
+  fenhamper_send_client(&settings, &state, octets, symbols, marks, symbols, 0, &client, data, sizeof data, &sent);
+}
+
+static void send_pause(void) {
+  fenhamper_sent sent;
+  settings.flow = FENHAMPER_FLOW_PAUSE;
+  fenhamper_send_pause(&settings, &state, octets, symbols, marks, symbols, 0, 5, &sent);
+}
+
+static void send_pfc(void) {
+  fenhamper_sent sent;
+  settings.flow = FENHAMPER_FLOW_PFC;
+  fenhamper_send_pfc(&settings, &state, octets, symbols, marks, symbols, 0, 0x81, quanta, &sent);
+}
+
+static void fill_idle(void) {
+  fenhamper_sent sent;
+  fenhamper_fill_idle(&state, octets, symbols, marks, symbols, 0, symbols, &sent);
+}
+
+static int over = 0;
+
+static void hold(const char *name, void (*call)(void), size_t bound) {
+  size_t all = painted_over(call), none = painted_over(nothing), taken = all > none ? all - none : 0;
+  printf("stack of %s: %zu octets, at most %zu\n", name, taken, bound);
+  if (taken > bound) over = 1;
+}
+
+int main(void) {
+  size_t i;
+  fenhamper_sent sent;
+  symbols = sizeof octets;
+  settings = fenhamper_settings_for(own);
+  client = fenhamper_client_to(own);
+  fenhamper_fresh_state(&state);
+  for (i = 0; i < 8; i++) fenhamper_add_tag(&client, FENHAMPER_TAG_CUSTOMER, (uint16_t)i);
+  /* a capture of frames, each with eight tags */
+  for (sent.place = 0, sent.refusal = 0; sent.refusal == 0;)
+    fenhamper_send_client(&settings, &state, octets, symbols, marks, symbols, (size_t)sent.place, &client, data, 100, &sent);
+  hold("read", read_one, FENHAMPER_STACK_READ);
+  hold("walk, under 8,192 symbols", walk_short, FENHAMPER_STACK_WALK);
+  hold("walk", walk_long, FENHAMPER_STACK_WALK);
+  hold("send_client", send_client, FENHAMPER_STACK_SEND);
+  hold("send_pause", send_pause, FENHAMPER_STACK_SEND);
+  hold("send_pfc", send_pfc, FENHAMPER_STACK_SEND);
+  hold("fill_idle", fill_idle, FENHAMPER_STACK_SEND);
+  return over;
+}

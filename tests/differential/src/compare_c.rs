@@ -1,0 +1,179 @@
+//! Calls through the C face, with any records, compared with the reference's on what they mean.
+use crate::compare::{by_reference, inputs, Bench, Difference, Lent};
+use crate::generate::{Sending, BEYOND_32_BITS, SYMBOLS};
+use crate::prng::Prng;
+use crate::seen::{By, CCall, CSeen, ReadingSeen, SendingSeen, WalkSeen};
+use crate::{raw, records, show};
+use reference::{Answer, Sent, State, Walked};
+
+/// A state's numbers after a call: a refused one leaves them as they were, to the bit.
+fn after(refused: bool, before: &raw::State, state: &State) -> raw::State {
+    if refused {
+        *before
+    } else {
+        records::state_written(state)
+    }
+}
+
+impl Bench {
+    /// One reading through the C face; the state goes on to that after it.
+    pub(crate) fn c_read(
+        &mut self,
+        settings: &raw::Settings,
+        numbers: &mut raw::State,
+        lent: &Lent,
+        place: usize,
+    ) -> Result<(), Difference> {
+        self.calls += 1;
+        let (s, before) = (records::settings(settings), *numbers);
+        let state_before = records::state(&before);
+        let mut state = state_before;
+        let (octets, marks) = (lent.octets(), lent.marks());
+        let expected = reference::read(self.check, &s, &mut state, octets, marks, place);
+        let answer = raw::read(settings, numbers, (octets, marks), place);
+
+        let inputs = || {
+            let meant = inputs(&s, &state_before, lent, place, self.whole);
+            format!("{settings:?}\nstate {before:X?}\nmeant: {meant}")
+        };
+        let readings = (answer, records::reading(expected));
+        self.same(("read in C", "reading"), readings, inputs)?;
+        let refused = matches!(expected.answer, Answer::Refused(_));
+        let states = (*numbers, after(refused, &before, &state));
+        self.same(("read in C", "state"), states, inputs)?;
+        let (symbols, states) = ((octets, marks, place), (&state_before, &state));
+        let seen = ReadingSeen::new(By::Read, &s, symbols, states, expected);
+        self.coverage.c(&CSeen {
+            settings,
+            client: None,
+            before: &before,
+            after: numbers,
+            call: CCall::Read(seen),
+        });
+        Ok(())
+    }
+
+    /// A walk through the C face; the state goes on to that after it.
+    pub(crate) fn c_walk(
+        &mut self,
+        settings: &raw::Settings,
+        numbers: &mut raw::State,
+        lent: &Lent,
+    ) -> Result<(), Difference> {
+        self.calls += 1;
+        let (s, before) = (records::settings(settings), *numbers);
+        let state_before = records::state(&before);
+        let mut state = state_before;
+        let (octets, marks) = (lent.octets(), lent.marks());
+        let expected = reference::walk(self.check, &s, &mut state, octets, marks);
+        let answer = raw::walk(settings, numbers, (octets, marks));
+
+        let inputs = || {
+            let meant = inputs(&s, &state_before, lent, 0, self.whole);
+            format!("{settings:?}\nstate {before:X?}\nmeant: {meant}")
+        };
+        let walks = (answer, records::walked(expected));
+        self.same(("walk in C", "walk"), walks, inputs)?;
+        let refused = matches!(expected, Walked::Refused(_));
+        let states = (*numbers, after(refused, &before, &state));
+        self.same(("walk in C", "state"), states, inputs)?;
+        let seen = WalkSeen {
+            s: &s,
+            lengths: (octets.len(), marks.len()),
+            before: &state_before,
+            after: &state,
+            walked: expected,
+        };
+        self.coverage.c(&CSeen {
+            settings,
+            client: None,
+            before: &before,
+            after: numbers,
+            call: CCall::Walk(seen),
+        });
+        Ok(())
+    }
+
+    /// A sending through the C face, a client frame's record beside what it means; state and
+    /// symbols go on to those after it.
+    pub(crate) fn c_send(
+        &mut self,
+        settings: &raw::Settings,
+        numbers: &mut raw::State,
+        lent: &mut Lent,
+        place: usize,
+        (sending, client): (&Sending, Option<&raw::Client>),
+    ) -> Result<(), Difference> {
+        self.calls += 1;
+        let (s, before) = (records::settings(settings), *numbers);
+        let state_before = records::state(&before);
+        let mut state = state_before;
+        let lent_before = lent.clone();
+        let mut library_lent = lent.clone();
+        let expected = by_reference(self.check, &s, &mut state, lent, place, sending);
+        let line = library_lent.both();
+        let answer = match (sending, client) {
+            (Sending::Client(_, data), Some(client)) => {
+                raw::send_client(settings, numbers, line, place, client, data)
+            }
+            (Sending::Client(..), None) => panic!("a client frame has a record"),
+            (Sending::Pause(quanta), _) => raw::send_pause(settings, numbers, line, place, *quanta),
+            (Sending::Pfc(named, quanta), _) => {
+                raw::send_pfc(settings, numbers, line, place, *named, quanta)
+            }
+            (Sending::Idle(n), _) => raw::fill_idle(numbers, line, place, *n),
+        };
+
+        let call = &format!("{} in C", sending.name());
+        let inputs = || {
+            let sending = show::sending(sending, self.whole);
+            let meant = inputs(&s, &state_before, &lent_before, place, self.whole);
+            format!("{settings:?}\nstate {before:X?}\n{client:?}\nmeant: {sending}\n{meant}")
+        };
+        let answers = (answer, records::sent(expected, place));
+        self.same((call, "answer"), answers, inputs)?;
+        let refused = matches!(expected, Sent::Refused(_));
+        let states = (*numbers, after(refused, &before, &state));
+        self.same((call, "state"), states, inputs)?;
+        self.same_lent(call, (&library_lent, lent), inputs)?;
+        let seen = SendingSeen {
+            call: sending,
+            s: &s,
+            lengths: (lent.octets().len(), lent.marks().len()),
+            place,
+            before: &state_before,
+            after: &state,
+            octets: lent.octets(),
+            sent: expected,
+        };
+        self.coverage.c(&CSeen {
+            settings,
+            client,
+            before: &before,
+            after: numbers,
+            call: CCall::Send(seen),
+        });
+        Ok(())
+    }
+
+    /// The client data that a part stands for: "the part itself if it lies inside", else 0 and 0.
+    pub(crate) fn c_part(&mut self, prng: &mut Prng) -> Result<(), Difference> {
+        self.calls += 1;
+        let length = prng.below(SYMBOLS + 1);
+        let mut number = || {
+            let any = prng.below(length + 2);
+            prng.pick(&[0, 1, length, any, length + 1, BEYOND_32_BITS, usize::MAX])
+        };
+        let (place, octets) = (number(), number());
+        let inside = place.checked_add(octets).is_some_and(|end| end <= length);
+        let expected = if inside {
+            [place as u64, octets as u64]
+        } else {
+            [0; 2]
+        };
+        let sides = (raw::client_data(length, place, octets), expected);
+        self.same(("client_data in C", "part"), sides, || {
+            format!("of {length} octets, from {place}, {octets} octets")
+        })
+    }
+}

@@ -1,0 +1,343 @@
+//! The C face itself, whose records take any octets and numbers; the Rust face cannot say most of
+//! them. The layout of `include/fenhamper.h` stands here and nowhere else: that of each record as
+//! places in octets or numbers, so that nothing is shared with the Rust face.
+//!
+//! What the header asks of a caller holds for any arguments of the safe functions: a pointer comes
+//! from a reference or from a slice of the length passed beside it, and what a call writes is lent
+//! to it alone.
+#![allow(unsafe_code)]
+
+/// Octets of an address.
+pub const ADDRESS: usize = 6;
+
+/// Octets of settings, and the places in them.
+pub const SETTINGS: usize = 48;
+pub const OWN: usize = 0;
+pub const LISTED: usize = 6;
+pub const LISTED_COUNT: usize = 30;
+pub const BROADCAST: usize = 31;
+pub const PROMISCUOUS: usize = 32;
+pub const CHECKING: usize = 33;
+pub const PASS_CONTROL: usize = 34;
+pub const FLOW: usize = 35;
+pub const LIMIT: usize = 36;
+pub const SETTINGS_SPARE: usize = 38;
+
+/// Octets of a client frame, and the places in them.
+pub const CLIENT: usize = 44;
+pub const DESTINATION: usize = 0;
+pub const CLASS: usize = 6;
+pub const FORM: usize = 7;
+pub const TYPE: usize = 8;
+pub const TAG_COUNT: usize = 10;
+pub const CLIENT_SPARE: usize = 11;
+/// Tag k is at `TAGS + TAG * k`.
+pub const TAGS: usize = 12;
+pub const MOST_TAGS: usize = 8;
+
+/// Octets of a tag, and the places in them.
+pub const TAG: usize = 4;
+pub const TAG_KIND: usize = 0;
+pub const TAG_SPARE: usize = 1;
+pub const TAG_CONTROL: usize = 2;
+
+/// Numbers of a state, and the places in them.
+pub const STATE: usize = 24;
+pub const COUNTERS: usize = 0;
+pub const TIMERS: usize = 11;
+pub const STATE_SPARE: usize = 19;
+
+/// Numbers of a reading: those that mean something, then zeros.
+pub const READING: usize = 12;
+pub const READING_REFUSAL: usize = 0;
+pub const READING_KIND: usize = 1;
+pub const READING_OUTCOME: usize = 2;
+pub const READING_START: usize = 3;
+pub const READING_NEXT: usize = 4;
+pub const READING_STATUS: usize = 5;
+pub const READING_DATA_PLACE: usize = 6;
+pub const READING_DATA_LENGTH: usize = 7;
+
+/// Kinds of readings.
+pub const COUNTED: u64 = 0;
+pub const NONE: u64 = 1;
+pub const OPEN: u64 = 2;
+
+/// Numbers of a walk: those that mean something, then zeros.
+pub const WALKED: usize = 4;
+pub const WALKED_REFUSAL: usize = 0;
+pub const WALKED_STARTS: usize = 1;
+pub const WALKED_OPEN: usize = 2;
+
+/// Numbers of a sending's answer.
+pub const SENT: usize = 2;
+pub const SENT_REFUSAL: usize = 0;
+pub const SENT_PLACE: usize = 1;
+
+/// A number of two octets, as a record keeps it: low octet first.
+pub fn number(octets: [u8; 2]) -> u16 {
+    u16::from_le_bytes(octets)
+}
+
+/// The octets of a number, as a record keeps them.
+pub fn octets(number: u16) -> [u8; 2] {
+    number.to_le_bytes()
+}
+
+/// Settings, aligned as the header's struct is.
+#[repr(C, align(2))]
+#[derive(Clone, Copy, Debug)]
+pub struct Settings(pub [u8; SETTINGS]);
+
+/// A client frame, aligned as the header's struct is.
+#[repr(C, align(2))]
+#[derive(Clone, Copy, Debug)]
+pub struct Client(pub [u8; CLIENT]);
+
+/// A state.
+pub type State = [u64; STATE];
+
+/// What stands in an answer before the call: every number of it is written.
+const UNWRITTEN: u64 = 0xA5A5_A5A5_A5A5_A5A5;
+
+extern "C" {
+    fn fenhamper_read(
+        settings: &Settings,
+        state: &mut State,
+        octets: *const u8,
+        octets_length: usize,
+        marks: *const u8,
+        marks_length: usize,
+        place: usize,
+        reading: &mut [u64; READING],
+    );
+    fn fenhamper_walk(
+        settings: &Settings,
+        state: &mut State,
+        octets: *const u8,
+        octets_length: usize,
+        marks: *const u8,
+        marks_length: usize,
+        walked: &mut [u64; WALKED],
+    );
+    fn fenhamper_client_data(
+        octets_length: usize,
+        place: usize,
+        length: usize,
+        part: &mut [u64; 2],
+    );
+    fn fenhamper_send_client(
+        settings: &Settings,
+        state: &mut State,
+        octets: *mut u8,
+        octets_length: usize,
+        marks: *mut u8,
+        marks_length: usize,
+        place: usize,
+        client: &Client,
+        data: *const u8,
+        data_length: usize,
+        sent: &mut [u64; SENT],
+    );
+    fn fenhamper_send_pause(
+        settings: &Settings,
+        state: &mut State,
+        octets: *mut u8,
+        octets_length: usize,
+        marks: *mut u8,
+        marks_length: usize,
+        place: usize,
+        quanta: u16,
+        sent: &mut [u64; SENT],
+    );
+    fn fenhamper_send_pfc(
+        settings: &Settings,
+        state: &mut State,
+        octets: *mut u8,
+        octets_length: usize,
+        marks: *mut u8,
+        marks_length: usize,
+        place: usize,
+        named: u8,
+        quanta: &[u16; 8],
+        sent: &mut [u64; SENT],
+    );
+    fn fenhamper_fill_idle(
+        state: &mut State,
+        octets: *mut u8,
+        octets_length: usize,
+        marks: *mut u8,
+        marks_length: usize,
+        place: usize,
+        idles: usize,
+        sent: &mut [u64; SENT],
+    );
+}
+
+/// Octets and marks to read.
+pub type Capture<'a> = (&'a [u8], &'a [u8]);
+/// Octets and marks to write into.
+pub type Line<'a> = (&'a mut [u8], &'a mut [u8]);
+
+pub fn read(
+    settings: &Settings,
+    state: &mut State,
+    (octets, marks): Capture,
+    place: usize,
+) -> [u64; READING] {
+    let mut reading = [UNWRITTEN; READING];
+    let (octets, octets_length) = (octets.as_ptr(), octets.len());
+    let (marks, marks_length) = (marks.as_ptr(), marks.len());
+    // SAFETY: each pointer and length is one slice's.
+    unsafe {
+        fenhamper_read(
+            settings,
+            state,
+            octets,
+            octets_length,
+            marks,
+            marks_length,
+            place,
+            &mut reading,
+        );
+    }
+    reading
+}
+
+pub fn walk(settings: &Settings, state: &mut State, (octets, marks): Capture) -> [u64; WALKED] {
+    let mut walked = [UNWRITTEN; WALKED];
+    let (octets, octets_length) = (octets.as_ptr(), octets.len());
+    let (marks, marks_length) = (marks.as_ptr(), marks.len());
+    // SAFETY: each pointer and length is one slice's.
+    unsafe {
+        fenhamper_walk(
+            settings,
+            state,
+            octets,
+            octets_length,
+            marks,
+            marks_length,
+            &mut walked,
+        );
+    }
+    walked
+}
+
+/// Place and length.
+pub fn client_data(octets_length: usize, place: usize, length: usize) -> [u64; 2] {
+    let mut part = [UNWRITTEN; 2];
+    // SAFETY: only numbers pass, but for the part written.
+    unsafe { fenhamper_client_data(octets_length, place, length, &mut part) };
+    part
+}
+
+pub fn send_client(
+    settings: &Settings,
+    state: &mut State,
+    (octets, marks): Line,
+    place: usize,
+    client: &Client,
+    data: &[u8],
+) -> [u64; SENT] {
+    let mut sent = [UNWRITTEN; SENT];
+    let (octets, octets_length) = (octets.as_mut_ptr(), octets.len());
+    let (marks, marks_length) = (marks.as_mut_ptr(), marks.len());
+    // SAFETY: each pointer and length is one slice's, and the written ones are lent alone.
+    unsafe {
+        fenhamper_send_client(
+            settings,
+            state,
+            octets,
+            octets_length,
+            marks,
+            marks_length,
+            place,
+            client,
+            data.as_ptr(),
+            data.len(),
+            &mut sent,
+        );
+    }
+    sent
+}
+
+pub fn send_pause(
+    settings: &Settings,
+    state: &mut State,
+    (octets, marks): Line,
+    place: usize,
+    quanta: u16,
+) -> [u64; SENT] {
+    let mut sent = [UNWRITTEN; SENT];
+    let (octets, octets_length) = (octets.as_mut_ptr(), octets.len());
+    let (marks, marks_length) = (marks.as_mut_ptr(), marks.len());
+    // SAFETY: each pointer and length is one slice's, and the written ones are lent alone.
+    unsafe {
+        fenhamper_send_pause(
+            settings,
+            state,
+            octets,
+            octets_length,
+            marks,
+            marks_length,
+            place,
+            quanta,
+            &mut sent,
+        );
+    }
+    sent
+}
+
+pub fn send_pfc(
+    settings: &Settings,
+    state: &mut State,
+    (octets, marks): Line,
+    place: usize,
+    named: u8,
+    quanta: &[u16; 8],
+) -> [u64; SENT] {
+    let mut sent = [UNWRITTEN; SENT];
+    let (octets, octets_length) = (octets.as_mut_ptr(), octets.len());
+    let (marks, marks_length) = (marks.as_mut_ptr(), marks.len());
+    // SAFETY: each pointer and length is one slice's, and the written ones are lent alone.
+    unsafe {
+        fenhamper_send_pfc(
+            settings,
+            state,
+            octets,
+            octets_length,
+            marks,
+            marks_length,
+            place,
+            named,
+            quanta,
+            &mut sent,
+        );
+    }
+    sent
+}
+
+pub fn fill_idle(
+    state: &mut State,
+    (octets, marks): Line,
+    place: usize,
+    idles: usize,
+) -> [u64; SENT] {
+    let mut sent = [UNWRITTEN; SENT];
+    let (octets, octets_length) = (octets.as_mut_ptr(), octets.len());
+    let (marks, marks_length) = (marks.as_mut_ptr(), marks.len());
+    // SAFETY: each pointer and length is one slice's, and the written ones are lent alone.
+    unsafe {
+        fenhamper_fill_idle(
+            state,
+            octets,
+            octets_length,
+            marks,
+            marks_length,
+            place,
+            idles,
+            &mut sent,
+        );
+    }
+    sent
+}

@@ -1,0 +1,122 @@
+//! What the records of the C face mean, by the header's words: of those that a call takes the
+//! reference's values, of those that it answers the numbers.
+use crate::raw;
+use reference::{Answer, Client, Flow, Form, Reading, Sent, Settings, State, Tag, TagKind, Walked};
+use std::array::from_fn;
+
+/// So many octets of a record.
+fn part<const N: usize>(octets: &[u8], at: usize) -> [u8; N] {
+    from_fn(|i| octets[at + i])
+}
+
+/// "0 no, anything else yes"; of the flow mode "anything else is NONE". Spare octets mean nothing.
+pub fn settings(record: &raw::Settings) -> Settings {
+    let octets = &record.0;
+    let on = |at: usize| octets[at] != 0;
+    Settings {
+        own: part(octets, raw::OWN),
+        listed: from_fn(|i| part(octets, raw::LISTED + raw::ADDRESS * i)),
+        count: octets[raw::LISTED_COUNT],
+        broadcast: on(raw::BROADCAST),
+        promiscuous: on(raw::PROMISCUOUS),
+        checking: on(raw::CHECKING),
+        limit: raw::number(part(octets, raw::LIMIT)),
+        flow: match octets[raw::FLOW] {
+            1 => Flow::Pause,
+            2 => Flow::Pfc,
+            _ => Flow::None,
+        },
+        pass_control: on(raw::PASS_CONTROL),
+    }
+}
+
+/// Of form and kind "anything but 0" is a type, and 0x88A8; tags beyond the count are not looked at.
+pub fn client(record: &raw::Client) -> Client {
+    let octets = &record.0;
+    let tag = |k: usize| {
+        // a count above 8 is refused, whatever its tags are
+        let at = raw::TAGS + raw::TAG * k.min(raw::MOST_TAGS - 1);
+        Tag {
+            kind: match octets[at + raw::TAG_KIND] {
+                0 => TagKind::Customer,
+                _ => TagKind::Service,
+            },
+            control: raw::number(part(octets, at + raw::TAG_CONTROL)),
+        }
+    };
+    Client {
+        dest: part(octets, raw::DESTINATION),
+        tags: (0..usize::from(octets[raw::TAG_COUNT])).map(tag).collect(),
+        form: match octets[raw::FORM] {
+            0 => Form::Length,
+            _ => Form::Type(raw::number(part(octets, raw::TYPE))),
+        },
+        class: octets[raw::CLASS],
+    }
+}
+
+/// "Of each counter and timer the low 32 bits are read"; spare numbers mean nothing.
+pub fn state(record: &raw::State) -> State {
+    State {
+        counters: from_fn(|i| record[raw::COUNTERS + i] as u32),
+        timers: from_fn(|i| record[raw::TIMERS + i] as u32),
+    }
+}
+
+/// "The rest is written as 0", and so are spare numbers.
+pub fn state_written(state: &State) -> raw::State {
+    let mut record = [0; raw::STATE];
+    record[raw::COUNTERS..][..11].copy_from_slice(&state.counters.map(u64::from));
+    record[raw::TIMERS..][..8].copy_from_slice(&state.timers.map(u64::from));
+    record
+}
+
+/// A reading's numbers.
+pub fn reading(reading: Reading) -> [u64; raw::READING] {
+    let mut record = [0; raw::READING];
+    record[raw::READING_START] = reading.start as u64;
+    record[raw::READING_NEXT] = reading.next as u64;
+    match reading.answer {
+        Answer::Refused(number) => record[raw::READING_REFUSAL] = u64::from(number),
+        Answer::None => record[raw::READING_KIND] = raw::NONE,
+        Answer::Open => record[raw::READING_KIND] = raw::OPEN,
+        Answer::Counted {
+            outcome,
+            status,
+            at,
+            len,
+        } => {
+            record[raw::READING_KIND] = raw::COUNTED;
+            record[raw::READING_OUTCOME] = u64::from(outcome);
+            record[raw::READING_STATUS] = status;
+            record[raw::READING_DATA_PLACE] = at as u64;
+            record[raw::READING_DATA_LENGTH] = len as u64;
+        }
+    }
+    record
+}
+
+/// A walk's numbers.
+pub fn walked(walked: Walked) -> [u64; raw::WALKED] {
+    let mut record = [0; raw::WALKED];
+    match walked {
+        Walked::Refused(number) => record[raw::WALKED_REFUSAL] = u64::from(number),
+        Walked::Ended { starts, open } => {
+            record[raw::WALKED_STARTS] = starts as u64;
+            record[raw::WALKED_OPEN] = u64::from(open);
+        }
+    }
+    record
+}
+
+/// A sending's numbers; a refusal gives the call's place back.
+pub fn sent(sent: Sent, place: usize) -> [u64; raw::SENT] {
+    let mut record = [0; raw::SENT];
+    let (refusal, after) = match sent {
+        Sent::Refused(number) => (number, place),
+        Sent::Wrote(after) => (0, after),
+    };
+    record[raw::SENT_REFUSAL] = u64::from(refusal);
+    record[raw::SENT_PLACE] = after as u64;
+    record
+}
