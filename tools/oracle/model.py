@@ -1,10 +1,12 @@
-"""An independent model of document 01 with items 1 to 3 of document 02, written from their text alone and not from the definitions in crates/*/specs.
+"""An independent model of document 01 with items 1 to 4 of document 02, written from their text alone and not from the definitions in crates/*/specs.
 
-Each piece stands under the sentence of the documents that it renders. The check is zlib's crc32, not a loop of our own.
+Each piece stands under the sentence of the documents that it renders. The check is zlib's crc32, not a loop of our own, and a log's record is laid
+out by struct.
 """
+import struct
 import zlib
 from dataclasses import dataclass, field, replace
-from typing import List, Optional, Tuple
+from typing import List, NamedTuple, Optional, Tuple
 
 # ---- The line
 
@@ -298,6 +300,171 @@ def walk(s: Settings, state: State, octets: List[int], marks: List[int]) -> List
         starts = sum(is_start(o, m) for o, m in zip(octets, marks)) - (last.kind == "open")
         assert (sum(last.state.counters) - sum(state.counters) - starts) % 2**32 == 0
     return readings
+
+
+# ---- The reading log (item 4)
+
+# "place (4 octets, low first), outcome (1), zero (1), octets handed out (2, low first), status word (8, low first)"
+RECORD = struct.Struct("<IBBHQ")
+assert RECORD.size == 16  # "one record of 16 octets per counted Start, no header"
+
+
+class Record(NamedTuple):
+    """"the five fields at those widths" """
+    place: int
+    outcome: int
+    zero: int
+    handed: int
+    status: int
+
+    def octets(self) -> List[int]:
+        return list(RECORD.pack(*self))
+
+    def used(self) -> bool:
+        """"A record is used if its outcome octet isn't zero" """
+        return self.outcome != 0
+
+
+def log_records(log: List[int]) -> List[Record]:
+    """"Records are read as they stand." Octets behind the last whole record belong to none."""
+    whole = len(log) - len(log) % RECORD.size
+    return [Record(*fields) for fields in RECORD.iter_unpack(bytes(log[:whole]))]
+
+
+def unused_numbers(log: List[int]) -> List[int]:
+    return [number for number, r in enumerate(log_records(log)) if not r.used()]
+
+
+def bad_log(log: List[int]) -> bool:
+    """11: "log length no multiple of 16" """
+    return len(log) % RECORD.size != 0
+
+
+def used_in_front(log: List[int]) -> Tuple[int, Optional[int]]:
+    """Refusal, or 0 and how many records there are "up to the first unused record"; 11 alone."""
+    if bad_log(log):
+        return 11, None
+    return 0, min(unused_numbers(log), default=len(log_records(log)))
+
+
+def first_unused(log: List[int]) -> Tuple[int, Optional[int]]:
+    """Refusal, or 0 and the number; 12: "no unused record" """
+    unused = unused_numbers(log)
+    refusal = first((11, bad_log(log)), (12, not unused))
+    return (refusal, None) if refusal else (0, unused[0])
+
+
+@dataclass
+class Appending:
+    refusal: int  # 0: not refused
+    number: Optional[int]  # of the record written; none: nothing was appended
+    log: List[int]
+
+
+def appending(log: List[int], r: Record) -> Appending:
+    """"appending takes the first unused one"; 11 is given with outcome 0 too, since that "never gives 12" and no more is said of it.
+    Open point: no value of a field is refused, and the zero octet is written as given, as reading back "gives what was appended"."""
+    refusal = first((11, bad_log(log)), (12, r.used() and not unused_numbers(log)))
+    if refusal or not r.used():  # "with outcome 0, …, it appends nothing"
+        return Appending(refusal or 0, None, log)
+    number = unused_numbers(log)[0]
+    place = number * RECORD.size
+    after = log[:place] + r.octets() + log[place + RECORD.size:]
+    assert log_records(after) == log_records(log)[:number] + [r] + log_records(log)[number + 1:]
+    return Appending(0, number, after)
+
+
+def fields_of(r: Reading) -> Record:
+    """"outcome 0, which stands for `none`, `open` and a refused reading"; open point: with zeros beside it, which are never written."""
+    if r.kind != "counted":
+        return Record(0, 0, 0, 0, 0)
+    return Record(r.start, r.outcome, 0, len(r.data), r.status)
+
+
+def reading_appending(log: List[int], r: Reading) -> Appending:
+    return appending(log, fields_of(r))
+
+
+def record_at(log: List[int], number: int) -> Tuple[int, Optional[Record]]:
+    """Refusal, or 0 and the record; 13: "record number not used", so also where the log has ended. It may lie behind an unused one."""
+    found = log_records(log)[number:number + 1]
+    refusal = first((11, bad_log(log)), (13, not any(r.used() for r in found)))
+    return (refusal, None) if refusal else (0, found[0])
+
+
+@dataclass(frozen=True)
+class LogReader:
+    """"A reader that keeps the lent log and its place"; open point: making one is never refused."""
+    log: List[int]
+    place: int = 0
+
+
+def handing_out(reader: LogReader) -> Tuple[int, Optional[Record], LogReader]:
+    """"and hands out the next record": refusal or 0, the record, and the reader behind it; a refused one stays as it is.
+    Open point: it doesn't pass an unused record, also where used ones follow."""
+    refusal, r = record_at(reader.log, reader.place)
+    return refusal, r, reader if refusal else replace(reader, place=reader.place + 1)
+
+
+def read_back(log: List[int]) -> List[Record]:
+    """"reading it back up to the first unused record": what a reader hands out until it is refused."""
+    records_read = []
+    refusal, r, reader = handing_out(LogReader(log))
+    while not refusal:
+        records_read.append(r)
+        refusal, r, reader = handing_out(reader)
+    return records_read
+
+
+def written(length: int, appended: List[Record]) -> List[int]:
+    """"a log of zero octets" of that length, with these appended one after the other."""
+    log = [0] * length
+    for r in appended:
+        log = appending(log, r).log
+    return log
+
+
+def kept(length: int, appended: List[Record]) -> List[int]:
+    """The same log, with its sentence tried; the length is a multiple of 16."""
+    log = written(length, appended)
+    back = read_back(log)
+    # "reading it back up to the first unused record gives what was appended, and writing that again gives the same octets"
+    assert back == [r for r in appended if r.used()][:length // RECORD.size]
+    assert written(length, back) == log
+    return log
+
+
+# Both ends of each width, an outcome 0 between them, and one for which there is no room.
+kept(32, [Record(0, 1, 0, 0, 0), Record(9, 0, 9, 9, 9), Record(2**32 - 1, 255, 255, 2**16 - 1, 2**64 - 1), Record(1, 2, 3, 4, 5)])
+
+
+@dataclass
+class LoggedWalk:
+    refusal: int  # of the walk; 0: not refused
+    readings: List[Reading]  # as `walk` gives them
+    state: State
+    log: List[int]
+    appended: int = 0  # how many of the counted Starts have a record
+    told: int = 0  # 12: a counted Start found no unused record
+
+
+def logged_walk(s: Settings, state: State, octets: List[int], marks: List[int], log: List[int]) -> LoggedWalk:
+    """A walk, and an appending for each of its readings: "one record … per counted Start".
+    Open point: the documents have no such call. Refused are 1 and 2 as in a walk, then 11, with the old state and log, as "A refused call returns
+    the state it was given". 12 refuses one appending and not the walk: that log stays as it is, and each Start is counted all the same."""
+    refusal = first((1, bad_settings(s)), (2, bad_buffers(octets, marks)), (11, bad_log(log)))
+    if refusal:
+        return LoggedWalk(refusal, [], state, log)
+    readings = walk(s, state, octets, marks)
+    answer = LoggedWalk(0, readings, readings[-1].state, log)
+    for r in readings:
+        step = reading_appending(answer.log, r)
+        answer.log = step.log
+        answer.appended += step.number is not None
+        answer.told = answer.told or step.refusal
+    counted_starts = sum(r.kind == "counted" for r in readings)
+    assert answer.appended == min(counted_starts, len(unused_numbers(log))) and answer.told == (12 if answer.appended < counted_starts else 0)
+    return answer
 
 
 # ---- Sending
