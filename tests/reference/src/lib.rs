@@ -19,7 +19,7 @@ mod settings;
 
 pub use check::{fcs, fcs_update, Check};
 pub use log::{append, append_reading, first_unused, record, used_in_front, walk_log};
-pub use log::{LogReader, Logged, Record};
+pub use log::{LogEnd, LogReader, Logged, Record};
 pub use print::print;
 pub use receive::{read, walk, Answer, Reading, Walked};
 pub use send::{fill_idle, send_client, send_pause, send_pfc, Client, Form, Sent, Tag, TagKind};

@@ -1,8 +1,9 @@
 //! "A reading log", item 4 of document 02: records of 16 octets in a lent
-//! buffer. Every call gives the number of its refusal as the error.
+//! buffer. Every call but the walk gives the number of its refusal as the
+//! error.
 
 use crate::check::Check;
-use crate::receive::{walk_with, Answer, Reading, Walked};
+use crate::receive::{check, read, Answer, Reading};
 use crate::refusal;
 use crate::settings::{Settings, State};
 
@@ -165,60 +166,83 @@ impl<'a> LogReader<'a> {
     }
 }
 
-/// How a walk with a log ended.
+/// Why a walk that keeps its readings ended.
 #[derive(Clone, Copy, Debug, PartialEq, Eq)]
-pub struct Logged {
-    /// The number of counted Starts.
-    pub starts: usize,
-    /// The walk ended `open`.
-    pub open: bool,
-    /// How many of these Starts were appended, the first ones.
-    pub appended: usize,
-    /// What appending gave for the others: 12, or nothing if all were
-    /// appended.
-    pub refused: Option<u8>,
+pub enum LogEnd {
+    /// Refused, with the number of the refusal; state and log are unchanged.
+    Refused(u8),
+    /// No further Start.
+    None,
+    /// A Start whose run hasn't ended.
+    Open,
+    /// A Start whose run has ended, and no unused record for it.
+    Full,
 }
 
-/// A walk that appends each of its readings: "one record of 16 octets per
-/// counted Start". Gives 1, 2 and 11, with state and log unchanged.
+/// What a walk that keeps its readings answers.
+#[derive(Clone, Copy, Debug, PartialEq, Eq)]
+pub struct Logged {
+    /// Why it ended.
+    pub end: LogEnd,
+    /// Where to go on: the capture's length for `none`, that Start's place for
+    /// `open`, the next place of the last reading that was appended for a full
+    /// log. A walk that is refused, or that finds the log full before it
+    /// appended anything, gives the place it was called with.
+    pub next: usize,
+    /// How many readings were appended, each with its Start counted.
+    pub appended: usize,
+}
+
+/// A walk that keeps its readings: from `place` on, reading after reading, each
+/// counted Start's record appended, until `none`, `open` or a full log. Gives 1
+/// to 3 as a reading at that place does, then 11, and never 12.
 ///
-/// Open point: the documents know no call for this. It does what readings with
-/// an appending behind each would do, but for 11, which no appending changes
-/// and which is told up front: a refused call returns the state it was given
-/// (demand 1). 12 is a refusal of a single appending. That one writes no octet,
-/// the walk goes on, since each Start is counted (demand 2), and the answer
-/// tells the 12 beside the counts.
+/// Open point: the documents know no call for this, and "Support wants the
+/// readings of a run kept", for which one log may be too short. So a Start that
+/// finds no unused record isn't counted and sets no timer: it is the first
+/// Start of a walk from `next` on, and with another log there nothing is lost
+/// and nothing comes twice. Where the reading is `none` or `open`, that is the
+/// end, whether or not an unused record is left.
 pub fn walk_log(
     kind: Check,
     s: &Settings,
     state: &mut State,
     octets: &[u8],
     marks: &[u8],
+    place: usize,
     log: &mut [u8],
-) -> Result<Logged, u8> {
-    refusal::settings(s)?;
-    refusal::line(octets, marks, 0)?;
-    refusal::log(log)?;
+) -> Logged {
+    let logged = |end, next, appended| Logged {
+        end,
+        next,
+        appended,
+    };
+    if let Err(number) = check(s, octets, marks, place).and_then(|()| refusal::log(log)) {
+        return logged(LogEnd::Refused(number), place, 0);
+    }
 
     // A counted reading uses the record that it takes, so the first unused one
     // for the next reading is the one that comes next here.
     let records = log.chunks_exact_mut(RECORD_LEN);
     let mut unused = records.filter(|record| !is_used(record));
-    let mut appended = 0;
-    let walked = walk_with(kind, s, state, octets, marks, |reading| {
-        if let Some(record) = unused.next() {
-            record.copy_from_slice(&Record::of(reading).to_octets());
-            appended += 1;
+    let (mut next, mut appended) = (place, 0);
+    loop {
+        let mut after = *state;
+        let reading = read(kind, s, &mut after, octets, marks, next);
+        match reading.answer {
+            // Not reached: no next place lies beyond the capture.
+            Answer::Refused(number) => return logged(LogEnd::Refused(number), next, appended),
+            Answer::None => return logged(LogEnd::None, reading.next, appended),
+            Answer::Open => return logged(LogEnd::Open, reading.next, appended),
+            Answer::Counted { .. } => {
+                let Some(record) = unused.next() else {
+                    return logged(LogEnd::Full, next, appended);
+                };
+                record.copy_from_slice(&Record::of(&reading).to_octets());
+                *state = after;
+                next = reading.next;
+                appended += 1;
+            }
         }
-    });
-    match walked {
-        // Not reached: its refusals were looked at above.
-        Walked::Refused(number) => Err(number),
-        Walked::Ended { starts, open } => Ok(Logged {
-            starts,
-            open,
-            appended,
-            refused: refusal::unused(appended == starts).err(),
-        }),
     }
 }

@@ -1,7 +1,7 @@
 //! "A reading log", item 4 of document 02.
 
 use reference::{append, append_reading, first_unused, read, record, used_in_front, walk_log};
-use reference::{Answer, Check, LogReader, Logged, Reading, Record, Settings, State, Walked};
+use reference::{Answer, Check, LogEnd, LogReader, Logged, Reading, Record, Settings, State};
 
 use crate::hand::{frame, ramp, see_with, Capture, BROADCAST, IDLE, MULTICAST, OTHER, OWN};
 use crate::hand::{KINDS, PAUSE, PFC, PLAIN, RESERVED, START, TERMINATE};
@@ -144,12 +144,10 @@ fn refusals_of(log: &[u8]) -> [u8; 7] {
         number(used_in_front(log)),
         number(record(log, 0)),
         number(reader.next_record()),
-        number(walk_checked(
-            &PLAIN,
-            &capture,
-            &mut State::default(),
-            &mut log.to_vec(),
-        )),
+        match walk_checked(&PLAIN, &capture, &mut BEFORE.clone(), 0, &mut log.to_vec()).end {
+            LogEnd::Refused(number) => number,
+            _ => 0,
+        },
     ]
 }
 
@@ -561,87 +559,145 @@ fn a_reading_as_wide_as_its_record() {
     );
 }
 
+/// A state in which every counter and every timer would show a change.
+const BEFORE: State = State {
+    counters: [u32::MAX; 11],
+    timers: [5; 8],
+};
+
+fn ended(end: LogEnd, next: usize, appended: usize) -> Logged {
+    Logged {
+        end,
+        next,
+        appended,
+    }
+}
+
+/// All readings from a place on, each with the state behind it; all but the
+/// last one are counted.
+fn readings_from(
+    s: &Settings,
+    capture: &Capture,
+    mut state: State,
+    mut place: usize,
+) -> Vec<(Reading, State)> {
+    let mut readings = Vec::new();
+    loop {
+        let (octets, marks) = (&capture.octets, &capture.marks);
+        let reading = read(Check::ByteTable, s, &mut state, octets, marks, place);
+        readings.push((reading, state));
+        let Answer::Counted { .. } = reading.answer else {
+            return readings;
+        };
+        place = reading.next;
+    }
+}
+
 /// What a walk with a log must give, by readings with an appending behind each.
 fn by_hand(
     s: &Settings,
     capture: &Capture,
     state: &mut State,
+    place: usize,
     log: &mut [u8],
-) -> Result<Logged, u8> {
-    let mut logged = Logged {
-        starts: 0,
-        open: false,
-        appended: 0,
-        refused: None,
-    };
-    let mut place = 0;
-    loop {
-        let (octets, marks) = (&capture.octets, &capture.marks);
-        let reading = read(Check::ByteTable, s, state, octets, marks, place);
-        if let Answer::Refused(number) = reading.answer {
-            return Err(number);
+) -> Logged {
+    let mut next = place;
+    for appended in 0.. {
+        let mut after = *state;
+        let reading = capture.read(s, &mut after, next);
+        match (reading.answer, append_reading(log, &reading)) {
+            (Answer::Counted { .. }, Ok(Some(_))) => *state = after,
+            (Answer::Counted { .. }, Err(12)) => return ended(LogEnd::Full, next, appended),
+            (Answer::None, Ok(None)) => return ended(LogEnd::None, reading.next, appended),
+            (Answer::Open, Ok(None)) => return ended(LogEnd::Open, reading.next, appended),
+            other => panic!("{other:?}"),
         }
-        let Answer::Counted { .. } = reading.answer else {
-            assert_eq!(append_reading(log, &reading), Ok(None));
-            logged.open = reading.answer == Answer::Open;
-            return Ok(logged);
-        };
-        logged.starts += 1;
-        match append_to(log, &Record::of(&reading)) {
-            Ok(number) => {
-                assert!(number.is_some());
-                logged.appended += 1;
-            }
-            Err(number) => logged.refused = Some(number),
-        }
-        place = reading.next;
+        next = reading.next;
     }
+    unreachable!()
 }
 
-/// Walks with a log in all three ways, and checks what holds each time: state
-/// and counts are those of a walk, and a refused call changes nothing.
+/// Walks with a log in all three ways, and checks the whole answer: it is
+/// refused as a reading is, then for the log's length, and changes nothing
+/// then; else it keeps as many of the readings that there are from that place
+/// on as there are unused records.
 fn walk_checked(
     s: &Settings,
     capture: &Capture,
     state: &mut State,
-    log: &mut Vec<u8>,
-) -> Result<Logged, u8> {
+    place: usize,
+    log: &mut [u8],
+) -> Logged {
     let mut results = KINDS.iter().map(|&kind| {
-        let (mut state, mut log) = (*state, log.clone());
+        let (mut state, mut log) = (*state, log.to_vec());
         let (octets, marks) = (&capture.octets, &capture.marks);
-        let logged = walk_log(kind, s, &mut state, octets, marks, &mut log);
+        let logged = walk_log(kind, s, &mut state, octets, marks, place, &mut log);
         (logged, state, log)
     });
     let first = results.next().unwrap();
     assert!(results.all(|other| other == first));
     let (logged, after, log_after) = first;
-    match logged {
-        Err(_) => {
-            assert_eq!(after, *state);
-            assert_eq!(log_after, *log);
-        }
-        Ok(Logged {
-            starts,
-            open,
-            appended,
-            refused,
-        }) => {
-            let mut walked = *state;
-            let ended = Walked::Ended { starts, open };
-            assert_eq!(capture.walk(s, &mut walked), ended);
-            assert_eq!(after, walked);
-            assert_eq!(refused, (appended < starts).then_some(12));
-            let unused = log.chunks_exact(16).filter(|record| record[4] == 0).count();
-            assert_eq!(appended, starts.min(unused));
-        }
+
+    let readings = readings_from(s, capture, *state, place);
+    let ((last, state_at_end), counted) = readings.split_last().unwrap();
+    let behind = log.len() % 16;
+    let refusal = match last.answer {
+        Answer::Refused(number) => Some(number),
+        _ => (behind > 0).then_some(11),
+    };
+    if let Some(number) = refusal {
+        assert_eq!(logged, ended(LogEnd::Refused(number), place, 0));
+        assert_eq!(after, *state);
+        assert_eq!(log_after, log);
+        return logged;
     }
+    let records = log.chunks_exact_mut(16);
+    let unused: Vec<&mut [u8]> = records.filter(|record| record[4] == 0).collect();
+    let kept = &counted[..counted.len().min(unused.len())];
+    for ((reading, _), record) in kept.iter().zip(unused) {
+        record.copy_from_slice(&Record::of(reading).to_octets());
+    }
+    let (end, next, expected) = if kept.len() < counted.len() {
+        let stands = kept.last().map(|(reading, state)| (reading.next, *state));
+        let (next, state) = stands.unwrap_or((place, *state));
+        (LogEnd::Full, next, state)
+    } else if last.answer == Answer::Open {
+        (LogEnd::Open, last.start, *state_at_end)
+    } else {
+        (LogEnd::None, capture.octets.len(), *state_at_end)
+    };
+    assert_eq!(logged, ended(end, next, kept.len()));
+    assert_eq!(after, expected);
+    assert_eq!(log_after, log);
     *state = after;
-    *log = log_after;
     logged
 }
 
-/// Five Starts are counted and the sixth is open.
-fn six_starts() -> Capture {
+/// Walks on with another log of zero octets each time one is full: the last
+/// answer, and the records of all these logs.
+fn walk_on(
+    s: &Settings,
+    capture: &Capture,
+    state: &mut State,
+    mut place: usize,
+    sizes: impl IntoIterator<Item = usize>,
+) -> (Logged, Vec<Record>) {
+    let mut records = Vec::new();
+    for size in sizes {
+        let mut log = vec![0; 16 * size];
+        let logged = walk_checked(s, capture, state, place, &mut log);
+        records.extend(read_back(&log));
+        if logged.end != LogEnd::Full {
+            return (logged, records);
+        }
+        place = logged.next;
+    }
+    panic!("too few logs");
+}
+
+/// Five Starts are counted. The last of them ends with this control octet, at
+/// the end of the capture.
+fn five_starts(last: u8) -> Capture {
     Capture::new()
         .data(&[START])
         .frame(&frame(OWN, &[45], &ramp(46)))
@@ -649,7 +705,7 @@ fn six_starts() -> Capture {
         .frame(&frame(MULTICAST, &[0x0800], &ramp(100)))
         .frame(&frame(OWN, &[0x8808], &ramp(46)))
         .control(START)
-        .control(START)
+        .control(last)
 }
 
 /// The records of its counted Starts: place, outcome, octets, status.
@@ -671,78 +727,222 @@ fn five_records() -> Vec<Record> {
     .to_vec()
 }
 
-#[test]
-fn a_walk_with_room_and_without() {
-    for records in 0..=7 {
-        let mut log = vec![0; 16 * records];
-        let mut state = State::default();
-        let logged = walk_checked(&PLAIN, &six_starts(), &mut state, &mut log);
-        let appended = records.min(5);
-        let expected = Logged {
-            starts: 5,
-            open: true,
-            appended,
-            refused: (records < 5).then_some(12),
-        };
-        assert_eq!(logged, Ok(expected), "{records}");
-        assert_eq!(read_back(&log), five_records()[..appended]);
-        assert_eq!(log, written(16 * records, &five_records()[..appended]));
-        // Every Start is counted, with a record or without.
-        assert_eq!(state.counters, [1, 0, 0, 0, 0, 0, 1, 0, 0, 1, 2]);
+/// Where a walk from place 0 stands behind its first Starts.
+const STANDS: [usize; 5] = [0, 73, 200, 327, 400];
+
+/// How a walk with room ends, by that last octet; as a Start it is open.
+const LAST: [(u8, LogEnd, usize); 2] = [(IDLE, LogEnd::None, 403), (START, LogEnd::Open, 402)];
+
+/// The state with the Starts of these records counted.
+fn counting(mut state: State, records: &[Record]) -> State {
+    for record in records {
+        let counter = &mut state.counters[usize::from(record.outcome) - 1];
+        *counter = counter.wrapping_add(1);
     }
+    state
+}
+
+#[test]
+fn as_many_records_as_starts_and_one_fewer() {
+    for (last, end, at) in LAST {
+        for records in 0..=7 {
+            let mut log = vec![0; 16 * records];
+            let mut state = BEFORE;
+            let logged = walk_checked(&PLAIN, &five_starts(last), &mut state, 0, &mut log);
+            let expected = match STANDS.get(records) {
+                Some(&stands) => ended(LogEnd::Full, stands, records),
+                None => ended(end, at, 5),
+            };
+            assert_eq!(logged, expected);
+            let kept = &five_records()[..logged.appended];
+            assert_eq!(read_back(&log), kept);
+            assert_eq!(log, written(16 * records, kept));
+            // A Start without a record isn't counted.
+            assert_eq!(state, counting(BEFORE, kept));
+        }
+    }
+}
+
+#[test]
+fn another_log_gets_the_rest() {
+    for (last, end, at) in LAST {
+        let capture = five_starts(last);
+        for (first, stands) in STANDS.into_iter().enumerate() {
+            let mut state = BEFORE;
+            let mut log = vec![0; 16 * first];
+            let logged = walk_checked(&PLAIN, &capture, &mut state, 0, &mut log);
+            assert_eq!(logged, ended(LogEnd::Full, stands, first));
+            // The same log again, and one without records: nothing moves.
+            let (stood, kept) = (state, log.clone());
+            for log in [&mut log, &mut vec![]] {
+                let again = walk_checked(&PLAIN, &capture, &mut state, logged.next, log);
+                assert_eq!(again, ended(LogEnd::Full, logged.next, 0));
+                assert_eq!(state, stood);
+            }
+            assert_eq!(log, kept);
+            let mut other = vec![0; 16 * (5 - first)];
+            let rest = walk_checked(&PLAIN, &capture, &mut state, logged.next, &mut other);
+            assert_eq!(rest, ended(end, at, 5 - first));
+            assert_eq!(read_back(&other), five_records()[first..]);
+            assert_eq!(state, counting(BEFORE, &five_records()));
+        }
+        for sizes in [&[1][..], &[2], &[3], &[4], &[5], &[6], &[0, 1], &[3, 0, 1]] {
+            let mut state = BEFORE;
+            let logs = sizes.iter().copied().cycle();
+            let (logged, records) = walk_on(&PLAIN, &capture, &mut state, 0, logs);
+            assert_eq!((logged.end, logged.next), (end, at));
+            assert_eq!(records, five_records());
+            assert_eq!(state, counting(BEFORE, &five_records()));
+        }
+    }
+}
+
+#[test]
+fn no_unused_record_and_what_is_ahead() {
+    for used in [&[][..], &[true], &[true; 3]] {
+        for (ahead, place, expected) in [
+            (&[][..], 0, ended(LogEnd::None, 0, 0)),
+            (&[IDLE, IDLE], 0, ended(LogEnd::None, 2, 0)),
+            (&[IDLE, IDLE], 2, ended(LogEnd::None, 2, 0)),
+            (&[START], 0, ended(LogEnd::Open, 0, 0)),
+            (&[START], 1, ended(LogEnd::None, 1, 0)),
+            (&[IDLE, START], 0, ended(LogEnd::Open, 1, 0)),
+            (&[START, START], 0, ended(LogEnd::Full, 0, 0)),
+            (&[START, START], 1, ended(LogEnd::Open, 1, 0)),
+            (&[IDLE, IDLE, START, IDLE], 0, ended(LogEnd::Full, 0, 0)),
+            (&[IDLE, IDLE, START, IDLE], 1, ended(LogEnd::Full, 1, 0)),
+            (&[IDLE, IDLE, START, IDLE], 2, ended(LogEnd::Full, 2, 0)),
+            (&[IDLE, IDLE, START, IDLE], 3, ended(LogEnd::None, 4, 0)),
+        ] {
+            let capture = ahead.iter().fold(Capture::new(), |c, &o| c.control(o));
+            let (mut state, mut log) = (BEFORE, log_of(used));
+            let logged = walk_checked(&PLAIN, &capture, &mut state, place, &mut log);
+            assert_eq!(logged, expected, "{ahead:?} {place}");
+            assert_eq!(state, BEFORE);
+            assert_eq!(log, log_of(used));
+        }
+    }
+}
+
+#[test]
+fn a_walk_that_appends_nothing_writes_nothing() {
+    for (capture, expected) in [
+        (Capture::new(), ended(LogEnd::None, 0, 0)),
+        (Capture::new().control(IDLE), ended(LogEnd::None, 1, 0)),
+        (Capture::new().control(START), ended(LogEnd::Open, 0, 0)),
+    ] {
+        for used in [&[][..], &[true], &[false], &[false, true]] {
+            let (mut state, mut log) = (BEFORE, log_of(used));
+            let logged = walk_checked(&PLAIN, &capture, &mut state, 0, &mut log);
+            assert_eq!(logged, expected);
+            assert_eq!(state, BEFORE);
+            assert_eq!(log, log_of(used));
+        }
+    }
+}
+
+#[test]
+fn a_pause_without_a_record_sets_no_timer() {
+    let pause = |quanta: u16| {
+        let mut data = [1_u16, quanta].map(u16::to_be_bytes).concat();
+        data.resize(46, 0);
+        frame(RESERVED, &[0x8808], &data)
+    };
+    let capture = Capture::new().frame(&pause(3)).frame(&pause(7));
+    let (mut state, mut place) = (BEFORE, 0);
+    for (records, expected, timer) in [
+        (0, ended(LogEnd::Full, 0, 0), 5),
+        (1, ended(LogEnd::Full, 72, 1), 3 * 64),
+        (0, ended(LogEnd::Full, 72, 0), 3 * 64),
+        (1, ended(LogEnd::None, 146, 1), 7 * 64),
+    ] {
+        let mut log = vec![0; 16 * records];
+        let logged = walk_checked(&PAUSE, &capture, &mut state, place, &mut log);
+        assert_eq!(logged, expected);
+        assert_eq!(state.timers, [timer; 8]);
+        place = logged.next;
+    }
+    assert_eq!(state.counters[7], 1);
 }
 
 #[test]
 fn a_walk_goes_on_behind_an_earlier_one() {
     let mut log = vec![0; 16 * 11];
     let mut state = State::default();
-    for (appended, refused) in [(5, None), (5, None), (1, Some(12)), (0, Some(12))] {
-        let logged = walk_checked(&PLAIN, &six_starts(), &mut state, &mut log);
-        let logged = logged.unwrap();
-        assert_eq!((logged.appended, logged.refused), (appended, refused));
+    for expected in [
+        ended(LogEnd::Open, 402, 5),
+        ended(LogEnd::Open, 402, 5),
+        ended(LogEnd::Full, 73, 1),
+        ended(LogEnd::Full, 0, 0),
+    ] {
+        let logged = walk_checked(&PLAIN, &five_starts(START), &mut state, 0, &mut log);
+        assert_eq!(logged, expected);
     }
     let all: Vec<Record> = five_records().into_iter().cycle().take(11).collect();
     assert_eq!(read_back(&log), all);
+    assert_eq!(state, counting(State::default(), &all));
 }
 
 #[test]
 fn a_walk_takes_the_holes() {
-    let mut log = log_of(&[true, false, true, false, false, true, false]);
-    let before = log.clone();
-    let logged = walk_checked(&PLAIN, &six_starts(), &mut State::default(), &mut log);
-    let expected = Logged {
-        starts: 5,
-        open: true,
-        appended: 4,
-        refused: Some(12),
-    };
-    assert_eq!(logged, Ok(expected));
-    for (number, fields) in [1, 3, 4, 6].into_iter().zip(five_records()) {
-        assert_eq!(record(&log, number), Ok(fields));
-    }
-    for number in [0, 2, 5] {
-        assert_eq!(record(&log, number), record(&before, number));
+    let four = [true, false, true, false, false, true, false];
+    let five = [false, true, true, false, false, false, true, false, true];
+    let six = [false, false, true, false, false, false, true, false];
+    for (used, holes, expected) in [
+        (&four[..], &[1, 3, 4, 6][..], ended(LogEnd::Full, 400, 4)),
+        (&five, &[0, 3, 4, 5, 7], ended(LogEnd::None, 403, 5)),
+        (&six, &[0, 1, 3, 4, 5], ended(LogEnd::None, 403, 5)),
+    ] {
+        let mut log = log_of(used);
+        let logged = walk_checked(&PLAIN, &five_starts(IDLE), &mut BEFORE.clone(), 0, &mut log);
+        assert_eq!(logged, expected);
+        let mut left = log_of(used);
+        for (&hole, fields) in holes.iter().zip(five_records()) {
+            assert_eq!(record(&log, hole), Ok(fields));
+            left[16 * hole..][..16].copy_from_slice(&fields.to_octets());
+        }
+        assert_eq!(log, left);
     }
 }
 
 #[test]
-fn a_walk_without_a_counted_start_needs_no_record() {
-    for (capture, open) in [
-        (Capture::new(), false),
-        (Capture::new().control(IDLE), false),
-        (Capture::new().control(START), true),
-    ] {
-        for used in [&[][..], &[true], &[false], &[false, true]] {
-            let mut log = log_of(used);
-            let logged = walk_checked(&PLAIN, &capture, &mut State::default(), &mut log);
-            let expected = Logged {
-                starts: 0,
-                open,
-                appended: 0,
-                refused: None,
+fn a_walk_from_any_place() {
+    for (last, end, at) in LAST {
+        let capture = five_starts(last);
+        let len = capture.octets.len();
+        assert_eq!(len, 403);
+        for place in 0..=len {
+            let ahead = five_records().into_iter();
+            let ahead: Vec<Record> = ahead.filter(|r| r.place as usize >= place).collect();
+            // Behind the last Start of all there is no open one either.
+            let (end, at) = match place {
+                403 => (LogEnd::None, 403),
+                _ => (end, at),
             };
-            assert_eq!(logged, Ok(expected));
-            assert_eq!(log, log_of(used));
+            for spare in 0..=1 {
+                let mut state = BEFORE;
+                let mut log = vec![0; 16 * (ahead.len() + spare)];
+                let logged = walk_checked(&PLAIN, &capture, &mut state, place, &mut log);
+                assert_eq!(logged, ended(end, at, ahead.len()));
+                assert_eq!(read_back(&log), ahead);
+                assert_eq!(state, counting(BEFORE, &ahead));
+            }
+            let Some(fewer) = ahead.len().checked_sub(1) else {
+                continue;
+            };
+            let stands = if fewer == 0 { place } else { 400 };
+            let mut state = BEFORE;
+            let mut log = vec![0; 16 * fewer];
+            let logged = walk_checked(&PLAIN, &capture, &mut state, place, &mut log);
+            assert_eq!(logged, ended(LogEnd::Full, stands, fewer));
+            assert_eq!(read_back(&log), ahead[..fewer]);
+            assert_eq!(state, counting(BEFORE, &ahead[..fewer]));
+        }
+        for beyond in [len + 1, 65_536, usize::MAX] {
+            for mut log in [vec![], vec![0; 16], log_of(&[true])] {
+                let logged = walk_checked(&PLAIN, &capture, &mut BEFORE.clone(), beyond, &mut log);
+                assert_eq!(logged, ended(LogEnd::Refused(3), beyond, 0));
+            }
         }
     }
 }
@@ -750,38 +950,59 @@ fn a_walk_without_a_counted_start_needs_no_record() {
 #[test]
 fn ladder_of_a_walk_with_a_log() {
     let mut s = Settings { limit: 0, ..PLAIN };
-    let mut capture = six_starts();
+    let mut capture = five_starts(START);
     capture.marks.push(0);
+    let mut place = 404;
     let mut log = vec![0xA7; 17];
-    let mut state = State::default();
-    assert_eq!(walk_checked(&s, &capture, &mut state, &mut log), Err(1));
+    let mut state = BEFORE;
+    let mut answer = |s: &Settings, capture: &Capture, place, log: &mut [u8]| {
+        walk_checked(s, capture, &mut state, place, log)
+    };
+    let refused = |number, place| ended(LogEnd::Refused(number), place, 0);
+    assert_eq!(answer(&s, &capture, place, &mut log), refused(1, 404));
     s = PLAIN;
-    assert_eq!(walk_checked(&s, &capture, &mut state, &mut log), Err(2));
+    assert_eq!(answer(&s, &capture, place, &mut log), refused(2, 404));
     capture.marks.pop();
-    assert_eq!(walk_checked(&s, &capture, &mut state, &mut log), Err(11));
+    assert_eq!(answer(&s, &capture, place, &mut log), refused(3, 404));
+    place = 403;
+    assert_eq!(answer(&s, &capture, place, &mut log), refused(11, 403));
+    place = 0;
+    assert_eq!(answer(&s, &capture, place, &mut log), refused(11, 0));
     // 11 is given too if there is nothing to append.
     let empty = Capture::new();
-    assert_eq!(walk_checked(&s, &empty, &mut state, &mut log), Err(11));
+    assert_eq!(answer(&s, &empty, place, &mut log), refused(11, 0));
+    assert_eq!(log, [0xA7; 17]);
+    // Never 12: a log without an unused record is an end.
     log.pop();
-    let logged = walk_checked(&s, &capture, &mut state, &mut log).unwrap();
-    assert_eq!((logged.appended, logged.refused), (0, Some(12)));
-    log.fill(0);
-    let logged = walk_checked(&s, &capture, &mut state, &mut log).unwrap();
-    assert_eq!((logged.appended, logged.refused), (1, Some(12)));
-    log.resize(16 * 5, 0);
-    let logged = walk_checked(&s, &capture, &mut state, &mut log).unwrap();
-    assert_eq!((logged.appended, logged.refused), (4, Some(12)));
+    let full = ended(LogEnd::Full, 0, 0);
+    assert_eq!(answer(&s, &capture, place, &mut log), full);
+    assert_eq!(log, [0xA7; 16]);
+    log[4] = 0;
+    let full = ended(LogEnd::Full, 73, 1);
+    assert_eq!(answer(&s, &capture, place, &mut log), full);
+    log.extend([0; 16 * 4]);
+    let open = ended(LogEnd::Open, 402, 4);
+    assert_eq!(answer(&s, &capture, 73, &mut log), open);
+    assert_eq!(read_back(&log), five_records());
 }
 
 #[test]
 fn walks_of_all_sorts() {
     let mut dice = Dice::new(7);
-    let mut answers = [0; 13];
-    for _ in 0..2_000 {
+    let mut refusals = [0; 12];
+    let mut ends = [0; 3];
+    for _ in 0..4_000 {
         let s = dice.settings();
         let mut capture = Capture::new();
         for _ in 0..dice.roll(8) {
             capture = dice.piece(capture);
+        }
+        let place = match dice.roll(3) {
+            0 => dice.roll(capture.octets.len() + 3),
+            _ => 0,
+        };
+        if dice.roll(8) == 0 {
+            capture.marks.push(0);
         }
         let used: Vec<bool> = (0..dice.roll(10)).map(|_| dice.roll(3) == 0).collect();
         let mut log = log_of(&used);
@@ -789,22 +1010,34 @@ fn walks_of_all_sorts() {
             log.resize(log.len() + 1 + dice.roll(15), 0);
         }
         let mut expected_log = log.clone();
-        let mut expected_state = State::default();
-        let mut state = State::default();
-        let logged = walk_checked(&s, &capture, &mut state, &mut log);
-        match logged {
-            Err(number) => answers[usize::from(number)] += 1,
-            Ok(ended) => {
-                let expected = by_hand(&s, &capture, &mut expected_state, &mut expected_log);
-                assert_eq!(logged, expected);
-                assert_eq!((state, log), (expected_state, expected_log));
-                answers[usize::from(ended.refused.unwrap_or(0))] += 1;
+        let (mut state, mut expected_state) = (BEFORE, BEFORE);
+        let logged = walk_checked(&s, &capture, &mut state, place, &mut log);
+        match logged.end {
+            LogEnd::Refused(number) => {
+                refusals[usize::from(number)] += 1;
+                continue;
             }
+            LogEnd::None => ends[0] += 1,
+            LogEnd::Open => ends[1] += 1,
+            LogEnd::Full => ends[2] += 1,
         }
+        let expected = by_hand(&s, &capture, &mut expected_state, place, &mut expected_log);
+        assert_eq!(logged, expected);
+        assert_eq!((state, log), (expected_state, expected_log));
+
+        // With any logs one after the other it is the walk with room.
+        let mut state = BEFORE;
+        let (whole, records) = walk_on(&s, &capture, &mut state, place, [capture.octets.len()]);
+        let sizes: Vec<usize> = (0..1_000).map(|_| dice.roll(4)).collect();
+        let mut stepped = BEFORE;
+        let (last, stepped_records) = walk_on(&s, &capture, &mut stepped, place, sizes);
+        assert_eq!((last.end, last.next), (whole.end, whole.next));
+        assert_eq!((stepped, stepped_records), (state, records));
     }
-    for number in [0, 1, 11, 12] {
-        assert!(answers[number] > 0, "{answers:?}");
+    for number in [1, 2, 3, 11] {
+        assert!(refusals[number] > 0, "{refusals:?}");
     }
+    assert!(ends.iter().all(|&count| count > 0), "{ends:?}");
 }
 
 #[test]
@@ -815,18 +1048,12 @@ fn a_long_walk() {
         octets: [START].repeat(65_536),
         marks: [1].repeat(65_536),
     };
-    for (records, refused) in [(65_535, None), (65_534, Some(12))] {
+    for (records, end) in [(65_535, LogEnd::Open), (65_534, LogEnd::Full)] {
         let mut log = vec![0; 16 * records];
         let mut state = State::default();
-        let logged = walk_checked(&PLAIN, &capture, &mut state, &mut log);
-        let expected = Logged {
-            starts: 65_535,
-            open: true,
-            appended: records,
-            refused,
-        };
-        assert_eq!(logged, Ok(expected));
-        assert_eq!(state.counters[0], 65_535);
+        let logged = walk_checked(&PLAIN, &capture, &mut state, 0, &mut log);
+        assert_eq!(logged, ended(end, records, records));
+        assert_eq!(state.counters[0], records as u32);
         for (number, fields) in read_back(&log).into_iter().enumerate() {
             let cut = Record {
                 place: number as u32,
@@ -836,5 +1063,9 @@ fn a_long_walk() {
             assert_eq!(fields, cut);
         }
         assert_eq!(used_in_front(&log), Ok(records));
+        let (logged, rest) = walk_on(&PLAIN, &capture, &mut state, records, [1]);
+        assert_eq!(logged, ended(LogEnd::Open, 65_535, 65_535 - records));
+        assert_eq!(rest.len(), 65_535 - records);
+        assert_eq!(state.counters[0], 65_535);
     }
 }
