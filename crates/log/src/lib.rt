@@ -1,12 +1,15 @@
-// The reading log (document 02, item 4). Meaning: specs/.
+// The reading log (document 02, item 4): records of 16 octets in a lent buffer. Meaning: specs/.
 ghost use mathlib.Core.Path.{_≡_};
-ghost use Prim.Native.Nat.{_+_, _*_, _/_, _≤_, _<_, _^_};
+ghost use Prim.Native.Nat.{_+_, _*_, _≤_, _<_, _^_};
 ghost use mathlib.Core.List.{_++_};
 ghost use lib.ListN.{length};
+ghost use Rattle.line.specs.Line.{overwrite};
 ghost use Rattle.line.specs.Passed.{lowFirst};
 ghost use Rattle.splice.specs.Written.{Put};
 ghost use Rattle.log.specs.Numbers.{logRefusalNumber};
-ghost use Rattle.log.specs.Log.{lowOctets, recordOctets, recordOf, slots, front, logging, appending, recordRead, nextStep};
+ghost use Rattle.log.specs.Log.{lowOctets, octetsOfRecord, recordOf, logging, appending, recordRead, firstUnused, usedInFront};
+ghost use Rattle.log.specs.Readers.{nextStep, readerOf, handing, handOut};
+ghost use Rattle.log.specs.Searched.{unusedFrom};
 
 // The five fields of a record, at their widths.
 pub struct Record {
@@ -36,6 +39,12 @@ pub enum Logged {
 pub enum LogRead {
     Refused(LogRefusal),
     Holds(Record),
+}
+
+// The number of a record, or a number of records.
+pub enum LogNumber {
+    Refused(LogRefusal),
+    Number(usize),
 }
 
 // What a reader hands out, and its record number after that.
@@ -94,23 +103,24 @@ fn low_first(s: &[u8], at: usize, n: usize) -> u64
 
 // ---- one record in 16 octets
 
-fn put_front(dst: &mut [u8], r: Record) -> usize
-    requires { ⌜ length (now dst) ≡ 16 ⌝ }
-    ensures { λ e. ⌜ Put (now (dst .entry)) 0 (lowOctets 4 (r .place) ++ lowOctets 1 (r .outcome) ++ lowOctets 1 (r .zero)) e (now (dst .exit)) ⌝ }
+// The first three fields over the log from `at` on; the place behind them.
+fn put_front(log: &mut [u8], at: usize, r: Record) -> usize
+    requires { ⌜ at + 6 ≤ length (now log) ⌝ }
+    ensures { λ e. ⌜ Put (now (log .entry)) at (lowOctets 4 (r .place) ++ lowOctets 1 (r .outcome) ++ lowOctets 1 (r .zero)) e (now (log .exit)) ⌝ }
 {
-    let a = put_low(dst, 0, 4, r.place as u64);
-    let b = put_low(dst, a, 1, r.outcome as u64);
-    put_low(dst, b, 1, r.zero as u64)
+    let a = put_low(log, at, 4, r.place as u64);
+    let b = put_low(log, a, 1, r.outcome as u64);
+    put_low(log, b, 1, r.zero as u64)
 }
 
-// The octets of a record over the 16 that are lent.
-fn write_record(dst: &mut [u8], r: Record)
-    requires { ⌜ length (now dst) ≡ 16 ⌝ }
-    ensures { λ _. ⌜ now (dst .exit) ≡ recordOctets r ⌝ }
+// A record over record k of the log, whatever stands there: five stores. For this repository's crates only, since it asks that the log has record k.
+pub fn write_record(log: &mut [u8], k: usize, r: Record)
+    requires { ⌜ 16 * k + 16 ≤ length (now log) ⌝ }
+    ensures { λ _. ⌜ now (log .exit) ≡ overwrite (now (log .entry)) (16 * k) (octetsOfRecord r) ⌝ }
 {
-    let a = put_front(dst, r);
-    let b = put_low(dst, a, 2, r.handed as u64);
-    put_low(dst, b, 8, r.status);
+    let a = put_front(log, 16 * k, r);
+    let b = put_low(log, a, 2, r.handed as u64);
+    put_low(log, b, 8, r.status);
 }
 
 // The record that stands in 16 octets.
@@ -129,12 +139,13 @@ fn record_of(s: &[u8]) -> Record
 
 // ---- the log
 
-// How many records stand before the first unused one.
-fn front_count(log: &[u8]) -> usize
-    ensures { λ r. ⌜ r ≡ length (front (slots (now (log .entry)))) ⌝ }
+// The first unused record from record `from` on; where there is none, the number of records, or `from` behind it. A caller who writes record after
+// record searches on from where it wrote.
+pub fn unused_from(log: &[u8], from: usize) -> usize
+    ensures { λ r. ⌜ r ≡ unusedFrom (now (log .entry)) from ⌝ }
 {
     let n = log.len() / 16;
-    let mut k: usize = 0;
+    let mut k = from;
     while k < n {
         if log[16 * k + 4] == 0 {
             return k;
@@ -142,6 +153,30 @@ fn front_count(log: &[u8]) -> usize
         k += 1;
     }
     k
+}
+
+// How many used records stand in front of the first unused one; all of them where none is unused.
+pub fn used_in_front(log: &[u8]) -> LogNumber
+    ensures { λ r. ⌜ r ≡ usedInFront (now (log .entry)) ⌝ }
+{
+    if log.len() % 16 != 0 {
+        return LogNumber::Refused(LogRefusal::BadLog);
+    }
+    LogNumber::Number(unused_from(log, 0))
+}
+
+// The number of the first unused record.
+pub fn first_unused(log: &[u8]) -> LogNumber
+    ensures { λ r. ⌜ r ≡ firstUnused (now (log .entry)) ⌝ }
+{
+    if log.len() % 16 != 0 {
+        return LogNumber::Refused(LogRefusal::BadLog);
+    }
+    let k = unused_from(log, 0);
+    if k == log.len() / 16 {
+        return LogNumber::Refused(LogRefusal::LogFull);
+    }
+    LogNumber::Number(k)
 }
 
 // Appends a record in the first unused one; a record of outcome 0 is not appended.
@@ -154,13 +189,11 @@ pub fn append(log: &mut [u8], r: Record) -> Logged
     if r.outcome == 0 {
         return Logged::Fine;
     }
-    let k = front_count(log);
+    let k = unused_from(log, 0);
     if k == log.len() / 16 {
         return Logged::Refused(LogRefusal::LogFull);
     }
-    let a = 16 * k;
-    let b = a + 16;
-    write_record(&mut log[a..b], r);
+    write_record(log, k, r);
     Logged::Fine
 }
 
@@ -202,22 +235,22 @@ pub fn next_at(log: &[u8], at: usize) -> Step
     }
 }
 
-// A reader keeps the lent log and a record number.
+// A reader keeps the lent log and its place, a record number.
 pub struct Reader<'a> {
     pub log: &'a [u8],
     pub at: usize,
 }
 
-// A reader at the log's first record.
+// A reader of a log from its first record on.
 pub fn reader_of<'a>(log: &'a [u8]) -> Reader<'a>
-    ensures { λ r. ⌜ (r .log ≡ log .entry) × (r .at ≡ 0) ⌝ }
+    ensures { λ r. ⌜ r ≡ readerOf (log .entry) ⌝ }
 {
     Reader { log, at: 0 }
 }
 
-// Hands out the next record, and moves the reader's own place on.
+// Hands out the next record, and moves the reader's own place on; a refusal leaves it.
 pub fn next<'a>(r: &mut Reader<'a>) -> LogRead
-    ensures { λ x. ⌜ (x ≡ nextStep (now (now (r .entry) .log)) (now (r .entry) .at) .read) × (now (r .exit) .log ≡ now (r .entry) .log) × (now (r .exit) .at ≡ nextStep (now (now (r .entry) .log)) (now (r .entry) .at) .at) ⌝ }
+    ensures { λ x. ⌜ handing x (now (r .exit)) ≡ handOut (now (r .entry)) ⌝ }
 {
     let s = next_at(r.log, r.at);
     r.at = s.at;

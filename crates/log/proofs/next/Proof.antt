@@ -47,7 +47,7 @@ use denote.Triple.Spec.{Meets, tripleOf}
 use denote.Triple.Table.{entered, cited}
 use denote.Triple.Walked.{says, Stays, stay-ref, walkOf, goes-ref, Walks, ends-at, walked, walk-meets}
 use denote.Triple.Clauses.{ensured, lasts}
-use Rattle.log.specs.Log.{nextStep}
+use Rattle.log.specs.Readers.{nextStep, Handing, handing, handOut}
 use Rattle.log.specs.declared.Reader.{Reader}
 use Rattle.log.specs.declared.Step.{Step}
 use Rattle.log.proofs.Reader as T
@@ -170,11 +170,16 @@ module _ {M : Type 1} (𝓤 : URA M) (H : Heap 𝓤) (A : Atoms 𝓤) (W : Given
   at-fits : (r : Step) (u : Val) → Is S.the-row r (u ∷ []) → r .at < 2 ^ 64
   at-fits r u is = LL.owed S.the-type S′.the-laws r _ is .1 .0 .1
 
+  -- what the contract says, of the step that came back
+  moves : (r : Step) → r ≡ found → handing (r .read) (with-at (r .at)) ≡ handOut h
+  unfolding handOut
+  moves r e = ap (λ (s : Step). handing (s .read) (with-at (s .at))) e
+
   exits : (r : Step) → r ≡ found → ent 𝓤 (⋆ 𝓤 H A (‵ (E.the-row .own (r .read) (read-val r ∷ [])) ∷ ‵ (fobs γ (R .coded .code (with-at (r .at)))) ∷ ‵ (fbor κ (Body (mem R) b o γ)) ∷ ‵ (flft κ q) ∷ (‵ (flft κ′ q′) ⊛ ‵ ftrue) ∷ [])) (Post (read-val r))
   exits r e =
       qed W (‵ (E.the-row .own (r .read) (read-val r ∷ [])) ∷ ‵ (fobs γ (R .coded .code (with-at (r .at)))) ∷ ‵ (fbor κ (Body (mem R) b o γ)) ∷ ‵ (flft κ q) ∷ (‵ (flft κ′ q′) ⊛ ‵ ftrue) ∷ []) ∵
       suffices ! _ (ends-at 𝓤 H A next.ended stayed (next.clauses 𝓤 H A at-mem run) W (((κ, (κ′, tt)), (q, (q′, tt)), bounds, x, at), tt) (read-val r) (r .read) (with-at (r .at), tt) (tt, tt)) $
-      says ! (ap (λ (s : Step). s .read) e, refl, ap (λ (s : Step). s .at) e) $
+      says ! (moves r e) $
       move ! (3 ∷ 4 ∷ []) $ join ! $ frame ! $
       -- [what the reading owns; obs; the borrow]
       move ! (1 ∷ 2 ∷ []) $ feqI ! (List Val) (vptr b o ∷ []) (vptr b o ∷ []) refl $ fjoin3 ! $ nothing ! $ move ! (1 ∷ 0 ∷ []) $ fjoin ! $ done !
