@@ -21,7 +21,8 @@ use Rattle.log.specs.Log.{octetsOfRecord, recordOf, isUsed, counts, slot
 use Rattle.log.specs.Log.{appendRefusals, recordRefusals, unusedRefusals, frontRefusals, logging, appended, appendChecked, appending}
 use Rattle.log.specs.Log.{recordChecked, recordRead, numberChecked, firstUnused, usedInFront}
 use Rattle.log.specs.Claims.{IsMultiple, Used}
-use Rattle.log.proofs.Searches.{used-inside}
+use Rattle.log.proofs.Records.{counts-so}
+use Rattle.log.proofs.Searches.{used-inside, count-less}
 
 -- ---- refusal 11
 
@@ -62,6 +63,13 @@ module _ (l : List ℕ) (r : Record) where
   append-room h c u =
       ap (λ (x : Logged). appendChecked x l r) (first-next (Refused BadLog) _ h ∙ first-next (Refused LogFull) _ (rw (c, u)) ∙ first-other Fine)
       ∙ rw (c, appended)
+
+  -- where the first unused record is known
+  pub append-at : (k : ℕ) → IsMultiple l → (r .outcome ≡ 0 → ⊥) → k ≡ frontCount l → k < length l / 16
+      → appending l r ≡ logging Fine (overwrite l (16 * k) (octetsOfRecord r))
+  append-at k m c e h =
+      append-room (good-log l m) (counts-so r c) (count-less l (λ q. let z : ⊥ = omega arith in z))
+      ∙ ap (λ (i : ℕ). logging Fine (overwrite l (16 * i) (octetsOfRecord r))) (sym e)
 
 -- ---- the record of a stated number
 

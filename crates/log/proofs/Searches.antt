@@ -5,11 +5,13 @@ use native.Mathlib.Nat.{suc-inj, suc-ne-zero, lt-of-not-le, eq-or-lt-of-le}
 use mathlib.Core.Path.{_≡_, refl, sym, ap, ap₂, _∙_}
 use mathlib.Core.Bool.{true, false, _&&_, false≢true}
 use mathlib.Core.Logic.{⊎-elim}
-use mathlib.Core.List.{List, [], _∷_}
-use lib.ListN.{length, getD, take, drop, List·getD-eq-default}
-use lib.Seq.{getD-take, getD-drop, drop-drop}
+use mathlib.Core.List.{List, [], _∷_, _++_, append-assoc}
+use lib.ListN.{length, getD, take, drop, length-drop, take-append-drop, List·getD-eq-default}
+use lib.Seq.{getD-take, getD-drop, drop-drop, length-take-le, take-append-le, drop-append-le, drop-append-add, take-at, drop-at}
 use lib.Dec.{lit<}
+use Rattle.line.specs.Line.{overwrite}
 use Rattle.line.proofs.Symbols.{by-test}
+use Rattle.line.proofs.Overwrite.{length-overwrite}
 use Rattle.log.specs.Log.{isUsed, slotAt, slotsIn, slots, allUsed, front, frontCount}
 use Rattle.log.specs.Searched.{unusedFrom}
 use Rattle.log.specs.Claims.{Used, EveryUsed, AreInFront}
@@ -17,7 +19,7 @@ use Rattle.log.proofs.Records.{octet-unused, octet-used}
 
 -- ---- the octets of a record
 
-slot-first : (l : List ℕ) → slotAt l 0 ≡ take 16 l
+pub slot-first : (l : List ℕ) → slotAt l 0 ≡ take 16 l
 unfolding slotAt
 slot-first l = refl
 
@@ -191,3 +193,64 @@ every-used l u k h = count-holds l .1 k (let e = all-count l u in omega arith)
 
 pub used-every : (l : List ℕ) → EveryUsed l → allUsed (slots l) ≡ true
 used-every l h = count-all l (count-is l (length l / 16) (omega arith, h, (λ lt. absurd (let b : ⊥ = omega arith in b))))
+
+-- ---- a record written over record k
+
+module _ (l : List ℕ) (k : ℕ) (s : List ℕ) (n : length s ≡ 16) (inside : 16 * k + 16 ≤ length l) where
+  abbrev after : List ℕ
+  after = overwrite l (16 * k) s
+
+  abbrev before : List ℕ
+  before = take (16 * k) l
+
+  length-before : length before ≡ 16 * k
+  length-before = length-take-le (16 * k) l (omega arith)
+
+  apart : after ≡ before ++ (s ++ drop (16 * k + length s) l)
+  unfolding overwrite
+  apart = append-assoc before s (drop (16 * k + length s) l)
+
+  pub length-written : length after ≡ length l
+  length-written = length-overwrite l (16 * k) s (omega arith)
+
+  -- it stands there, those before it stay, and so does all behind it
+  pub slot-written : slotAt after k ≡ s
+  unfolding slotAt
+  slot-written =
+      ap (take 16) (ap (drop (16 * k)) apart ∙ drop-at before (s ++ drop (16 * k + length s) l) (16 * k) length-before)
+      ∙ take-at s (drop (16 * k + length s) l) 16 n
+
+  slot-of-before : (j : ℕ) (t : List ℕ) → j < k → slotAt (before ++ t) j ≡ slotAt before j
+  unfolding slotAt
+  slot-of-before j t h =
+      ap (take 16) (drop-append-le (16 * j) before t (let e = length-before in omega arith))
+      ∙ take-append-le 16 (drop (16 * j) before) t (let e = length-before in let d = length-drop (16 * j) before in omega arith)
+
+  pub slot-before : (j : ℕ) → j < k → slotAt after j ≡ slotAt l j
+  slot-before j h =
+      ap (λ (m : List ℕ). slotAt m j) apart
+      ∙ slot-of-before j (s ++ drop (16 * k + length s) l) h
+      ∙ sym (slot-of-before j (drop (16 * k) l) h)
+      ∙ ap (λ (m : List ℕ). slotAt m j) (take-append-drop (16 * k) l)
+
+  pub all-behind : drop (16 * (k + 1)) after ≡ drop (16 * (k + 1)) l
+  all-behind =
+      let e : 16 * (k + 1) ≡ 16 * k + length s = omega arith in
+      let g : 16 * k + length s ≡ length before + length s = (let b = length-before in omega arith) in
+      ap (λ (i : ℕ). drop i after) (e ∙ g)
+      ∙ ap (drop (length before + length s)) apart
+      ∙ drop-append-add before (s ++ drop (16 * k + length s) l) (length s)
+      ∙ drop-at s (drop (16 * k + length s) l) (length s) refl
+      ∙ ap (λ (i : ℕ). drop i l) (sym e)
+
+  -- a used record is written over the first unused one: the search goes on behind it, in the log before or after the write
+  pub unused-after : unusedFrom after (k + 1) ≡ unusedFrom l (k + 1)
+  unfolding unusedFrom
+  unused-after =
+      ap₂ (λ (m : ℕ) (t : List ℕ). k + 1 + length (front (slotsIn (m / 16 - (k + 1)) t))) length-written all-behind
+
+  pub count-after : isUsed s ≡ true → k ≡ frontCount l → frontCount after ≡ unusedFrom after (k + 1)
+  count-after u e =
+      count-from after (k + 1) (let g = length-written in omega arith)
+      (λ j h. ⊎-elim (λ q. ap (λ (i : ℕ). isUsed (slotAt after i)) q ∙ ap isUsed slot-written ∙ u)
+      (λ lt. ap isUsed (slot-before j lt) ∙ count-holds l .1 j (omega arith)) (eq-or-lt-of-le (let b : j ≤ k = omega arith in b)))
