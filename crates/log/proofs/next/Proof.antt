@@ -253,8 +253,8 @@ module _ {M : Type 1} (𝓤 : URA M) (H : Heap 𝓤) (A : Atoms 𝓤) (W : Given
         rewrite ! 12 (λ (w : Val). ‵ (fat fullShare S′.mir l₂ 0 w)) (spells r u is) refl $
         rewrite ! 0 (λ (w : Val). ‵ (S.the-row .own r (w ∷ []))) (spells r u is) refl $
         -- r.at = _2.at, and _0 = _2.read
-        assigns ! (of-opd ! (load ! (from ! (fld ! refl (stop !))) (look-in ! 12 (sub ! 1 refl (whole !))))) (from ! (hop ! (look ! 14 refl) (fld ! refl (stop !))))
-        (store-in ! 3 (sub ! 1 refl (whole !)) (tt, record { fits = at-fits r u is })) $
+        assigns ! (of-opd ! (load ! (from ! (fld ! refl (stop !))) (look-in ! 12 (sub ! 1 refl (whole !)))))
+        (from ! (hop ! (look ! 14 refl) (fld ! refl (stop !)))) (store-in ! 3 (sub ! 1 refl (whole !)) (tt, record { fits = at-fits r u is })) $
         assigns ! (of-opd ! (load ! (from ! (fld ! refl (stop !))) (look-in ! 12 (sub ! 0 refl (whole !))))) (from ! (stop !))
         (init ! 16 refl (read-typed 𝓤 H A W r u is)) $
         use1 W (‵ (E.the-row .own (r .read) (read-val r ∷ []))) (read-owns 𝓤 H A W r) $
