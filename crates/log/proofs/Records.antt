@@ -19,7 +19,7 @@ use Rattle.log.specs.Claims.{Fits}
 pub length-lowOctets : (n x : ℕ) → length (lowOctets n x) ≡ n
 unfolding lowOctets
 length-lowOctets zero x = refl
-length-lowOctets (suc n) x = ap suc (length-lowOctets n (x / 256))
+length-lowOctets (suc n) x = ap suc (length-lowOctets n _)
 
 -- one octet is written, and the rest of the number is to come: the turn of a loop that writes
 pub low-turn : (d : List ℕ) (at j n y : ℕ) → j < n

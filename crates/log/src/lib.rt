@@ -189,8 +189,9 @@ pub fn append(log: &mut [u8], r: Record) -> Logged
     if r.outcome == 0 {
         return Logged::Fine;
     }
+    let n = log.len() / 16;
     let k = unused_from(log, 0);
-    if k == log.len() / 16 {
+    if k == n {
         return Logged::Refused(LogRefusal::LogFull);
     }
     write_record(log, k, r);
