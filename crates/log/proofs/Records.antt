@@ -5,14 +5,14 @@ use native.Mathlib.Nat.{pow-suc, pow-le-pow-right, div-lt-iff-lt-mul, div-add-mo
 use mathlib.Core.Path.{_≡_, refl, sym, ap, ap₂, _∙_}
 use mathlib.Core.Bool.{true, false, not}
 use mathlib.Core.List.{List, [], _∷_, _++_, append-assoc, append-nil}
-use lib.ListN.{length, getD, set, length-append}
-use lib.Seq.{sets, getD-at, append-snoc}
+use lib.ListN.{length, getD, take, drop, set, length-append}
+use lib.Seq.{sets, getD-at, append-snoc, drop-cons, take-add, take-all}
 use lib.Dec.{eqb, lit<}
 use borrow.Author.Tests.{eqb-true, eq-eqb, ne-eqb, not-false}
 use Rattle.line.specs.Passed.{lowFirst}
 use Rattle.log.specs.declared.Record.{Record}
 use Rattle.log.specs.Log.{lowOctets, octetsOfRecord, recordOf, isUsed, counts}
-use Rattle.log.specs.Claims.{Fits}
+use Rattle.log.specs.Claims.{Fits, OfOctets}
 
 -- ---- a number, low octet first
 
@@ -84,6 +84,53 @@ record-back r f =
     = ap (λ (l : List ℕ). lowFirst l 8 8) (simp (append-assoc, append-nil))
     ∙ low-back (p ++ o ++ z ++ h) 8 (r .status) [] 8 (simp (length-append, length-lowOctets)) (f .status) in
     (λ i. record { place = ep i; outcome = eo i; zero = ez i; handed = eh i; status = es i })
+
+-- ---- what stands in 16 octets
+
+-- a number that stands in n octets is theirs, and is written as they stand
+low-small : (s : List ℕ) (at n : ℕ) → OfOctets s → lowFirst s at n < 256 ^ n
+unfolding lowFirst
+low-small s at zero o = lit< tt
+low-small s at (suc n) o =
+    let h = low-small s (at + 1) n o in
+    let d = o at in
+    rw (pow-suc 256 n) (omega arith)
+
+low-again : (s : List ℕ) (at n : ℕ) → OfOctets s → at + n ≤ length s → lowOctets n (lowFirst s at n) ≡ take n (drop at s)
+unfolding lowFirst lowOctets
+low-again s at zero o h = refl
+low-again s at (suc n) o h =
+    let x : ℕ = lowFirst s (at + 1) n in
+    let d : ℕ = getD s at 0 in
+    let lt : d < 256 = o at in
+    ap₂ (λ (a : ℕ) (b : List ℕ). a ∷ b) (let e : (x * 256 + d) % 256 ≡ d = omega arith in e)
+    (ap (lowOctets n) (let e : (x * 256 + d) / 256 ≡ x = omega arith in e)
+    ∙ low-again s (at + 1) n o (omega arith)
+    ∙ ap (λ (i : ℕ). take n (drop i s)) (let e : at + 1 ≡ suc at = omega arith in e))
+    ∙ ap (take (suc n)) (sym (drop-cons s at 0 (omega arith)))
+
+-- behind the octets up to a place
+more : (s : List ℕ) → OfOctets s → (at n : ℕ) (h : List ℕ) → at + n ≤ length s → h ≡ take at s → h ++ lowOctets n (lowFirst s at n) ≡ take (at + n) s
+more s o at n h le e = ap₂ _++_ e (low-again s at n o le) ∙ sym (take-add at n s)
+
+-- "Records are read as they stand": written again, a record that is read gives the same 16 octets
+pub record-stands : (s : List ℕ) → length s ≡ 16 → OfOctets s → octetsOfRecord (recordOf s) ≡ s
+unfolding recordOf octetsOfRecord
+record-stands s n o =
+    more s o 8 8 _ (omega arith) (more s o 6 2 _ (omega arith) (more s o 5 1 _ (omega arith) (more s o 4 1 _ (omega arith) (low-again s 0 4 o (omega arith)))))
+    ∙ take-all 16 s (omega arith)
+
+-- and its fields have their widths
+pub record-fits : (s : List ℕ) → OfOctets s → Fits (recordOf s)
+unfolding recordOf
+record-fits s o =
+    record {
+      place = low-small s 0 4 o;
+      outcome = low-small s 4 1 o;
+      zero = low-small s 5 1 o;
+      handed = low-small s 6 2 o;
+      status = low-small s 8 8 o;
+    }
 
 -- ---- used or not
 
