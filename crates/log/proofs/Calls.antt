@@ -1,8 +1,8 @@
 -- Each call on a log, by what is known of log and record. Assumes nothing.
 use Prim.Native.Nat.{ℕ, _*_, _/_, _%_, _<_}
 use native.Mathlib.Omega.{arith}
-use mathlib.Core.Path.{_≡_, sym, ap, _∙_}
-use mathlib.Core.Bool.{true, false, not, false≢true}
+use mathlib.Core.Path.{_≡_, refl, sym, ap, ap₂, _∙_}
+use mathlib.Core.Bool.{Bool, true, false, not, _&&_, false≢true}
 use mathlib.Core.List.{List}
 use lib.ListN.{length}
 use borrow.Author.Tests.{eqb-true, eq-eqb, ne-eqb, not-false}
@@ -44,6 +44,10 @@ bad-mod l h e = false≢true (sym (good-log l e) ∙ h)
 -- ---- appending
 
 module _ (l : List ℕ) (r : Record) where
+  -- the test of 12, by its two parts
+  full-row : {b d : Bool} → counts r ≡ b → allUsed (slots l) ≡ d → (counts r && allUsed (slots l)) ≡ (b && d)
+  full-row c u = ap₂ _&&_ c u
+
   pub append-bad : badLog l ≡ true → appending l r ≡ logging (Refused BadLog) l
   unfolding appending appendRefusals appendChecked
   append-bad h = ap (λ (x : Logged). appendChecked x l r) (first-here (Refused BadLog) _ h)
@@ -51,17 +55,18 @@ module _ (l : List ℕ) (r : Record) where
   pub append-none : badLog l ≡ false → counts r ≡ false → appending l r ≡ logging Fine l
   unfolding appending appendRefusals appendChecked appended
   append-none h c =
-      ap (λ (x : Logged). appendChecked x l r) (first-next (Refused BadLog) _ h ∙ first-next (Refused LogFull) _ (rw c) ∙ first-other Fine) ∙ rw (c, appended)
+      ap (λ (x : Logged). appendChecked x l r) (first-next (Refused BadLog) _ h ∙ first-next (Refused LogFull) _ (full-row c refl) ∙ first-other Fine)
+      ∙ rw (c, appended)
 
   pub append-full : badLog l ≡ false → counts r ≡ true → allUsed (slots l) ≡ true → appending l r ≡ logging (Refused LogFull) l
   unfolding appending appendRefusals appendChecked
-  append-full h c u = ap (λ (x : Logged). appendChecked x l r) (first-next (Refused BadLog) _ h ∙ first-here (Refused LogFull) _ (rw (c, u)))
+  append-full h c u = ap (λ (x : Logged). appendChecked x l r) (first-next (Refused BadLog) _ h ∙ first-here (Refused LogFull) _ (full-row c u))
 
   pub append-room : badLog l ≡ false → counts r ≡ true → allUsed (slots l) ≡ false
       → appending l r ≡ logging Fine (overwrite l (16 * frontCount l) (octetsOfRecord r))
   unfolding appending appendRefusals appendChecked appended
   append-room h c u =
-      ap (λ (x : Logged). appendChecked x l r) (first-next (Refused BadLog) _ h ∙ first-next (Refused LogFull) _ (rw (c, u)) ∙ first-other Fine)
+      ap (λ (x : Logged). appendChecked x l r) (first-next (Refused BadLog) _ h ∙ first-next (Refused LogFull) _ (full-row c u) ∙ first-other Fine)
       ∙ rw (c, appended)
 
   -- where the first unused record is known

@@ -189,9 +189,9 @@ pub fn append(log: &mut [u8], r: Record) -> Logged
     if r.outcome == 0 {
         return Logged::Fine;
     }
-    let n = log.len() / 16;
+    let count = log.len() / 16;
     let k = unused_from(log, 0);
-    if k == n {
+    if k == count {
         return Logged::Refused(LogRefusal::LogFull);
     }
     write_record(log, k, r);
