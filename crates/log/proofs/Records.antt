@@ -1,0 +1,113 @@
+-- One record: numbers low octet first, written and read, and the octets of the five fields. Assumes nothing.
+use Prim.Native.Nat.{ℕ, zero, suc, _+_, _-_, _*_, _/_, _%_, _^_, _≤_, _<_}
+use native.Mathlib.Omega.{arith}
+use native.Mathlib.Nat.{pow-suc, pow-le-pow-right, div-lt-iff-lt-mul, div-add-mod', mod-eq-of-lt}
+use mathlib.Core.Path.{_≡_, refl, sym, ap, ap₂, _∙_}
+use mathlib.Core.Bool.{true, false, not}
+use mathlib.Core.List.{List, [], _∷_, _++_, append-assoc, append-nil}
+use lib.ListN.{length, getD, set, length-append}
+use lib.Seq.{sets, getD-at, append-snoc}
+use lib.Dec.{eqb, lit<}
+use borrow.Author.Tests.{eqb-true, eq-eqb, ne-eqb, not-false}
+use Rattle.line.specs.Passed.{lowFirst}
+use Rattle.log.specs.declared.Record.{Record}
+use Rattle.log.specs.Log.{lowOctets, octetsOfRecord, recordOf, isUsed, counts}
+use Rattle.log.specs.Claims.{Fits}
+
+-- ---- a number, low octet first
+
+pub length-lowOctets : (n x : ℕ) → length (lowOctets n x) ≡ n
+unfolding lowOctets
+length-lowOctets zero x = refl
+length-lowOctets (suc n) x = ap suc (length-lowOctets n _)
+
+-- one octet is written, and the rest of the number is to come: the turn of a loop that writes
+pub low-turn : (d : List ℕ) (at j n y : ℕ) → j < n
+    → sets d (at + j) (lowOctets (n - j) y) ≡ sets (set d (at + j) (y % 256)) (at + (j + 1)) (lowOctets (n - (j + 1)) (y / 256))
+unfolding lowOctets
+low-turn d at j n y h =
+    let e : n - j ≡ suc (n - (j + 1)) = omega arith in
+    let g : at + (j + 1) ≡ suc (at + j) = omega arith in
+    rw (e, g)
+
+-- one octet more is read, below those read: the turn of a loop that reads
+pub lowFirst-turn : (s : List ℕ) (at k n : ℕ) → 0 < k → k ≤ n
+    → lowFirst s (at + (k - 1)) (n - (k - 1)) ≡ lowFirst s (at + k) (n - k) * 256 + getD s (at + (k - 1)) 0
+unfolding lowFirst
+lowFirst-turn s at k n h g =
+    let e : n - (k - 1) ≡ suc (n - k) = omega arith in
+    let i : at + (k - 1) + 1 ≡ at + k = omega arith in
+    rw (e, lowFirst, i)
+
+-- seven octets leave room for one more
+pub small-pow : (m : ℕ) → m ≤ 7 → 256 ^ m ≤ 72057594037927936
+small-pow m h = pow-le-pow-right {n = 256} (lit< tt) {i = m} {j = 7} h
+
+-- a number is read where it was written, between any octets
+low-back : (h : List ℕ) (n x : ℕ) (t : List ℕ) (at : ℕ) → length h ≡ at → x < 256 ^ n → lowFirst (h ++ (lowOctets n x ++ t)) at n ≡ x
+unfolding lowFirst lowOctets
+low-back h zero x t at e lt = omega arith
+low-back h (suc n) x t at e lt =
+    let y : ℕ = x % 256 in
+    let q : ℕ = x / 256 in
+    let l : List ℕ = lowOctets n q ++ t in
+    let below : q < 256 ^ n = div-lt-iff-lt-mul {k = 256} {x = x} {y = 256 ^ n} (lit< tt) .1 (rw (pow-suc 256 n) at lt) in
+    let n′ : length (h ++ (y ∷ [])) ≡ at + 1 = length-append h (y ∷ []) ∙ omega arith in
+    let ih : lowFirst ((h ++ (y ∷ [])) ++ l) (at + 1) n ≡ q = low-back (h ++ (y ∷ [])) n q t (at + 1) n′ below in
+    ap₂ (λ (a b : ℕ). a * 256 + b) (ap (λ (m : List ℕ). lowFirst m (at + 1) n) (sym (append-snoc h y l)) ∙ ih) (getD-at h y l 0 at e) ∙ div-add-mod' x 256
+
+-- ---- the octets of a record
+
+pub length-record : (r : Record) → length (octetsOfRecord r) ≡ 16
+unfolding octetsOfRecord
+length-record r = simp (length-append, length-lowOctets)
+
+-- "Records are read as they stand": one that was written is read
+pub record-back : (r : Record) → Fits r → recordOf (octetsOfRecord r) ≡ r
+unfolding recordOf octetsOfRecord
+record-back r f =
+    let p = lowOctets 4 (r .place) in
+    let o = lowOctets 1 (r .outcome) in
+    let z = lowOctets 1 (r .zero) in
+    let h = lowOctets 2 (r .handed) in
+    let s = lowOctets 8 (r .status) in
+    let all = p ++ o ++ z ++ h ++ s in
+    let ep : lowFirst all 0 4 ≡ r .place
+    = ap (λ (l : List ℕ). lowFirst l 0 4) (simp append-assoc) ∙ low-back [] 4 (r .place) (o ++ (z ++ (h ++ s))) 0 refl (f .place) in
+    let eo : lowFirst all 4 1 ≡ r .outcome
+    = ap (λ (l : List ℕ). lowFirst l 4 1) (simp append-assoc) ∙ low-back p 1 (r .outcome) (z ++ (h ++ s)) 4 (length-lowOctets 4 (r .place)) (f .outcome) in
+    let ez : lowFirst all 5 1 ≡ r .zero
+    = ap (λ (l : List ℕ). lowFirst l 5 1) (simp append-assoc) ∙ low-back (p ++ o) 1 (r .zero) (h ++ s) 5 (simp (length-append, length-lowOctets)) (f .zero) in
+    let eh : lowFirst all 6 2 ≡ r .handed
+    = ap (λ (l : List ℕ). lowFirst l 6 2) (simp append-assoc) ∙ low-back (p ++ o ++ z) 2 (r .handed) s 6 (simp (length-append, length-lowOctets)) (f .handed) in
+    let es : lowFirst all 8 8 ≡ r .status
+    = ap (λ (l : List ℕ). lowFirst l 8 8) (simp (append-assoc, append-nil))
+    ∙ low-back (p ++ o ++ z ++ h) 8 (r .status) [] 8 (simp (length-append, length-lowOctets)) (f .status) in
+    (λ i. record { place = ep i; outcome = eo i; zero = ez i; handed = eh i; status = es i })
+
+-- ---- used or not
+
+pub octet-unused : (s : List ℕ) → getD s 4 0 ≡ 0 → isUsed s ≡ false
+unfolding isUsed
+octet-unused s h = ap not (eq-eqb (getD s 4 0) 0 h)
+
+pub octet-used : (s : List ℕ) → (getD s 4 0 ≡ 0 → ⊥) → isUsed s ≡ true
+unfolding isUsed
+octet-used s h = ap not (ne-eqb (getD s 4 0) 0 h)
+
+pub counts-not : (r : Record) → r .outcome ≡ 0 → counts r ≡ false
+unfolding counts
+counts-not r h = ap not (eq-eqb (r .outcome) 0 h)
+
+pub counts-so : (r : Record) → (r .outcome ≡ 0 → ⊥) → counts r ≡ true
+unfolding counts
+counts-so r h = ap not (ne-eqb (r .outcome) 0 h)
+
+pub outcome-none : (r : Record) → counts r ≡ false → r .outcome ≡ 0
+unfolding counts
+outcome-none r h = eqb-true (r .outcome) 0 (not-false _ h)
+
+-- a record is used where it is written, if it has an outcome
+pub used-counts : (r : Record) → Fits r → isUsed (octetsOfRecord r) ≡ counts r
+unfolding isUsed counts octetsOfRecord lowOctets
+used-counts r f = ap (λ (n : ℕ). not (eqb n 0)) (mod-eq-of-lt (f .outcome))

@@ -1,0 +1,259 @@
+// The reading log (document 02, item 4): records of 16 octets in a lent buffer. Meaning: specs/.
+ghost use mathlib.Core.Path.{_≡_};
+ghost use Prim.Native.Nat.{_+_, _*_, _≤_, _<_, _^_};
+ghost use mathlib.Core.List.{_++_};
+ghost use lib.ListN.{length};
+ghost use Rattle.line.specs.Line.{overwrite};
+ghost use Rattle.line.specs.Passed.{lowFirst};
+ghost use Rattle.splice.specs.Written.{Put};
+ghost use Rattle.log.specs.Numbers.{logRefusalNumber};
+ghost use Rattle.log.specs.Log.{lowOctets, octetsOfRecord, recordOf, logging, appending, recordRead, firstUnused, usedInFront};
+ghost use Rattle.log.specs.Readers.{nextStep, readerOf, handing, handOut};
+ghost use Rattle.log.specs.Searched.{unusedFrom};
+
+// The five fields of a record, at their widths.
+pub struct Record {
+    pub place: u32,
+    // an outcome's number; 0 for `none`, `open` and a refused reading
+    pub outcome: u8,
+    pub zero: u8,
+    // octets handed out
+    pub handed: u16,
+    pub status: u64,
+}
+
+// Refusals 11 to 13.
+pub enum LogRefusal {
+    BadLog,
+    LogFull,
+    NotUsed,
+}
+
+// What a table of the log's refusals gives: the first that holds, or that the call goes on.
+pub enum Logged {
+    Fine,
+    Refused(LogRefusal),
+}
+
+// What is read of a log.
+pub enum LogRead {
+    Refused(LogRefusal),
+    Holds(Record),
+}
+
+// The number of a record, or a number of records.
+pub enum LogNumber {
+    Refused(LogRefusal),
+    Number(usize),
+}
+
+// What a reader hands out, and its record number after that.
+pub struct Step {
+    pub read: LogRead,
+    pub at: usize,
+}
+
+// Document 02's number of a refusal.
+pub fn refusal_number(r: LogRefusal) -> u8
+    ensures { λ n. ⌜ n ≡ logRefusalNumber r ⌝ }
+{
+    match r {
+        LogRefusal::BadLog => 11,
+        LogRefusal::LogFull => 12,
+        LogRefusal::NotUsed => 13,
+    }
+}
+
+// ---- numbers, low octet first
+
+fn wide(x: u8) -> u64
+    ensures { λ r. ⌜ (r ≡ x) × (r < 256) ⌝ }
+{
+    x as u64
+}
+
+// A number as n octets over dst from `at` on; the place behind them.
+fn put_low(dst: &mut [u8], at: usize, n: usize, x: u64) -> usize
+    requires { ⌜ at + n ≤ length (now dst) ⌝ }
+    ensures { λ r. ⌜ Put (now (dst .entry)) at (lowOctets n x) r (now (dst .exit)) ⌝ }
+{
+    let mut j: usize = 0;
+    let mut y = x;
+    while j < n {
+        dst[at + j] = (y % 256) as u8;
+        y = y / 256;
+        j += 1;
+    }
+    at + j
+}
+
+// The number that stands in n octets from `at` on.
+fn low_first(s: &[u8], at: usize, n: usize) -> u64
+    requires { ⌜ (at + n ≤ length (now s)) × (n ≤ 8) ⌝ }
+    ensures { λ r. ⌜ (r ≡ lowFirst (now (s .entry)) at n) × (r < 256 ^ n) ⌝ }
+{
+    let mut k = n;
+    let mut x: u64 = 0;
+    while 0 < k {
+        k -= 1;
+        x = x * 256 + wide(s[at + k]);
+    }
+    x
+}
+
+// ---- one record in 16 octets
+
+// The first three fields over the log from `at` on; the place behind them.
+fn put_front(log: &mut [u8], at: usize, r: Record) -> usize
+    requires { ⌜ at + 6 ≤ length (now log) ⌝ }
+    ensures { λ e. ⌜ Put (now (log .entry)) at (lowOctets 4 (r .place) ++ lowOctets 1 (r .outcome) ++ lowOctets 1 (r .zero)) e (now (log .exit)) ⌝ }
+{
+    let a = put_low(log, at, 4, r.place as u64);
+    let b = put_low(log, a, 1, r.outcome as u64);
+    put_low(log, b, 1, r.zero as u64)
+}
+
+// A record over record k of the log, whatever stands there: five stores. For this repository's crates only, since it asks that the log has record k.
+pub fn write_record(log: &mut [u8], k: usize, r: Record)
+    requires { ⌜ 16 * k + 16 ≤ length (now log) ⌝ }
+    ensures { λ _. ⌜ now (log .exit) ≡ overwrite (now (log .entry)) (16 * k) (octetsOfRecord r) ⌝ }
+{
+    let a = put_front(log, 16 * k, r);
+    let b = put_low(log, a, 2, r.handed as u64);
+    put_low(log, b, 8, r.status);
+}
+
+// The record that stands in 16 octets.
+fn record_of(s: &[u8]) -> Record
+    requires { ⌜ length (now s) ≡ 16 ⌝ }
+    ensures { λ r. ⌜ r ≡ recordOf (now (s .entry)) ⌝ }
+{
+    Record {
+        place: low_first(s, 0, 4) as u32,
+        outcome: low_first(s, 4, 1) as u8,
+        zero: low_first(s, 5, 1) as u8,
+        handed: low_first(s, 6, 2) as u16,
+        status: low_first(s, 8, 8),
+    }
+}
+
+// ---- the log
+
+// The first unused record from record `from` on; where there is none, the number of records, or `from` behind it. A caller who writes record after
+// record searches on from where it wrote.
+pub fn unused_from(log: &[u8], from: usize) -> usize
+    ensures { λ r. ⌜ r ≡ unusedFrom (now (log .entry)) from ⌝ }
+{
+    let n = log.len() / 16;
+    let mut k = from;
+    while k < n {
+        if log[16 * k + 4] == 0 {
+            return k;
+        }
+        k += 1;
+    }
+    k
+}
+
+// How many used records stand in front of the first unused one; all of them where none is unused.
+pub fn used_in_front(log: &[u8]) -> LogNumber
+    ensures { λ r. ⌜ r ≡ usedInFront (now (log .entry)) ⌝ }
+{
+    if log.len() % 16 != 0 {
+        return LogNumber::Refused(LogRefusal::BadLog);
+    }
+    LogNumber::Number(unused_from(log, 0))
+}
+
+// The number of the first unused record.
+pub fn first_unused(log: &[u8]) -> LogNumber
+    ensures { λ r. ⌜ r ≡ firstUnused (now (log .entry)) ⌝ }
+{
+    if log.len() % 16 != 0 {
+        return LogNumber::Refused(LogRefusal::BadLog);
+    }
+    let k = unused_from(log, 0);
+    if k == log.len() / 16 {
+        return LogNumber::Refused(LogRefusal::LogFull);
+    }
+    LogNumber::Number(k)
+}
+
+// Appends a record in the first unused one; a record of outcome 0 is not appended.
+pub fn append(log: &mut [u8], r: Record) -> Logged
+    ensures { λ a. ⌜ logging a (now (log .exit)) ≡ appending (now (log .entry)) r ⌝ }
+{
+    if log.len() % 16 != 0 {
+        return Logged::Refused(LogRefusal::BadLog);
+    }
+    if r.outcome == 0 {
+        return Logged::Fine;
+    }
+    let n = log.len() / 16;
+    let k = unused_from(log, 0);
+    if k == n {
+        return Logged::Refused(LogRefusal::LogFull);
+    }
+    write_record(log, k, r);
+    Logged::Fine
+}
+
+// The record of a stated number.
+pub fn read_record(log: &[u8], k: usize) -> LogRead
+    ensures { λ r. ⌜ r ≡ recordRead (now (log .entry)) k ⌝ }
+{
+    if log.len() % 16 != 0 {
+        return LogRead::Refused(LogRefusal::BadLog);
+    }
+    if log.len() / 16 <= k {
+        return LogRead::Refused(LogRefusal::NotUsed);
+    }
+    let a = 16 * k;
+    let b = a + 16;
+    let s = &log[a..b];
+    if s[4] == 0 {
+        return LogRead::Refused(LogRefusal::NotUsed);
+    }
+    LogRead::Holds(record_of(s))
+}
+
+// ---- a reader
+
+// The work of a reader: what it hands out at a record number, and the number after that. Every caller with a slice and a number uses this one.
+pub fn next_at(log: &[u8], at: usize) -> Step
+    ensures { λ r. ⌜ r ≡ nextStep (now (log .entry)) at ⌝ }
+{
+    let read = read_record(log, at);
+    match read {
+        LogRead::Refused(x) => Step {
+            read: LogRead::Refused(x),
+            at,
+        },
+        LogRead::Holds(r) => Step {
+            read: LogRead::Holds(r),
+            at: at + 1,
+        },
+    }
+}
+
+// A reader keeps the lent log and its place, a record number.
+pub struct Reader<'a> {
+    pub log: &'a [u8],
+    pub at: usize,
+}
+
+// A reader of a log from its first record on.
+pub fn reader_of<'a>(log: &'a [u8]) -> Reader<'a>
+    ensures { λ r. ⌜ r ≡ readerOf (log .entry) ⌝ }
+{
+    Reader { log, at: 0 }
+}
+
+// Hands out the next record, and moves the reader's own place on; a refusal leaves it.
+pub fn next<'a>(r: &mut Reader<'a>) -> LogRead
+    ensures { λ x. ⌜ handing x (now (r .exit)) ≡ handOut (now (r .entry)) ⌝ }
+{
+    let s = next_at(r.log, r.at);
+    r.at = s.at;
+    s.read
+}
