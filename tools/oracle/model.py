@@ -1,10 +1,12 @@
-"""An independent model of document 01 with items 1 to 3 of document 02, written from their text alone and not from the definitions in crates/*/specs.
+"""An independent model of document 01 with items 1 to 4 of document 02, written from their text alone and not from the definitions in crates/*/specs.
 
-Each piece stands under the sentence of the documents that it renders. The check is zlib's crc32, not a loop of our own.
+Each piece stands under the sentence of the documents that it renders. The check is zlib's crc32, not a loop of our own, and a log's record is laid
+out by struct.
 """
+import struct
 import zlib
 from dataclasses import dataclass, field, replace
-from typing import List, Optional, Tuple
+from typing import List, NamedTuple, Optional, Tuple
 
 # ---- The line
 
@@ -287,17 +289,201 @@ def reading(s: Settings, state: State, octets: List[int], marks: List[int], plac
     return answer
 
 
-def walk(s: Settings, state: State, octets: List[int], marks: List[int]) -> List[Reading]:
-    """"a walk from place 0 until `none` or `open`": the readings it makes; a refused one ends it too."""
-    readings = [reading(s, state, octets, marks, 0)]
+def walk(s: Settings, state: State, octets: List[int], marks: List[int], place: int = 0) -> List[Reading]:
+    """"a walk from place 0 until `none` or `open`", or from another place: the readings it makes; a refused one ends it too."""
+    readings = [reading(s, state, octets, marks, place)]
     while readings[-1].kind == "counted":
         readings.append(reading(s, readings[-1].state, octets, marks, readings[-1].next))
     last = readings[-1]
     if last.kind != "refused":
         # "the eleven counters together have risen, modulo 2^32, by the number of Start symbols in the capture, less one if the walk ended `open`"
-        starts = sum(is_start(o, m) for o, m in zip(octets, marks)) - (last.kind == "open")
+        starts = sum(is_start(o, m) for o, m in zip(octets[place:], marks[place:])) - (last.kind == "open")
         assert (sum(last.state.counters) - sum(state.counters) - starts) % 2**32 == 0
     return readings
+
+
+# ---- The reading log (item 4)
+
+# "place (4 octets, low first), outcome (1), zero (1), octets handed out (2, low first), status word (8, low first)"
+RECORD = struct.Struct("<IBBHQ")
+assert RECORD.size == 16  # "one record of 16 octets per counted Start, no header"
+
+
+class Record(NamedTuple):
+    """"the five fields at those widths" """
+    place: int
+    outcome: int
+    zero: int
+    handed: int
+    status: int
+
+    def octets(self) -> List[int]:
+        return list(RECORD.pack(*self))
+
+    def used(self) -> bool:
+        """"A record is used if its outcome octet isn't zero" """
+        return self.outcome != 0
+
+
+def log_records(log: List[int]) -> List[Record]:
+    """"Records are read as they stand." Octets behind the last whole record belong to none."""
+    whole = len(log) - len(log) % RECORD.size
+    return [Record(*fields) for fields in RECORD.iter_unpack(bytes(log[:whole]))]
+
+
+def unused_numbers(log: List[int]) -> List[int]:
+    return [number for number, r in enumerate(log_records(log)) if not r.used()]
+
+
+def bad_log(log: List[int]) -> bool:
+    """11: "log length no multiple of 16" """
+    return len(log) % RECORD.size != 0
+
+
+def used_in_front(log: List[int]) -> Tuple[int, Optional[int]]:
+    """Refusal, or 0 and how many records there are "up to the first unused record"; 11 alone."""
+    if bad_log(log):
+        return 11, None
+    return 0, min(unused_numbers(log), default=len(log_records(log)))
+
+
+def first_unused(log: List[int]) -> Tuple[int, Optional[int]]:
+    """Refusal, or 0 and the number; 12: "no unused record" """
+    unused = unused_numbers(log)
+    refusal = first((11, bad_log(log)), (12, not unused))
+    return (refusal, None) if refusal else (0, unused[0])
+
+
+@dataclass
+class Appending:
+    refusal: int  # 0: not refused
+    number: Optional[int]  # of the record written; none: nothing was appended
+    log: List[int]
+
+
+def appending(log: List[int], r: Record) -> Appending:
+    """"appending takes the first unused one"; 11 is given with outcome 0 too, since that "never gives 12" and no more is said of it.
+    Open point: no value of a field is refused, and the zero octet is written as given, as reading back "gives what was appended"."""
+    refusal = first((11, bad_log(log)), (12, r.used() and not unused_numbers(log)))
+    if refusal or not r.used():  # "with outcome 0, …, it appends nothing"
+        return Appending(refusal or 0, None, log)
+    number = unused_numbers(log)[0]
+    place = number * RECORD.size
+    after = log[:place] + r.octets() + log[place + RECORD.size:]
+    assert log_records(after) == log_records(log)[:number] + [r] + log_records(log)[number + 1:]
+    return Appending(0, number, after)
+
+
+def fields_of(r: Reading) -> Record:
+    """"outcome 0, which stands for `none`, `open` and a refused reading"; open point: with zeros beside it, which are never written."""
+    if r.kind != "counted":
+        return Record(0, 0, 0, 0, 0)
+    return Record(r.start, r.outcome, 0, len(r.data), r.status)
+
+
+def reading_appending(log: List[int], r: Reading) -> Appending:
+    return appending(log, fields_of(r))
+
+
+def record_at(log: List[int], number: int) -> Tuple[int, Optional[Record]]:
+    """Refusal, or 0 and the record; 13: "record number not used", so also where the log has ended. It may lie behind an unused one."""
+    found = log_records(log)[number:number + 1]
+    refusal = first((11, bad_log(log)), (13, not any(r.used() for r in found)))
+    return (refusal, None) if refusal else (0, found[0])
+
+
+@dataclass(frozen=True)
+class LogReader:
+    """"A reader that keeps the lent log and its place"; open point: making one is never refused."""
+    log: List[int]
+    place: int = 0
+
+
+def handing_out(reader: LogReader) -> Tuple[int, Optional[Record], LogReader]:
+    """"and hands out the next record": refusal or 0, the record, and the reader behind it; a refused one stays as it is.
+    Open point: it doesn't pass an unused record, also where used ones follow."""
+    refusal, r = record_at(reader.log, reader.place)
+    return refusal, r, reader if refusal else replace(reader, place=reader.place + 1)
+
+
+def read_back(log: List[int]) -> List[Record]:
+    """"reading it back up to the first unused record": what a reader hands out until it is refused."""
+    records_read = []
+    refusal, r, reader = handing_out(LogReader(log))
+    while not refusal:
+        records_read.append(r)
+        refusal, r, reader = handing_out(reader)
+    return records_read
+
+
+def written(length: int, appended: List[Record]) -> List[int]:
+    """"a log of zero octets" of that length, with these appended one after the other."""
+    log = [0] * length
+    for r in appended:
+        log = appending(log, r).log
+    return log
+
+
+def kept(length: int, appended: List[Record]) -> List[int]:
+    """The same log, with its sentence tried; the length is a multiple of 16."""
+    log = written(length, appended)
+    back = read_back(log)
+    # "reading it back up to the first unused record gives what was appended, and writing that again gives the same octets"
+    assert back == [r for r in appended if r.used()][:length // RECORD.size]
+    assert written(length, back) == log
+    return log
+
+
+# Both ends of each width, an outcome 0 between them, and one for which there is no room.
+kept(32, [Record(0, 1, 0, 0, 0), Record(9, 0, 9, 9, 9), Record(2**32 - 1, 255, 255, 2**16 - 1, 2**64 - 1), Record(1, 2, 3, 4, 5)])
+
+
+@dataclass
+class LoggedWalk:
+    end: str  # refused, none, open or full
+    next: int  # as the last reading gives it; where the walk stands if full, and the place it was called with if refused
+    state: State
+    log: List[int]
+    refusal: int = 0
+    appended: int = 0  # how many readings, each with its Start counted
+
+
+def logged_walk(s: Settings, state: State, octets: List[int], marks: List[int], place: int, log: List[int]) -> LoggedWalk:
+    """A walk that keeps its readings: from a place on, reading after reading, each counted Start's record appended, until `none`, `open` or a full log.
+    Open point: the documents have no such call. It is refused as a reading at that place, then for 11, with the old state, place and log. It never
+    gives 12: a Start that finds no unused record is not counted, and the walk ends full where it stands. `none` and `open` end it whether or not an
+    unused record is left."""
+    refusal = read_refusal(s, octets, marks, place) or first((11, bad_log(log)))
+    if refusal:
+        return LoggedWalk("refused", place, state, log, refusal=refusal)
+    answer = LoggedWalk("", place, state, log)
+    while not answer.end:
+        r = reading(s, answer.state, octets, marks, answer.next)
+        step = reading_appending(answer.log, r)
+        if step.refusal == 12:  # the reading is given up, with its state
+            answer.end = "full"
+        elif r.kind == "counted":
+            answer.next, answer.state, answer.log, answer.appended = r.next, r.state, step.log, answer.appended + 1
+        else:
+            answer.end, answer.next = r.kind, r.next
+    # The same by the walk as a whole: of its readings as many are kept as there are unused records, each in the next of these.
+    *starts, last = walk(s, state, octets, marks, place)
+    stands = [(place, state)] + [(r.next, r.state) for r in starts]
+    into = dict(zip(unused_numbers(log), starts))
+    end = ("full", *stands[len(into)]) if len(into) < len(starts) else (last.kind, last.next, last.state)
+    assert (answer.end, answer.next, answer.state) == end and answer.appended == len(into)
+    assert log_records(answer.log) == [fields_of(into[n]) if n in into else r for n, r in enumerate(log_records(log))]
+    return answer
+
+
+def walks_on(s: Settings, state: State, octets: List[int], marks: List[int], place: int, sizes: List[int]) -> List[LoggedWalk]:
+    """Walks into logs of zero octets with so many records, each from where the one before it ended full."""
+    walks = []
+    for size in sizes:
+        if not walks or walks[-1].end == "full":
+            walks.append(logged_walk(s, state, octets, marks, place, [0] * (RECORD.size * size)))
+            state, place = walks[-1].state, walks[-1].next
+    return walks
 
 
 # ---- Sending
@@ -448,3 +634,66 @@ def printed(data: bytes) -> bytes:
     # "Last line: the word `starts`, the number of counted Starts, the word `open`, then 1 if the walk ended `open`, else 0."
     lines.append(f"starts {len(lines)} open {int(readings[-1].kind == 'open')}")
     return ("\n".join(lines) + "\n").encode()
+
+
+# ---- A walk that keeps its readings, tried on both sides of its limits
+
+
+def try_logged_walks():
+    before = State([2**32 - 1] * 11, [5] * 8)  # a state that any counting and any setting would change
+    used, hole = [0xA7] * 16, [0xA7] * 4 + [0] + [0xA7] * 11
+    idle, start, terminate = (IDLE, 1), (START, 1), (TERMINATE, 1)
+    two = [idle, start, start, terminate]  # a cut one at 1, a bad preamble at 2
+    three = two + [idle, start]  # and an open one at 5
+    cut, bad = Record(1, 1, 0, 0, 0), Record(2, 2, 0, 0, 0)
+    limit_0 = replace(PRINTING, limit=0)
+
+    def tried(line, place, log, s=PRINTING, more_marks=0):
+        marks = [mark for _, mark in line] + [0] * more_marks
+        walked = logged_walk(s, before, [octet for octet, _ in line], marks, place, log)
+        if walked.appended == 0:
+            assert walked.state == before and walked.log == log
+        return walked.refusal or walked.end, walked.next, walked.appended
+
+    # No unused record, and a counted Start, none or an open one ahead.
+    for log in ([], used, used * 3):
+        for line, place, answer in [
+                (two, 0, ("full", 0, 0)), (two, 1, ("full", 1, 0)), (two, 2, ("full", 2, 0)), (two, 3, ("none", 4, 0)), (two, 4, ("none", 4, 0)),
+                ([], 0, ("none", 0, 0)), ([idle], 0, ("none", 1, 0)), ([idle, start], 0, ("open", 1, 0)), ([start, start], 1, ("open", 1, 0)),
+                (three, 2, ("full", 2, 0)), (three, 3, ("open", 5, 0)), (three, 5, ("open", 5, 0)), (three, 6, ("none", 6, 0))]:
+            assert tried(line, place, log) == answer
+    # Fewer records than Starts, as many, and more; from the first Start's place on, and from behind it.
+    for line, end in [(two, ("none", 4)), (three, ("open", 5))]:
+        for place, size, answer in [
+                (0, 1, ("full", 2, 1)), (0, 2, (*end, 2)), (0, 3, (*end, 2)), (1, 1, ("full", 2, 1)), (1, 2, (*end, 2)), (2, 1, (*end, 1)),
+                (3, 0, (*end, 0)), (3, 1, (*end, 0))]:
+            assert tried(line, place, [0] * (16 * size)) == answer
+        octets, marks = [octet for octet, _ in line], [mark for _, mark in line]
+        # Another log gets the rest, and a log without records none of it.
+        for sizes in ([2], [5], [1, 1], [0, 2], [1, 0, 1], [0, 1, 0, 0, 7]):
+            walks = walks_on(PRINTING, before, octets, marks, 0, sizes)
+            assert len(walks) == len(sizes) and (walks[-1].end, walks[-1].next) == end
+            assert [r for walked in walks for r in read_back(walked.log)] == [cut, bad]
+            assert walks[-1].state == State([0, 0] + [2**32 - 1] * 9, [5] * 8)
+        # Holes are filled in order.
+        for log, filled in [(used + hole + used + hole, [used, cut.octets(), used, bad.octets()]),
+                            (hole + used + hole + hole, [cut.octets(), used, bad.octets(), hole]), (used + hole, [used, cut.octets()])]:
+            assert logged_walk(PRINTING, before, octets, marks, 0, log).log == sum(filled, [])
+    # The refusals, one after the other.
+    for length in (1, 15, 17, 31, 33):
+        log = [0xA7] * length
+        assert tried(two, 5, log, s=limit_0, more_marks=1) == (1, 5, 0)
+        assert tried(two, 5, log, more_marks=1) == (2, 5, 0)
+        assert tried(two, 5, log) == (3, 5, 0)
+        assert tried(two, 4, log) == (11, 4, 0) and tried(two, 0, log) == (11, 0, 0) and tried([], 0, log) == (11, 0, 0)
+    for log in ([], used, hole):
+        assert tried(two, 0, log, s=limit_0) == (1, 0, 0) and tried(two, 0, log, more_marks=1) == (2, 0, 0) and tried(two, 5, log) == (3, 5, 0)
+    # A pause that finds no unused record sets no timer.
+    pausing = replace(PRINTING, flow="pause")
+    line = pause_symbols(pausing, 3) + pause_symbols(pausing, 7)
+    walks = walks_on(pausing, before, [octet for octet, _ in line], [mark for _, mark in line], 0, [0, 1, 0, 1])
+    assert [(walked.end, walked.next, walked.state.timers[0]) for walked in walks] == [
+        ("full", 0, 5), ("full", 72, 192), ("full", 72, 192), ("none", 168, 448)]
+
+
+try_logged_walks()

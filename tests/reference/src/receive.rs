@@ -161,7 +161,8 @@ fn settle(state: &mut State, judged: Result<(Frame, Use), Outcome>, frame_at: us
     }
 }
 
-fn check(s: &Settings, octets: &[u8], marks: &[u8], place: usize) -> Checked {
+/// Refusals 1 to 3.
+pub(crate) fn check(s: &Settings, octets: &[u8], marks: &[u8], place: usize) -> Checked {
     refusal::settings(s)?;
     refusal::line(octets, marks, place)
 }

@@ -3,6 +3,7 @@
 //! first: the order is that of the numbers, but 10 stands between 6 and 7.
 
 use crate::line::{is_tag, CONTROL_FIELD, FIRST_TYPE, LAST_LENGTH, MAX_SYMBOLS, MAX_TAGS};
+use crate::log::RECORD_LEN;
 use crate::send::{Form, Tag};
 use crate::settings::{Flow, Settings, State};
 
@@ -78,4 +79,20 @@ pub(crate) fn room(octets: &[u8], place: usize, needed: usize) -> Checked {
 pub(crate) fn timer(state: &State, class: u8) -> Checked {
     let timer = state.timers.get(usize::from(class));
     refuse(9, timer.is_some_and(|&slots| slots > 0))
+}
+
+/// Refusal 11.
+pub(crate) fn log(log: &[u8]) -> Checked {
+    let rest = log.chunks_exact(RECORD_LEN).remainder();
+    refuse(11, !rest.is_empty())
+}
+
+/// Refusal 12, unless there is an unused record.
+pub(crate) fn unused(is_there: bool) -> Checked {
+    refuse(12, !is_there)
+}
+
+/// Refusal 13, unless there is a used record of that number: gives that one.
+pub(crate) fn used<T>(record: Option<T>) -> Result<T, u8> {
+    record.ok_or(13)
 }

@@ -1,10 +1,11 @@
-//! The rules of document 01 and of items 1 to 3 of document 02, one module for each
+//! The rules of document 01 and of items 1 to 4 of document 02, one module for each
 //! part.
 
 mod bench;
 mod fcs;
 mod hand;
 mod limits;
+mod log;
 mod printing;
 mod reading;
 mod refusals;

@@ -46,7 +46,7 @@ impl Dice {
         self.pick(&[OWN, OWN, OTHER, MULTICAST, RESERVED, RESERVED, BROADCAST])
     }
 
-    fn settings(&mut self) -> Settings {
+    pub fn settings(&mut self) -> Settings {
         Settings {
             own: self.pick(&[OWN, OWN, OWN, OTHER, MULTICAST]),
             listed: [(); 4].map(|()| self.address()),
@@ -61,7 +61,7 @@ impl Dice {
     }
 
     /// A piece of a capture: noise, or a frame, at times damaged.
-    fn piece(&mut self, capture: Capture) -> Capture {
+    pub fn piece(&mut self, capture: Capture) -> Capture {
         if self.roll(4) == 0 {
             let mut capture = capture;
             for _ in 0..self.roll(40) {
