@@ -9,7 +9,7 @@ use lib.ListN.{length, getD, take, drop, set, length-append}
 use lib.Seq.{sets, getD-at, append-snoc, drop-cons, take-add, take-all}
 use lib.Dec.{eqb, lit<}
 use borrow.Author.Tests.{eqb-true, eq-eqb, ne-eqb, not-false}
-use Rattle.line.specs.Passed.{lowFirst}
+use Rattle.line.specs.Octets.{lowFirst}
 use Rattle.log.specs.declared.Record.{Record}
 use Rattle.log.specs.Log.{lowOctets, octetsOfRecord, recordOf, isUsed, counts}
 use Rattle.log.specs.Claims.{Fits, OfOctets}

@@ -4,7 +4,7 @@ ghost use Prim.Native.Nat.{_+_, _*_, _≤_, _<_, _^_};
 ghost use mathlib.Core.List.{_++_};
 ghost use lib.ListN.{length};
 ghost use Rattle.line.specs.Line.{overwrite};
-ghost use Rattle.line.specs.Passed.{lowFirst};
+ghost use Rattle.line.specs.Octets.{lowFirst};
 ghost use Rattle.splice.specs.Written.{Put};
 ghost use Rattle.log.specs.Numbers.{logRefusalNumber};
 ghost use Rattle.log.specs.Log.{lowOctets, octetsOfRecord, recordOf, logging, appending, recordRead, firstUnused, usedInFront};

@@ -1,0 +1,124 @@
+-- One turn of a walk that keeps its readings, by what the reading answers and whether a record is unused. Assumes nothing.
+use Prim.Native.Nat.{ℕ, suc, _+_, _-_, _*_, _/_, _≤_, _<_}
+use native.Mathlib.Omega.{arith}
+use mathlib.Core.Path.{_≡_, refl, sym, ap, _∙_}
+use mathlib.Core.Bool.{true, false}
+use mathlib.Core.List.{List}
+use lib.ListN.{length}
+use Rattle.line.specs.Line.{overwrite}
+use Rattle.line.specs.Table.{first}
+use Rattle.station.specs.declared.Settings.{Settings}
+use Rattle.station.specs.declared.State.{State}
+use Rattle.station.specs.declared.Part.{Part}
+use Rattle.station.specs.declared.Outcome.{Outcome}
+use Rattle.station.specs.declared.Outcome.the-variants.{Cut, BadPreamble, Undersized, Oversized, WrongFcs, WrongLength, Filtered, PauseTaken, PfcTaken, ControlDropped, HandedOut}
+use Rattle.station.specs.declared.Refusal.{Refusal}
+use Rattle.station.specs.Numbers.{outcomeNumber}
+use Rattle.log.specs.declared.Record.{Record}
+use Rattle.log.specs.declared.Logged.{Logged}
+use Rattle.log.specs.Log.{octetsOfRecord, isUsed, frontCount, Logging, appending}
+use Rattle.log.specs.Searched.{unusedFrom}
+use Rattle.log.specs.Claims.{Fits, IsMultiple}
+use Rattle.log.proofs.Records.{length-record, used-counts, counts-so}
+use Rattle.log.proofs.Searches.{count-all, count-after}
+use Rattle.log.proofs.Calls.{good-log, append-full, append-at}
+use Rattle.receive.specs.declared.Answer.{Answer}
+use Rattle.receive.specs.declared.Answer.the-variants.{Counted}
+use Rattle.receive.specs.declared.Reading.{Reading}
+use Rattle.receive.specs.Values.{answerOutcome}
+use Rattle.receive.specs.Reading.{reading}
+use Rattle.logging.specs.declared.KeepRefusal.{KeepRefusal}
+use Rattle.logging.specs.declared.KeepRefusal.the-variants.{ByReading}
+use Rattle.logging.specs.declared.KeepChecked.{KeepChecked}
+use Rattle.logging.specs.declared.KeepChecked.the-variants.{Fine, Refused}
+use Rattle.logging.specs.declared.LogEnd.{LogEnd}
+use Rattle.logging.specs.declared.LogEnd.the-variants.{Nothing, Open, Full}
+use Rattle.logging.specs.Records.{recordOfReading}
+use Rattle.logging.specs.Walks.{Keeping, stopped, keepFrom, keepRefusals, keepChecked, walkLogged}
+
+-- ---- a counted Start's record
+
+number-some : (o : Outcome) → outcomeNumber o ≡ 0 → ⊥
+number-some Cut h = omega arith
+number-some BadPreamble h = omega arith
+number-some Undersized h = omega arith
+number-some Oversized h = omega arith
+number-some WrongFcs h = omega arith
+number-some WrongLength h = omega arith
+number-some Filtered h = omega arith
+number-some PauseTaken h = omega arith
+number-some PfcTaken h = omega arith
+number-some ControlDropped h = omega arith
+number-some HandedOut h = omega arith
+
+-- it has an outcome
+pub counted-some : (r : Reading) (o : Outcome) (w : ℕ) (q : Part) → r .answer ≡ Counted o w q → recordOfReading r .outcome ≡ 0 → ⊥
+unfolding recordOfReading
+counted-some r o w q e h = number-some o (sym (ap answerOutcome e) ∙ h)
+
+-- it is written over the first unused record: the search for the next one goes on behind it
+pub next-unused : (l : List ℕ) (k : ℕ) (r : Record) → Fits r → (r .outcome ≡ 0 → ⊥) → 16 * k + 16 ≤ length l → k ≡ frontCount l
+    → let m : List ℕ = overwrite l (16 * k) (octetsOfRecord r) in unusedFrom m (k + 1) ≡ frontCount m
+next-unused l k r f h inside e = sym (count-after l k (octetsOfRecord r) (length-record r) inside (used-counts r f ∙ counts-so r h) e)
+
+-- ---- one turn
+
+module _ (s : Settings) (st : State) (os ms : List ℕ) (p n : ℕ) (l : List ℕ) (left : ℕ) where
+  -- what follows a reading r, and what follows its appending
+  abbrev given : Reading → Logging → Keeping
+  given r a =
+      elim (a .given) [
+        | Logged.Fine ↦ keepFrom (left - 1) s (r .state) os ms (r .next) (n + 1) (a .log)
+        | Logged.Refused x ↦ stopped Full st p n l
+      ]
+
+  abbrev follows : Reading → Keeping
+  follows r =
+      elim (r .answer) [
+        | Answer.Refused x ↦ stopped (LogEnd.Refused (ByReading x)) (r .state) (r .next) n l
+        | Answer.Nothing ↦ stopped Nothing (r .state) (r .next) n l
+        | Answer.Open ↦ stopped Open (r .state) (r .next) n l
+        | Counted o w q ↦ given r (appending l (recordOfReading r))
+      ]
+
+  module _ (more : 0 < left) (r : Reading) (is : r ≡ reading s st os ms p) where
+    here : keepFrom left s st os ms p n l ≡ follows r
+    unfolding keepFrom
+    here =
+        let e : left ≡ suc (left - 1) = omega arith in
+        ap (λ (k : ℕ). keepFrom k s st os ms p n l) e ∙ ap follows (sym is)
+
+    pub turn-refused : (x : Refusal) → r .answer ≡ Answer.Refused x
+        → keepFrom left s st os ms p n l ≡ stopped (LogEnd.Refused (ByReading x)) (r .state) (r .next) n l
+    turn-refused x e = here ∙ rw e
+
+    pub turn-none : r .answer ≡ Answer.Nothing → keepFrom left s st os ms p n l ≡ stopped Nothing (r .state) (r .next) n l
+    turn-none e = here ∙ rw e
+
+    pub turn-open : r .answer ≡ Answer.Open → keepFrom left s st os ms p n l ≡ stopped Open (r .state) (r .next) n l
+    turn-open e = here ∙ rw e
+
+    module _ (o : Outcome) (w : ℕ) (q : Part) (e : r .answer ≡ Counted o w q) (good : IsMultiple l) where
+      counted : keepFrom left s st os ms p n l ≡ given r (appending l (recordOfReading r))
+      counted = here ∙ rw e
+
+      pub turn-full : frontCount l ≡ length l / 16 → keepFrom left s st os ms p n l ≡ stopped Full st p n l
+      turn-full h =
+          counted
+          ∙ ap (given r) (append-full l (recordOfReading r) (good-log l good) (counts-so (recordOfReading r) (counted-some r o w q e)) (count-all l h))
+
+      pub turn-kept : (k : ℕ) → k ≡ frontCount l → k < length l / 16
+          → keepFrom left s st os ms p n l
+          ≡ keepFrom (left - 1) s (r .state) os ms (r .next) (n + 1) (overwrite l (16 * k) (octetsOfRecord (recordOfReading r)))
+      turn-kept k h lt = counted ∙ ap (given r) (append-at l (recordOfReading r) k good (counted-some r o w q e) h lt)
+
+-- ---- the whole walk
+
+module _ (s : Settings) (st : State) (os ms : List ℕ) (p : ℕ) (l : List ℕ) where
+  pub walk-refused : (x : KeepRefusal) → first (keepRefusals s os ms p l) ≡ Refused x → walkLogged s st os ms p l ≡ stopped (LogEnd.Refused x) st p 0 l
+  unfolding walkLogged keepChecked
+  walk-refused x h = ap (λ (k : KeepChecked). keepChecked k s st os ms p l) h
+
+  pub walk-fine : first (keepRefusals s os ms p l) ≡ Fine → walkLogged s st os ms p l ≡ keepFrom (length os + 1) s st os ms p 0 l
+  unfolding walkLogged keepChecked
+  walk-fine h = ap (λ (k : KeepChecked). keepChecked k s st os ms p l) h
