@@ -1,5 +1,5 @@
 -- Claim 7, the timers: set only by reading (`timer-set`), fall only by sending and by exactly the symbols written (`timer-falls`); a client frame is
--- refused by 9 exactly while its timer is above zero and no lower refusal holds (`held-exactly`); one refused at t slots isn't refused for it once
+-- refused by 9 exactly while its timer is above zero and no refusal tested before it holds (`held-exactly`); one refused at t slots isn't refused for it once
 -- t more are written, if no reading set it meanwhile (`released`); zero quanta let the class go at once (`let-go`). Assumes nothing.
 use Prim.Native.Nat.{ℕ, zero, suc, _+_, _-_, _/_, _%_, _≤_, _<_}
 use native.Mathlib.Omega.{arith}

@@ -14,7 +14,7 @@ use Rattle.station.specs.Numbers.{outcomeNumber}
 
 -- ---- Reading one Start
 
--- "Each outcome has a 32-bit counter that rolls over to zero". Item 6 of document 02 changes this one name.
+-- "Each outcome has a 32-bit counter that rolls over to zero"
 abbrev pub counterSize : ℕ
 counterSize = 2 ^ 32
 
