@@ -6,12 +6,12 @@ ghost use lib.ListN.{getD, drop};
 ghost use Rattle.line.specs.Octets.{highFirstAt};
 ghost use Rattle.fields.specs.Tags.{isTagKind, tagRun, tagCount};
 ghost use Rattle.fields.specs.Fields.{firstField};
-ghost use Rattle.fields.specs.Places.{layoutOf};
+ghost use Rattle.fields.specs.Places.{laidOut, layoutOf};
 
 // How a frame is laid out.
 pub struct Layout {
     // how many tags stand before the real field
-    pub tags: usize,
+    pub tags: u8,
     // the real field
     pub field: u16,
     // where data begins
@@ -64,7 +64,7 @@ pub fn first_field(f: &[u8]) -> u16
 }
 
 // How many tags stand from `at` on, of `most` at most: one tag followed by a shorter run. (The bound keeps `at + 4` from wrapping, and no more.)
-fn tag_run(f: &[u8], at: usize, most: usize) -> usize
+fn tag_run(f: &[u8], at: usize, most: u8) -> u8
     requires { ⌜ at + 4 * most ≤ 65536 ⌝ }
     ensures { λ r. ⌜ (r ≡ tagRun most (drop at (now (f .entry)))) × (r ≤ most) ⌝ }
 {
@@ -78,7 +78,7 @@ fn tag_run(f: &[u8], at: usize, most: usize) -> usize
 }
 
 // How many tags stand before the real field, eight at most. Most frames have none: that is one test, small enough to stand in each caller.
-pub fn tag_count(f: &[u8]) -> usize
+pub fn tag_count(f: &[u8]) -> u8
     ensures { λ r. ⌜ r ≡ tagCount (now (f .entry)) ⌝ }
 {
     if !is_tag_kind(first_field(f)) {
@@ -87,16 +87,22 @@ pub fn tag_count(f: &[u8]) -> usize
     tag_run(f, 12, 8)
 }
 
-// The layout of a frame. The tags are counted once: field and data stand behind them.
-pub fn layout_of(f: &[u8]) -> Layout
-    ensures { λ r. ⌜ r ≡ layoutOf (now (f .entry)) ⌝ }
+// The layout of a frame with so many tags: field and data stand behind them.
+pub fn laid_out(f: &[u8], tags: u8) -> Layout
+    ensures { λ r. ⌜ r ≡ laidOut tags (now (f .entry)) ⌝ }
 {
-    let tags = tag_count(f);
-    let at = 12 + 4 * tags;
+    let at = 12 + 4 * (tags as usize);
     let field = high_first(f, at);
     Layout {
         tags,
         field,
         place: at + 2,
     }
+}
+
+// The layout of a frame.
+pub fn layout_of(f: &[u8]) -> Layout
+    ensures { λ r. ⌜ r ≡ layoutOf (now (f .entry)) ⌝ }
+{
+    laid_out(f, tag_count(f))
 }

@@ -1,7 +1,7 @@
 -- Laws of specs/Length.antt: how much data there is, the length rule by the tests that lead to a row, and how much is handed out. Assumes nothing.
 use Prim.Native.Nat.{ℕ, _-_, _≤_, _<_}
 use native.Mathlib.Omega.{arith}
-use mathlib.Core.Path.{_≡_, refl, _∙_}
+use mathlib.Core.Path.{_≡_, refl, ap, _∙_}
 use mathlib.Core.Bool.{Bool, true, false, not, _&&_, _||_, cond}
 use mathlib.Core.List.{List, []}
 use lib.ListN.{length, take, length-take, length-drop}
@@ -9,10 +9,12 @@ use lib.Dec.{eqb, ltb}
 use borrow.Author.Tests.{lt-ltb, le-ltb, le-leb, lt-leb}
 use Rattle.line.specs.Octets.{between}
 use Rattle.line.proofs.Tables.{first-here, first-next, first-other}
+use Rattle.fields.specs.declared.Layout.{Layout}
 use Rattle.fields.specs.Tags.{tagCount}
 use Rattle.fields.specs.Fields.{field}
+use Rattle.fields.specs.Places.{layoutOf}
 use Rattle.frame.specs.Frame.{dataFrom, frameData}
-use Rattle.frame.specs.Length.{shortest, kept, wrongLength, handedOf}
+use Rattle.frame.specs.Length.{shortest, kept, breaksLength, wrongLength, handedOf}
 
 -- ---- how much data there is
 
@@ -48,14 +50,19 @@ front-le true n l = omega (arith, length-take n l)
 front-le false n l = omega arith
 
 -- ---- rule 6
-module _ (f : List ℕ) where
-  pub length-unchecked : wrongLength false f ≡ false
-  unfolding wrongLength
+module _ (l : Layout) (f : List ℕ) where
+  pub length-unchecked : breaksLength false l f ≡ false
+  unfolding breaksLength
   length-unchecked = refl
 
-  pub length-checked : wrongLength true f ≡ not (kept (tagCount f) (field f) (length (frameData f)))
-  unfolding wrongLength
+  pub length-checked : breaksLength true l f ≡ not (kept (l .tags) (l .field) (length (dataFrom (l .place) f)))
+  unfolding breaksLength
   length-checked = refl
+
+pub length-right : (checking : Bool) (f : List ℕ) → kept (tagCount f) (field f) (length (frameData f)) ≡ true → wrongLength checking f ≡ false
+unfolding wrongLength breaksLength layoutOf frameData
+length-right true f h = ap not h
+length-right false f h = refl
 
 -- ---- what is handed out, of a field and the data behind it
 module _ (n : ℕ) (d : List ℕ) where

@@ -13,9 +13,13 @@ use Rattle.fields.specs.Fields.{dataPlace}
 unfoldable pub undersized : List ℕ → Bool
 undersized f = ltb (length f) 64
 
--- rule 4: "over the limit M, or M + 4 if tagged", and by item 1 of document 02 "M grows by 4 for each tag": by tag, and not by size
+-- rule 4: "over the limit M, or M + 4 if tagged", and by item 1 of document 02 "M grows by 4 for each tag": by tag, and not by size. Of a number of
+-- tags and of octets, and of a frame
+unfoldable pub overLimit : ℕ → ℕ → ℕ → Bool
+overLimit m tags octets = ltb (m + 4 * tags) octets
+
 unfoldable pub oversized : ℕ → List ℕ → Bool
-oversized m f = ltb (m + 4 * tagCount f) (length f)
+oversized m f = overLimit m (tagCount f) (length f)
 
 -- "Data runs from after the field to before the FCS": of a frame whose data begins at a place, and of a frame
 unfoldable pub dataFrom : ℕ → List ℕ → List ℕ

@@ -5,9 +5,10 @@ use mathlib.Core.List.{List}
 use lib.ListN.{length, take}
 use lib.Dec.{eqb, ltb, leb}
 use Rattle.line.specs.Table.{_⇒_, _∣_, otherwise, first}
-use Rattle.fields.specs.Tags.{tagCount}
+use Rattle.fields.specs.declared.Layout.{Layout}
 use Rattle.fields.specs.Fields.{field}
-use Rattle.frame.specs.Frame.{frameData}
+use Rattle.fields.specs.Places.{layoutOf}
+use Rattle.frame.specs.Frame.{dataFrom, frameData}
 
 -- the shortest data that a bridge leaves behind n tags: item 2's "the larger of the field and 46 - 4 × n"
 unfoldable pub shortest : ℕ → ℕ → ℕ
@@ -22,9 +23,12 @@ kept tags field octets =
     ∣ leb 46 field ⇒ eqb octets field  -- "46 to 1500: data must be exactly that long"
     ∣ otherwise (eqb octets 46 || eqb octets (shortest tags field)))  -- "under 46: data must be exactly 46, tagged or not", or, by item 2, shorter
 
--- rule 6: "length rule broken, checking on"; "With checking off, no test is made"
+-- rule 6: "length rule broken, checking on"; "With checking off, no test is made": of a frame laid out as l says, and of a frame
+unfoldable pub breaksLength : Bool → Layout → List ℕ → Bool
+breaksLength checking l f = checking && not (kept (l .tags) (l .field) (length (dataFrom (l .place) f)))
+
 unfoldable pub wrongLength : Bool → List ℕ → Bool
-wrongLength checking f = checking && not (kept (tagCount f) (field f) (length (frameData f)))
+wrongLength checking f = breaksLength checking (layoutOf f) f
 
 -- "only the first `field` octets are handed out"; "With checking off, … all data is handed out": of a field and the data behind it, and of a frame
 unfoldable pub handedOf : Bool → ℕ → List ℕ → List ℕ

@@ -23,6 +23,7 @@ use Rattle.frame.specs.Frame.{frameData, wrongFcs, undersized, oversized}
 use Rattle.frame.specs.Length.{kept, wrongLength, handedOf, clientData}
 use Rattle.address.specs.Address.{accepts}
 use Rattle.fcs.proofs.Laws.{fcs-four}
+use Rattle.frame.proofs.Length.{length-right}
 use Rattle.frame.proofs.FrameLaws.{fcs-right, frame-length, frame-field, frame-payload, kept-type, kept-long, kept-short}
 use Rattle.control.specs.Control.{isControlFrame, filtered, takesPause, takesPfc, dropsControl}
 use Rattle.outcome.specs.Outcomes.{cut, badPreamble, frameOf, outcomes, outcome}
@@ -56,12 +57,9 @@ module _ (s : Settings) (f dst : List ℕ) (n : ℕ) (p : List ℕ) (t : ℕ) (x
   not-undersized h = le-ltb (length f) 64 (let k = x .size in omega arith)
 
   not-wrong-length : kept t n (length p) ≡ true → wrongLength (s .checking) f ≡ false
-  unfolding wrongLength
-  not-wrong-length h = go (s .checking) (ap (λ (k : ℕ). kept k (field f) (length (frameData f))) (x .tag) ∙ ap₂ (λ (a : ℕ) (b : List ℕ). kept t a (length b)) (x .field-is) (x .data-is) ∙ h)
-    where
-      go : (c : Bool) → kept (tagCount f) (field f) (length (frameData f)) ≡ true → (c && not (kept (tagCount f) (field f) (length (frameData f)))) ≡ false
-      go true e = ap not e
-      go false e = refl
+  not-wrong-length h =
+      length-right (s .checking) f
+      (ap (λ (k : ℕ). kept k (field f) (length (frameData f))) (x .tag) ∙ ap₂ (λ (a : ℕ) (b : List ℕ). kept t a (length b)) (x .field-is) (x .data-is) ∙ h)
 
   not-filtered : accepts s dst ≡ true → filtered s f ≡ false
   unfolding filtered

@@ -1,4 +1,4 @@
--- Rules 1 and 2, a table row by row, and the table of outcomes in the two steps that the code takes. Assumes nothing.
+-- Rules 1 and 2, a table row by row, and the table of outcomes in the steps that the code takes. Assumes nothing.
 use Prim.Native.Nat.{ℕ, zero, suc, _≤_, _<_}
 use native.Mathlib.Omega.{arith}
 use mathlib.Core.Path.{_≡_, refl, sym, ap, ap₂, _∙_}
@@ -16,7 +16,9 @@ use Rattle.station.specs.declared.Settings.{Settings}
 use Rattle.station.specs.declared.Outcome.{Outcome}
 use Rattle.station.specs.declared.Outcome.the-variants.{Cut, BadPreamble, Undersized, Oversized, WrongFcs}
 use Rattle.station.specs.Numbers.{outcomeNumber}
+use Rattle.fields.specs.Places.{layoutOf}
 use Rattle.frame.specs.Frame.{undersized, oversized, wrongFcs}
+use Rattle.frame.specs.Length.{wrongLength}
 use Rattle.outcome.specs.declared.Early.{Early}
 use Rattle.outcome.specs.declared.Early.the-variants.{Decided, Framed}
 use Rattle.outcome.specs.Outcomes.{cut, badPreamble, frameOf, outcomes, outcome}
@@ -72,7 +74,7 @@ module _ {A : Type 0} where
   pub row-passed : {a : A} {b r : Bool} (x : A) (rows : Table A) → a ≡ first (b ⇒ x ∣ rows) → r ≡ b → r ≡ false → a ≡ first rows
   row-passed x rows h e was = h ∙ first-next x rows (sym e ∙ was)
 
--- ---- the table in two steps: e decides as t does, or leaves the rows of k
+-- ---- the table in steps: e decides as t does, or leaves the rows of k
 
 record Agrees (e : Table Early) (t k : Table Outcome) : Type 0 where
   decided : (o : Outcome) → first e ≡ Decided o → first t ≡ o
@@ -101,27 +103,22 @@ module _ (s : Settings) (run : List ℕ) (by : ℕ) where
   abbrev f : List ℕ
   f = frameOf run
 
-  abbrev late : Table Outcome
-  late = wrongFcs f ⇒ WrongFcs ∣ lateOutcomes s f
+  -- the rows that rules 1 to 3 leave
+  abbrev pub late : Table Outcome
+  late = oversized (s .limit) f ⇒ Oversized ∣ wrongFcs f ⇒ WrongFcs ∣ lateOutcomes s f (layoutOf f)
 
-  agrees : Agrees (earlyOutcomes (s .limit) run by) (outcomes s run by f) late
-  unfolding earlyOutcomes outcomes lateOutcomes
+  agrees : Agrees (earlyOutcomes run by) (outcomes s run by f) late
+  unfolding earlyOutcomes outcomes lateOutcomes wrongLength
   agrees =
-      agrees-row (cut by) Cut _ _ late
-      (agrees-row (badPreamble run) BadPreamble _ _ late
-      (agrees-row (undersized f) Undersized _ _ late (agrees-row (oversized (s .limit) f) Oversized _ _ late (agrees-end late))))
+      agrees-row (cut by) Cut _ _ late (agrees-row (badPreamble run) BadPreamble _ _ late (agrees-row (undersized f) Undersized _ _ late (agrees-end late)))
 
-  pub outcome-decided : (o : Outcome) → first (earlyOutcomes (s .limit) run by) ≡ Decided o → outcome s run by ≡ o
+  pub outcome-decided : (o : Outcome) → first (earlyOutcomes run by) ≡ Decided o → outcome s run by ≡ o
   unfolding outcome
   outcome-decided o h = agrees .decided o h
 
-  pub outcome-wrong : first (earlyOutcomes (s .limit) run by) ≡ Framed → wrongFcs f ≡ true → outcome s run by ≡ WrongFcs
+  pub outcome-framed : first (earlyOutcomes run by) ≡ Framed → outcome s run by ≡ first late
   unfolding outcome
-  outcome-wrong h e = agrees .framed h ∙ first-here WrongFcs _ e
-
-  pub outcome-right : first (earlyOutcomes (s .limit) run by) ≡ Framed → wrongFcs f ≡ false → outcome s run by ≡ first (lateOutcomes s f)
-  unfolding outcome
-  outcome-right h e = agrees .framed h ∙ first-next WrongFcs _ e
+  outcome-framed h = agrees .framed h
 
 -- ---- the table bears document 01's numbers, in order
 

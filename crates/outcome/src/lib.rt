@@ -10,12 +10,13 @@ ghost use Rattle.line.specs.Table.{first};
 ghost use Rattle.fcs.specs.Lent.{Lent};
 ghost use Rattle.station.specs.Station.{isGroup};
 ghost use Rattle.fields.specs.Fields.{destination};
+ghost use Rattle.fields.specs.Places.{laidOut};
 ghost use Rattle.frame.specs.Frame.{dataFrom};
 ghost use Rattle.outcome.specs.Outcomes.{badPreamble, frameOf, outcome};
 ghost use Rattle.outcome.specs.Steps.{earlyOutcomes, lateOutcomes};
 ghost use Rattle.outcome.specs.Status.{frameBits, statusOf};
 
-// What rules 1 to 4 leave: an outcome, or a frame whose FCS is to be looked at.
+// What rules 1 to 3 leave: an outcome, or a frame that is to be looked at.
 enum Early {
     Decided(Outcome),
     Framed,
@@ -51,9 +52,9 @@ pub fn frame_of(run: &[u8]) -> &[u8]
     &run[7..]
 }
 
-// Rules 1 to 4, in their order.
-fn before_fcs(limit: u16, run: &[u8], by: u8) -> Early
-    ensures { λ r. ⌜ r ≡ first (earlyOutcomes limit (now (run .entry)) by) ⌝ }
+// Rules 1 to 3, in their order.
+fn before_tags(run: &[u8], by: u8) -> Early
+    ensures { λ r. ⌜ r ≡ first (earlyOutcomes (now (run .entry)) by) ⌝ }
 {
     if by != 0xFD {
         return Early::Decided(Outcome::Cut);
@@ -65,17 +66,14 @@ fn before_fcs(limit: u16, run: &[u8], by: u8) -> Early
     if frame::undersized(f) {
         return Early::Decided(Outcome::Undersized);
     }
-    if frame::oversized(limit, f) {
-        return Early::Decided(Outcome::Oversized);
-    }
     Early::Framed
 }
 
-// Rules 6 to 11, in their order.
-fn after_fcs(s: Settings, f: &[u8]) -> Outcome
-    ensures { λ r. ⌜ r ≡ first (lateOutcomes s (now (f .entry))) ⌝ }
+// Rules 6 to 11, in their order, of a frame with so many tags.
+fn after_fcs(s: Settings, f: &[u8], tags: u8) -> Outcome
+    ensures { λ r. ⌜ r ≡ first (lateOutcomes s (now (f .entry)) (laidOut tags (now (f .entry)))) ⌝ }
 {
-    if frame::wrong_length(s.checking, f) {
+    if frame::wrong_length(s.checking, f, tags) {
         return Outcome::WrongLength;
     }
     if control::filtered(s, f) {
@@ -93,21 +91,25 @@ fn after_fcs(s: Settings, f: &[u8]) -> Outcome
     Outcome::HandedOut
 }
 
-// The outcome of a run ended by the control octet `by`: the first rule that holds. In two steps, so that a run which rules 1 to 4 decide costs no
-// look at the other settings. The FCS by tables if they are lent, and so public for this repository's crates only.
+// The outcome of a run ended by the control octet `by`: the first rule that holds. In steps, so that a run which rules 1 to 3 decide costs no look at
+// the settings, and tags are counted once for rules 4 and 6. The FCS by tables if they are lent, and so public for this repository's crates only.
 pub fn outcome(t: &[u32], s: Settings, run: &[u8], by: u8) -> Outcome
     requires { ⌜ Lent (now t) ⌝ }
     ensures { λ r. ⌜ r ≡ outcome s (now (run .entry)) by ⌝ }
 {
-    let e = before_fcs(s.limit, run, by);
+    let e = before_tags(run, by);
     if let Early::Decided(o) = e {
         return o;
     }
     let f = frame_of(run);
+    let tags = fields::tag_count(f);
+    if frame::oversized(s.limit, f, tags) {
+        return Outcome::Oversized;
+    }
     if frame::wrong_fcs(t, f) {
         return Outcome::WrongFcs;
     }
-    after_fcs(s, f)
+    after_fcs(s, f, tags)
 }
 
 // ---- the status word
@@ -137,7 +139,7 @@ fn is_multicast(group: bool, broadcast: bool) -> bool
 }
 
 // What the frame alone decides, its number of tags given: bits 38 to 16.
-fn frame_bits(f: &[u8], tags: usize) -> u64
+fn frame_bits(f: &[u8], tags: u8) -> u64
     requires { ⌜ length (now f) ≤ 65536 ⌝ }
     ensures { λ r. ⌜ (r ≡ frameBits tags (now (f .entry))) × (r ≤ 0x80_0000_0000) ⌝ }
 {

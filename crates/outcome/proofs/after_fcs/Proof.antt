@@ -7,6 +7,7 @@ use Rattle.line.specs.Table.{Table, first}
 use Rattle.line.proofs.Tables.{first-other}
 use Rattle.station.specs.declared.Outcome.{Outcome}
 use Rattle.station.specs.declared.Outcome.the-variants.{WrongLength, Filtered, PauseTaken, PfcTaken, ControlDropped, HandedOut}
+use Rattle.fields.specs.Places.{laidOut}
 use Rattle.outcome.specs.Steps.{lateOutcomes}
 use Rattle.outcome.proofs.Rules.{after, row-holds, row-passed}
 use Rattle.outcome.proofs.after_fcs.Statement.{statement}
@@ -14,7 +15,7 @@ use Rattle.outcome.proofs.after_fcs.Tie as tie
 
 -- the table, seen from each place behind a row
 abbrev rows : tie.Start → Table Outcome
-rows c = lateOutcomes (c .args .s) (now (c .args .f))
+rows c = let f = now (c .args .f) in lateOutcomes (c .args .s) f (laidOut (c .args .tags) f)
 
 abbrev past : ℕ → tie.Start → Type 0
 past n c = first (rows c) ≡ first (after n (rows c))

@@ -1,43 +1,77 @@
--- `outcome::outcome` meets its contract: the table in two steps. Assumes nothing.
+-- `outcome::outcome` meets its contract: the table in steps. Assumes nothing.
 use Prim.Native.Nat.{ℕ}
-use mathlib.Core.Path.{_≡_, sym, ap, _∙_}
+use mathlib.Core.Path.{_≡_, sym, ap, ap₂, _∙_}
 use mathlib.Core.List.{List}
+use lib.ListN.{length}
 use denote.Ref.{now}
 use borrow.Author.Needs.{needs}
-use Rattle.line.specs.Table.{first}
-use Rattle.frame.specs.Frame.{wrongFcs}
-use Rattle.outcome.specs.declared.Early.the-variants.{Framed}
-use Rattle.outcome.specs.Outcomes.{frameOf}
-use Rattle.outcome.specs.Steps.{earlyOutcomes, lateOutcomes}
-use Rattle.outcome.proofs.Rules.{outcome-decided, outcome-wrong, outcome-right}
+use Rattle.line.specs.Table.{Table, first}
+use Rattle.station.specs.declared.Outcome.{Outcome}
+use Rattle.station.specs.declared.Outcome.the-variants.{Oversized, WrongFcs}
+use Rattle.fields.specs.declared.Layout.{Layout}
+use Rattle.fields.specs.Tags.{tagCount}
+use Rattle.fields.specs.Places.{laidOut}
+use Rattle.fields.proofs.Places.{laid-own}
+use Rattle.frame.specs.Frame.{overLimit, oversized, wrongFcs}
+use Rattle.outcome.specs.Outcomes.{frameOf, outcome}
+use Rattle.outcome.specs.Steps.{lateOutcomes}
+use Rattle.outcome.proofs.Rules.{after, late, outcome-decided, outcome-framed, row-holds, row-passed}
 use Rattle.outcome.proofs.outcome.Statement.{statement}
 use Rattle.outcome.proofs.outcome.Tie as tie
 
--- the call, seen from where rules 1 to 4 have left a frame, and that place from where the FCS has been looked at
+-- the places that others look back to: the call, from where rules 1 to 3 have left a frame; that, from where its tags are counted; and that, from where
+-- the FCS has been looked at
 abbrev call : tie.After-enum-told → tie.Start
 call c = c .before .before .before .before .before
 
-abbrev framing : tie.After-wrong-fcs → tie.After-enum-told
+abbrev framing : tie.After-tag-count → tie.After-enum-told
 framing c = c .before .before
 
-abbrev frame : tie.After-wrong-fcs → List ℕ
+abbrev counting : tie.After-wrong-fcs → tie.After-tag-count
+counting c = c .before .before .before
+
+-- the frame of the run, and the rows that rules 1 to 3 leave
+abbrev frame : tie.After-tag-count → List ℕ
 frame c = frameOf (now (call (framing c) .args .run))
 
--- what is known there: no rule before holds, and what rule 5 says of the frame
-framed : (c : tie.After-enum-told) → let a = call c .args in first (earlyOutcomes (a .s .limit) (now (a .run)) (a .by)) ≡ Framed
-framed c = sym (c .before .before .before-fcs .ensures) ∙ c .enum-told .given .1
+abbrev rows : tie.After-enum-told → Table Outcome
+rows c = let a = call c .args in late (a .s) (now (a .run)) (a .by)
 
-fcs-is : (c : tie.After-wrong-fcs) → c .wrong-fcs .result ≡ wrongFcs (frame c)
-fcs-is c = c .wrong-fcs .ensures ∙ ap wrongFcs (c .before .frame-of .ensures)
+abbrev past : ℕ → tie.After-enum-told → Type 0
+past n c = let a = call c .args in outcome (a .s) (now (a .run)) (a .by) ≡ first (after n (rows c))
 
-before-fcs-requires : tie.Need-before-fcs-requires
-before-fcs-requires c κs = search needs
+-- what is found is that frame and its tags
+frame-is : (c : tie.After-tag-count) → now (c .before .frame-of .result) ≡ frame c
+frame-is c = c .before .frame-of .ensures
+
+tags-are : (c : tie.After-tag-count) → c .tag-count .result ≡ tagCount (frame c)
+tags-are c = c .tag-count .ensures ∙ ap tagCount (frame-is c)
+
+-- and what rules 4 and 5 say is said of them
+limit-is : (c : tie.After-oversized) → c .oversized .result ≡ oversized (call (framing (c .before)) .args .s .limit) (frame (c .before))
+unfolding oversized
+limit-is c = c .oversized .ensures ∙ ap₂ (overLimit _) (tags-are (c .before)) (ap length (frame-is (c .before)))
+
+fcs-is : (c : tie.After-wrong-fcs) → c .wrong-fcs .result ≡ wrongFcs (frame (counting c))
+fcs-is c = c .wrong-fcs .ensures ∙ ap wrongFcs (frame-is (counting c))
+
+past-0 : (c : tie.After-enum-told) → past 0 c
+past-0 c = outcome-framed _ _ _ (sym (c .before .before .before-tags .ensures) ∙ c .enum-told .given .1)
+
+past-1 : (c : tie.Else1) → past 1 (framing (c .before .before))
+past-1 c = row-passed Oversized _ (past-0 (framing (c .before .before))) (limit-is (c .before)) (c .if1 .left)
+
+past-2 : (c : tie.Else2) → past 2 (framing (counting (c .before)))
+past-2 c = row-passed WrongFcs _ (past-1 (c .before .before)) (fcs-is (c .before)) (c .if2 .left)
+
+before-tags-requires : tie.Need-before-tags-requires
+before-tags-requires c κs = search needs
 
 enum-known-e : tie.Need-enum-known-e
 enum-known-e c = search needs
 
 returns : tie.Need-returns
-returns c = sym (outcome-decided _ _ _ _ (sym (c .before .before .before .before-fcs .ensures) ∙ c .before .e .given .1))
+returns c = sym (outcome-decided _ _ _ _ (sym (c .before .before .before .before-tags .ensures) ∙ c .before .e .given .1))
 
 enum-told : tie.Need-enum-told
 enum-told c = search needs
@@ -45,32 +79,46 @@ enum-told c = search needs
 frame-of-requires : tie.Need-frame-of-requires
 frame-of-requires c κs = search needs
 
+tag-count-requires : tie.Need-tag-count-requires
+tag-count-requires c κs = search needs
+
+oversized-requires : tie.Need-oversized-requires
+oversized-requires c κs = search needs
+
+returns-2 : tie.Need-returns-2
+returns-2 c = row-holds Oversized _ (past-0 (framing (c .before .before))) (limit-is (c .before)) (c .if1 .taken)
+
 wrong-fcs-requires : tie.Need-wrong-fcs-requires
 wrong-fcs-requires c κs = search needs
 
-returns-2 : tie.Need-returns-2
-returns-2 c = let p = c .before in sym (outcome-wrong _ _ _ (framed (framing p)) (sym (fcs-is p) ∙ c .if1 .taken))
+returns-3 : tie.Need-returns-3
+returns-3 c = row-holds WrongFcs _ (past-1 (c .before .before)) (fcs-is (c .before)) (c .if2 .taken)
 
 after-fcs-requires : tie.Need-after-fcs-requires
 after-fcs-requires c κs = search needs
 
-returns-3 : tie.Need-returns-3
-returns-3 c =
-    let p = c .before .before in
+returns-4 : tie.Need-returns-4
+returns-4 c =
+    let p = counting (c .before .before) in
+    let s = call (framing p) .args .s in
     c .after-fcs .ensures
-    ∙ ap (λ (l : List ℕ). first (lateOutcomes (call (framing p) .args .s) l)) (p .before .frame-of .ensures)
-    ∙ sym (outcome-right _ _ _ (framed (framing p)) (sym (fcs-is p) ∙ c .before .if1 .left))
+    ∙ ap₂ (λ (f : List ℕ) (n : ℕ). first (lateOutcomes s f (laidOut n f))) (frame-is p) (tags-are p)
+    ∙ ap (λ (l : Layout). first (lateOutcomes s (frame p) l)) (laid-own (frame p))
+    ∙ sym (past-2 (c .before))
 
 pub outcome-spec : {M : Type 1} → statement M
 outcome-spec =
     tie.close
     (tie.spec
-    before-fcs-requires
+    before-tags-requires
     enum-known-e
     returns
     enum-told
     frame-of-requires
-    wrong-fcs-requires
+    tag-count-requires
+    oversized-requires
     returns-2
+    wrong-fcs-requires
+    returns-3
     after-fcs-requires
-    returns-3)
+    returns-4)

@@ -1,23 +1,23 @@
--- `outcome::before_fcs` meets its contract: each way out passes the rows that did not hold and stops at the one that did. Assumes nothing.
+-- `outcome::before_tags` meets its contract: each way out passes the rows that did not hold and stops at the one that did. Assumes nothing.
 use Prim.Native.Nat.{ℕ}
 use mathlib.Core.Path.{_≡_, sym, ap, _∙_}
 use denote.Ref.{now}
 use borrow.Author.Needs.{needs}
 use Rattle.line.specs.Table.{Table, first}
 use Rattle.line.proofs.Tables.{first-here, first-next, first-other}
-use Rattle.station.specs.declared.Outcome.the-variants.{Cut, BadPreamble, Undersized, Oversized}
-use Rattle.frame.specs.Frame.{undersized, oversized}
+use Rattle.station.specs.declared.Outcome.the-variants.{Cut, BadPreamble, Undersized}
+use Rattle.frame.specs.Frame.{undersized}
 use Rattle.outcome.specs.declared.Early.{Early}
 use Rattle.outcome.specs.declared.Early.the-variants.{Decided, Framed}
 use Rattle.outcome.specs.Outcomes.{frameOf}
 use Rattle.outcome.specs.Steps.{earlyOutcomes}
 use Rattle.outcome.proofs.Rules.{cut-by, not-cut, after, row-holds, row-passed}
-use Rattle.outcome.proofs.before_fcs.Statement.{statement}
-use Rattle.outcome.proofs.before_fcs.Tie as tie
+use Rattle.outcome.proofs.before_tags.Statement.{statement}
+use Rattle.outcome.proofs.before_tags.Tie as tie
 
 -- the table, seen from each place behind a row
 abbrev rows : tie.Start → Table Early
-rows c = earlyOutcomes (c .args .limit) (now (c .args .run)) (c .args .by)
+rows c = earlyOutcomes (now (c .args .run)) (c .args .by)
 
 abbrev past : ℕ → tie.Start → Type 0
 past n c = first (rows c) ≡ first (after n (rows c))
@@ -31,15 +31,9 @@ at2 c = at1 (c .before .before)
 abbrev at3 : tie.Else3 → tie.Start
 at3 c = at2 (c .before .before .before)
 
-abbrev at4 : tie.Else4 → tie.Start
-at4 c = at3 (c .before .before)
-
--- what the tests of the frame say of the run's frame
+-- what the test of the frame says of the run's frame
 small : (c : tie.After-undersized) → c .undersized .result ≡ undersized (frameOf (now (at2 (c .before .before) .args .run)))
 small c = c .undersized .ensures ∙ ap undersized (c .before .frame-of .ensures)
-
-large : (c : tie.After-oversized) → let a = at3 (c .before) .args in c .oversized .result ≡ oversized (a .limit) (frameOf (now (a .run)))
-large c = c .oversized .ensures ∙ ap (oversized _) (c .before .before .before .frame-of .ensures)
 
 past-1 : (c : tie.Else1) → past 1 (at1 c)
 unfolding earlyOutcomes
@@ -52,10 +46,6 @@ past-2 c = row-passed (Decided BadPreamble) _ (past-1 (c .before .before)) (c .b
 past-3 : (c : tie.Else3) → past 3 (at3 c)
 unfolding earlyOutcomes
 past-3 c = row-passed (Decided Undersized) _ (past-2 (c .before .before .before)) (small (c .before)) (c .if3 .left)
-
-past-4 : (c : tie.Else4) → past 4 (at4 c)
-unfolding earlyOutcomes
-past-4 c = row-passed (Decided Oversized) _ (past-3 (c .before .before)) (large (c .before)) (c .if4 .left)
 
 returns : tie.Need-returns
 unfolding earlyOutcomes
@@ -78,19 +68,12 @@ returns-3 : tie.Need-returns-3
 unfolding earlyOutcomes
 returns-3 c = row-holds (Decided Undersized) _ (past-2 (c .before .before .before)) (small (c .before)) (c .if3 .taken)
 
-oversized-requires : tie.Need-oversized-requires
-oversized-requires c κs = search needs
-
 returns-4 : tie.Need-returns-4
 unfolding earlyOutcomes
-returns-4 c = row-holds (Decided Oversized) _ (past-3 (c .before .before)) (large (c .before)) (c .if4 .taken)
+returns-4 c = sym (past-3 c ∙ first-other Framed)
 
-returns-5 : tie.Need-returns-5
-unfolding earlyOutcomes
-returns-5 c = sym (past-4 c ∙ first-other Framed)
-
-pub before-fcs-spec : {M : Type 1} → statement M
-before-fcs-spec =
+pub before-tags-spec : {M : Type 1} → statement M
+before-tags-spec =
     tie.close
     (tie.spec
     returns
@@ -99,6 +82,4 @@ before-fcs-spec =
     frame-of-requires
     undersized-requires
     returns-3
-    oversized-requires
-    returns-4
-    returns-5)
+    returns-4)
