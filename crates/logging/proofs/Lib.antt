@@ -1,3 +1,4 @@
+pub mod Claims
 pub mod Readings
 pub mod Refusals
 pub mod Turns

@@ -1,7 +1,7 @@
 -- What a walk that keeps its readings and is not refused knows of its capture and its log. Assumes nothing.
 use Prim.Native.Nat.{ℕ}
 use native.Mathlib.Omega.{arith}
-use mathlib.Core.Path.{_≡_, sym, _∙_}
+use mathlib.Core.Path.{_≡_, refl, sym, ap, _∙_}
 use mathlib.Core.Bool.{Bool, false}
 use mathlib.Core.List.{List}
 use Rattle.line.specs.Table.{Table, _⇒_, _∣_, first}
@@ -9,10 +9,12 @@ use Rattle.line.proofs.Symbols.{by-test}
 use Rattle.line.proofs.Tables.{first-here, first-next, first-other}
 use Rattle.station.specs.declared.Settings.{Settings}
 use Rattle.station.specs.declared.Checked.{Checked}
+use Rattle.station.specs.declared.Refusal.{Refusal}
+use Rattle.station.proofs.Refusals.{fine-row}
 use Rattle.station.specs.declared.Refusal.the-variants.{BadSettings, BadBuffers, BadPlace}
 use Rattle.log.specs.declared.LogRefusal.the-variants.{BadLog}
 use Rattle.log.specs.Claims.{IsMultiple}
-use Rattle.log.proofs.Calls.{good-mod}
+use Rattle.log.proofs.Calls.{good-mod, good-log}
 use Rattle.receive.specs.Reading.{readRefusals}
 use Rattle.logging.specs.declared.KeepRefusal.{KeepRefusal}
 use Rattle.logging.specs.declared.KeepRefusal.the-variants.{ByReading, ByLog}
@@ -43,3 +45,36 @@ keep-fine s os ms p l h =
           ∙ first-other Checked.Fine,
       good-mod l (d .0),
     )
+
+-- a log whose length is a multiple of 16: the walk is refused as a reading at that place, and goes on as it does
+module _ (s : Settings) (os ms : List ℕ) (p : ℕ) (l : List ℕ) (good : IsMultiple l) where
+  pub keep-goes : first (readRefusals s os ms p) ≡ Checked.Fine → first (keepRefusals s os ms p l) ≡ Fine
+  unfolding keepRefusals readRefusals
+  keep-goes h =
+      let a = fine-row BadSettings _ h in
+      let b = fine-row BadBuffers _ (a .1) in
+      let c = fine-row BadPlace _ (b .1) in
+      first-next (Refused (ByReading BadSettings)) _ (a .0)
+      ∙ first-next (Refused (ByReading BadBuffers)) _ (b .0)
+      ∙ first-next (Refused (ByReading BadPlace)) _ (c .0)
+      ∙ first-next (Refused (ByLog BadLog)) _ (good-log l good)
+      ∙ first-other Fine
+
+-- and whatever the log is, a reading's refusal comes first
+pub keep-read : (s : Settings) (os ms : List ℕ) (p : ℕ) (l : List ℕ) (x : Refusal) → first (readRefusals s os ms p) ≡ Checked.Refused x
+    → first (keepRefusals s os ms p l) ≡ Refused (ByReading x)
+unfolding keepRefusals readRefusals
+keep-read s os ms p l x h =
+    row _ _ _ BadSettings h (λ h′. row _ _ _ BadBuffers h′ (λ h″. row _ _ _ BadPlace h″ (λ z. absurd (not-fine x (sym (first-other Checked.Fine) ∙ z)))))
+  where
+    not-fine : (x : Refusal) → _≡_ {A = Checked} Checked.Fine (Checked.Refused x) → ⊥
+    not-fine x e = let bad : _≡_ {A = ℕ} 0 1 = cc in omega arith
+
+    -- a row that both tables have
+    row : (b : Bool) (ts : Table Checked) (ks : Table KeepChecked) (z : Refusal) → first (b ⇒ Checked.Refused z ∣ ts) ≡ Checked.Refused x
+        → (first ts ≡ Checked.Refused x → first ks ≡ Refused (ByReading x)) → first (b ⇒ Refused (ByReading z) ∣ ks) ≡ Refused (ByReading x)
+    row b ts ks z g next =
+        by-test b
+        (λ t. first-here (Refused (ByReading z)) ks t
+        ∙ ap (λ (c : Checked). elim c [ Checked.Fine ↦ Fine | Checked.Refused u ↦ Refused (ByReading u) ]) (sym (first-here (Checked.Refused z) ts t) ∙ g))
+        (λ t. first-next (Refused (ByReading z)) ks t ∙ next (sym (first-next (Checked.Refused z) ts t) ∙ g))
