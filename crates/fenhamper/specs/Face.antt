@@ -5,6 +5,7 @@ use mathlib.Core.Bool.{Bool, true, false, cond, not, _&&_}
 use mathlib.Core.List.{List, [], _∷_, _++_}
 use lib.ListN.{length, getD, replicate}
 use lib.Dec.{eqb, leb, ltb}
+use Rattle.line.specs.Octets.{lowFirst}
 use Rattle.station.specs.declared.Address.{Address}
 use Rattle.station.specs.declared.Flow.{Flow}
 use Rattle.station.specs.declared.Flow.the-variants.{Off, Pause, Pfc}
@@ -39,10 +40,6 @@ layout = 2
 
 -- ---- what crosses to the module
 
--- a number of 16 bits in its two octets, "low octet first, as x86-64 does"
-unfoldable pub lowPairAt : List ℕ → ℕ → ℕ
-lowPairAt o at = getD o at 0 + getD o (at + 1) 0 * 256
-
 -- "0 no, anything else yes"
 unfoldable pub isOn : List ℕ → ℕ → Bool
 isOn o i = not (eqb (getD o i 0) 0)
@@ -54,7 +51,7 @@ addressAt o at = record { 0 = each (λ (i : ℕ). getD o i 0) at 6 }
 unfoldable pub flowOf : ℕ → Flow
 flowOf n = cond (eqb n 1) Pause (cond (eqb n 2) Pfc Off)
 
--- settings, of 48 octets
+-- settings, of 48 octets; here and below a number of 16 bits stands "low octet first, as x86-64 does"
 unfoldable pub settingsOf : List ℕ → Settings
 settingsOf o =
     record {
@@ -64,7 +61,7 @@ settingsOf o =
       broadcast = isOn o 31;
       promiscuous = isOn o 32;
       checking = isOn o 33;
-      limit = lowPairAt o 36;
+      limit = lowFirst o 36 2;
       flow = flowOf (getD o 35 0);
       passing = isOn o 34;
     }
@@ -88,7 +85,7 @@ unfoldable pub kindOf : ℕ → Kind
 kindOf n = cond (eqb n 0) Customer Service
 
 unfoldable pub tagAt : List ℕ → ℕ → Tag
-tagAt o at = record { kind = kindOf (getD o at 0); control = lowPairAt o (at + 2) }
+tagAt o at = record { kind = kindOf (getD o at 0); control = lowFirst o (at + 2) 2 }
 
 -- eight tags of 4 octets, "the outermost first; those beyond the count are not looked at"
 abbrev pub noTag : Tag
@@ -101,7 +98,7 @@ unfoldable pub tagsOf : List ℕ → List Tag
 tagsOf o = each (countedTag o) 0 8
 
 unfoldable pub formOf : List ℕ → Form
-formOf o = cond (eqb (getD o 7 0) 0) ByLength (ByType (lowPairAt o 8))
+formOf o = cond (eqb (getD o 7 0) 0) ByLength (ByType (lowFirst o 8 2))
 
 unfoldable pub clientOf : List ℕ → Client
 clientOf o = record { dest = addressAt o 0; tags = tagsOf o; count = getD o 10 0; form = formOf o; class = getD o 6 0 }

@@ -22,6 +22,7 @@ ghost use mathlib.Core.Bool.{cond, not};
 ghost use Prim.Native.Nat.{_+_, _<_, _≤_};
 ghost use lib.ListN.{length};
 ghost use lib.Dec.{eqb};
+ghost use Rattle.line.specs.Octets.{lowFirst};
 ghost use Rattle.fcs.specs.Fcs.{fcsOf};
 ghost use Rattle.crc.specs.Crc.{crcOver};
 ghost use Rattle.station.specs.Station.{fresh};
@@ -29,7 +30,7 @@ ghost use Rattle.flow.specs.Timers.{timer};
 ghost use Rattle.receive.specs.Reading.{reading};
 ghost use Rattle.receive.specs.Walk.{walked};
 ghost use Rattle.send.specs.Sending.{clientSending, pauseSending, pfcSending, idleSending};
-ghost use Rattle.fenhamper.specs.Face.{layout, lowPairAt, flowOf, addressAt, settingsOf, countersOf, timersOf, stateOf, kindOf, tagAt, countedTag, tagsOf, formOf, clientOf, quantaOf, classesOf, stateNumbers, readingNumbers, walkNumbers, sentNumbers, partWithin, stateLeft, told, readTold, walkTold, wrote, sendTold};
+ghost use Rattle.fenhamper.specs.Face.{layout, flowOf, addressAt, settingsOf, countersOf, timersOf, stateOf, kindOf, tagAt, countedTag, tagsOf, formOf, clientOf, quantaOf, classesOf, stateNumbers, readingNumbers, walkNumbers, sentNumbers, partWithin, stateLeft, told, readTold, walkTold, wrote, sendTold};
 
 // ---- what crosses to the module
 
@@ -50,7 +51,7 @@ fn wide(x: u8) -> u16
 // The number in two octets from `at` on, low octet first.
 fn low_pair(o: &[u8], at: usize) -> u16
     requires { ⌜ at + 2 ≤ length (now o) ⌝ }
-    ensures { λ r. ⌜ r ≡ lowPairAt (now (o .entry)) at ⌝ }
+    ensures { λ r. ⌜ r ≡ lowFirst (now (o .entry)) at 2 ⌝ }
 {
     wide(o[at]) + wide(o[at + 1]) * 256
 }

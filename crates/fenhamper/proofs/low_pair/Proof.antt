@@ -1,6 +1,7 @@
 -- `fenhamper::low_pair` meets its contract. Assumes nothing.
+use native.Mathlib.Omega.{arith}
 use borrow.Author.Needs.{needs}
-use Rattle.fenhamper.specs.Face.{lowPairAt}
+use Rattle.line.specs.Octets.{lowFirst}
 use Rattle.fenhamper.proofs.low_pair.Statement.{statement}
 use Rattle.fenhamper.proofs.low_pair.Tie as tie
 
@@ -26,8 +27,8 @@ add-result : tie.Need-add-result
 add-result c = search needs
 
 returns : tie.Need-returns
-unfolding lowPairAt
-returns c = rw (c .wide2 .ensures .0, c .before .before .wide .ensures .0)
+unfolding lowFirst
+returns c = rw (c .wide2 .ensures .0, c .before .before .wide .ensures .0) (omega arith)
 
 pub low-pair-spec : {M : Type 1} → statement M
 low-pair-spec =
