@@ -44,7 +44,8 @@ use Rattle.logging.proofs.Turns.{counted-some, turn-refused, turn-none,
 
 -- ---- the records of readings, one by one
 
-records-counted : (r : Reading) (rs : List Reading) (o : Outcome) (w : ℕ) (q : Part) → r .answer ≡ Counted o w q → recordsOf (r ∷ rs) ≡ recordOfReading r ∷ recordsOf rs
+records-counted : (r : Reading) (rs : List Reading) (o : Outcome) (w : ℕ) (q : Part) → r .answer ≡ Counted o w q
+    → recordsOf (r ∷ rs) ≡ recordOfReading r ∷ recordsOf rs
 unfolding recordsOf
 records-counted r rs o w q e = counted-yes (recordOfReading r) (map recordOfReading rs) (counts-so (recordOfReading r) (counted-some r o w q e))
 
@@ -84,7 +85,8 @@ module _ (most : ℕ) (s : Settings) (st : State) (os ms : List ℕ) (p : ℕ) w
   readings-on h = ap then h
 
 -- a reading that counts a Start is not refused, so its record has its widths
-counted-fits : (s : Settings) (st : State) (os ms : List ℕ) (p : ℕ) → isCounted (reading s st os ms p .answer) ≡ true → Fits (recordOfReading (reading s st os ms p))
+counted-fits : (s : Settings) (st : State) (os ms : List ℕ) (p : ℕ) → isCounted (reading s st os ms p .answer) ≡ true
+    → Fits (recordOfReading (reading s st os ms p))
 counted-fits s st os ms p h = by-checked (first (readRefusals s os ms p)) refl
   where
     by-checked : (c : Checked) → first (readRefusals s os ms p) ≡ c → Fits (recordOfReading (reading s st os ms p))
@@ -103,7 +105,8 @@ module _ (room : ℕ) where
         → shown n st p us (r ∷ []) ≡ stopped (endOf x) (r .state) (r .next) n (filled room us)
     unfolding lastNext
     shown-last x e h =
-        ap₂ (λ (y : WalkEnd) (us′ : List Record). stopped (endOf (y .answer)) (y .state) (r .next) (n + length us′) (filled room (us ++ us′))) e (records-last r h)
+        ap₂ (λ (y : WalkEnd) (us′ : List Record). stopped (endOf (y .answer)) (y .state) (r .next) (n + length us′) (filled room (us ++ us′)))
+        e (records-last r h)
         ∙ ap₂ (λ (k : ℕ) (us′ : List Record). stopped (endOf x) (r .state) (r .next) k (filled room us′)) (let z : n + 0 ≡ n = omega arith in z) (append-nil us)
 
     last-refused : (x : Refusal) → r .answer ≡ Answer.Refused x → walkOf n st (r ∷ []) ≡ record { answer = Walked.Refused x; state = r .state }
