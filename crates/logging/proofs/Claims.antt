@@ -1,14 +1,11 @@
 -- The claim on a walk that keeps its readings, as a theorem: `walk-keeps`. Assumes nothing.
-use Prim.Native.Nat.{ℕ, zero, suc, _+_, _-_, _*_, _/_, _≤_, _<_}
+use Prim.Native.Nat.{ℕ, zero, suc, _+_, _-_, _≤_}
 use native.Mathlib.Omega.{arith}
 use mathlib.Core.Path.{_≡_, refl, sym, ap, ap₂, _∙_, subst}
 use mathlib.Core.Bool.{Bool, true, false, false≢true}
 use mathlib.Core.List.{List, [], _∷_, _++_, map, append-assoc, append-nil}
 use lib.ListN.{length, length-append}
-use Rattle.line.specs.Line.{overwrite}
 use Rattle.line.specs.Table.{first}
-use Rattle.line.proofs.Symbols.{by-test}
-use Rattle.line.proofs.Tables.{first-here, first-next, first-other}
 use Rattle.station.specs.declared.Settings.{Settings}
 use Rattle.station.specs.declared.State.{State}
 use Rattle.station.specs.declared.Part.{Part}
@@ -16,8 +13,8 @@ use Rattle.station.specs.declared.Outcome.{Outcome}
 use Rattle.station.specs.declared.Refusal.{Refusal}
 use Rattle.station.specs.declared.Checked.{Checked}
 use Rattle.log.specs.declared.Record.{Record}
-use Rattle.log.specs.Log.{octetsOfRecord, counts, frontCount, readBack}
-use Rattle.log.specs.Claims.{Fits, AllFit, IsMultiple, zeroLog, countedOnes, filled}
+use Rattle.log.specs.Log.{readBack}
+use Rattle.log.specs.Claims.{Fits, AllFit, IsMultiple, zeroLog, filled}
 use Rattle.log.proofs.Records.{counts-so, counts-not}
 use Rattle.log.proofs.Filled.{AllCount, filled-multiple, length-filled, count-filled, read-filled, write-filled}
 use Rattle.log.proofs.Claims.{zero-filled, counted-nil, counted-yes, counted-no, fit-append, count-append, ones-count}
@@ -32,11 +29,9 @@ use Rattle.receive.specs.Reading.{readRefusals, reading}
 use Rattle.receive.specs.Walk.{readingsFrom, walk, walkOf, walked}
 use Rattle.receive.proofs.Cases.{read-refused}
 use Rattle.logging.specs.declared.KeepRefusal.the-variants.{ByReading}
-use Rattle.logging.specs.declared.KeepChecked.{KeepChecked}
-use Rattle.logging.specs.declared.LogEnd.{LogEnd}
 use Rattle.logging.specs.declared.LogEnd.the-variants.{Nothing, Open}
 use Rattle.logging.specs.Records.{recordOfReading}
-use Rattle.logging.specs.Walks.{Keeping, stopped, keepFrom, keepRefusals, walkLogged}
+use Rattle.logging.specs.Walks.{Keeping, stopped, keepFrom, walkLogged}
 use Rattle.logging.specs.Claims.{recordsOf, lastNext, endOf, KeepsWalk}
 use Rattle.logging.proofs.Readings.{reading-fits}
 use Rattle.logging.proofs.Refusals.{keep-read, keep-goes}

@@ -1,7 +1,7 @@
 -- What a walk that keeps its readings and is not refused knows of its capture and its log. Assumes nothing.
 use Prim.Native.Nat.{ℕ}
 use native.Mathlib.Omega.{arith}
-use mathlib.Core.Path.{_≡_, refl, sym, ap, _∙_}
+use mathlib.Core.Path.{_≡_, sym, ap, _∙_}
 use mathlib.Core.Bool.{Bool, true, false}
 use mathlib.Core.List.{List}
 use Rattle.line.specs.Table.{Table, _⇒_, _∣_, first}

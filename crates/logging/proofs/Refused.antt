@@ -2,7 +2,7 @@
 use Prim.Native.Nat.{ℕ, zero, suc, _+_, _-_, _≤_, _<_}
 use native.Mathlib.Omega.{arith}
 use mathlib.Core.Path.{_≡_, refl, sym, ap, _∙_, subst}
-use mathlib.Core.Bool.{true, false}
+use mathlib.Core.Bool.{true}
 use mathlib.Core.List.{List}
 use lib.ListN.{length}
 use Rattle.line.specs.Table.{first}
@@ -15,7 +15,6 @@ use Rattle.station.specs.declared.Checked.{Checked}
 use Rattle.station.specs.Numbers.{refusalNumber}
 use Rattle.log.specs.declared.LogRefusal.the-variants.{BadLog}
 use Rattle.log.specs.Log.{badLog}
-use Rattle.log.specs.Claims.{IsMultiple}
 use Rattle.log.proofs.Calls.{good-mod, bad-mod}
 use Rattle.receive.specs.declared.Answer.{Answer}
 use Rattle.receive.specs.declared.Answer.the-variants.{Counted}
@@ -30,7 +29,7 @@ use Rattle.logging.specs.Walks.{Keeping, stopped, keepFrom, walkLogged}
 use Rattle.logging.specs.Claims.{endRefusal, WalksOrRefuses}
 use Rattle.logging.proofs.Readings.{reading-sound}
 use Rattle.logging.proofs.Refusals.{keep-read, keep-goes, keep-bad}
-use Rattle.logging.proofs.Turns.{turn-refused, turn-none, turn-open, by-appending, walk-refused, walk-fine}
+use Rattle.logging.proofs.Turns.{turn-none, turn-open, by-appending, walk-refused, walk-fine}
 
 -- document 01's refusals are 1 to 10
 pub number-range : (x : Refusal) → (0 < refusalNumber x) × (refusalNumber x ≤ 10)
@@ -61,8 +60,10 @@ module _ (s : Settings) (os ms : List ℕ) where
       let z : refusalNumber x ≡ 0 = sym (ap answerRefusal e) ∙ reading-sound s st os ms p fine .refused in
       let b = number-range x .0 in
       absurd (let w : ⊥ = omega arith in w)
-  goes-turn most st p fine ih Answer.Nothing e n l = ap (λ (k : Keeping). endRefusal (k .given .end)) (turn-none s st os ms p n l (suc most) (omega arith) _ refl e)
-  goes-turn most st p fine ih Answer.Open e n l = ap (λ (k : Keeping). endRefusal (k .given .end)) (turn-open s st os ms p n l (suc most) (omega arith) _ refl e)
+  goes-turn most st p fine ih Answer.Nothing e n l =
+      ap (λ (k : Keeping). endRefusal (k .given .end)) (turn-none s st os ms p n l (suc most) (omega arith) _ refl e)
+  goes-turn most st p fine ih Answer.Open e n l =
+      ap (λ (k : Keeping). endRefusal (k .given .end)) (turn-open s st os ms p n l (suc most) (omega arith) _ refl e)
   goes-turn most st p fine ih (Counted o w q) e n l =
       let r = reading s st os ms p in
       let less : suc most - 1 ≡ most = omega arith in
@@ -91,7 +92,8 @@ walk-refuses s st os ms p l = by-checked (first (readRefusals s os ms p)) refl
     by-checked (Checked.Refused x) e =
         let h = walk-refused s st os ms p l (ByReading x) (keep-read s os ms p l x e) in
         let n : endRefusal (walkLogged s st os ms p l .given .end) ≡ refusalNumber x = ap (λ (k : Keeping). endRefusal (k .given .end)) h in
-        let a : answerRefusal (reading s st os ms p .answer) ≡ refusalNumber x = ap (λ (r : Reading). answerRefusal (r .answer)) (read-refused s st os ms p x e) in
+        let a : answerRefusal (reading s st os ms p .answer) ≡ refusalNumber x
+        = ap (λ (r : Reading). answerRefusal (r .answer)) (read-refused s st os ms p x e) in
         let some = number-range x in
         record {
           reads = λ _. n ∙ sym a;

@@ -1,8 +1,7 @@
 -- One turn of a walk that keeps its readings, by what the reading answers and whether a record is unused. Assumes nothing.
 use Prim.Native.Nat.{ℕ, suc, _+_, _-_, _*_, _/_, _≤_, _<_}
 use native.Mathlib.Omega.{arith}
-use mathlib.Core.Path.{_≡_, refl, sym, ap, _∙_, subst}
-use mathlib.Core.Bool.{true, false}
+use mathlib.Core.Path.{_≡_, sym, ap, _∙_, subst}
 use mathlib.Core.List.{List}
 use lib.ListN.{length}
 use Rattle.line.specs.Line.{overwrite}
@@ -17,7 +16,7 @@ use Rattle.station.specs.declared.Refusal.{Refusal}
 use Rattle.station.specs.Numbers.{outcomeNumber}
 use Rattle.log.specs.declared.Record.{Record}
 use Rattle.log.specs.declared.Logged.{Logged}
-use Rattle.log.specs.Log.{octetsOfRecord, isUsed, frontCount, Logging, appending}
+use Rattle.log.specs.Log.{octetsOfRecord, frontCount, Logging, appending}
 use Rattle.log.specs.Searched.{unusedFrom}
 use Rattle.log.specs.Claims.{Fits, IsMultiple}
 use Rattle.log.proofs.Records.{length-record, used-counts, counts-so}
