@@ -1,14 +1,11 @@
 -- The claim on a walk that keeps its readings, as a theorem: `walk-keeps`. Assumes nothing.
-use Prim.Native.Nat.{ℕ, zero, suc, _+_, _-_, _*_, _/_, _≤_, _<_}
+use Prim.Native.Nat.{ℕ, zero, suc, _+_, _-_, _≤_}
 use native.Mathlib.Omega.{arith}
 use mathlib.Core.Path.{_≡_, refl, sym, ap, ap₂, _∙_, subst}
 use mathlib.Core.Bool.{Bool, true, false, false≢true}
 use mathlib.Core.List.{List, [], _∷_, _++_, map, append-assoc, append-nil}
 use lib.ListN.{length, length-append}
-use Rattle.line.specs.Line.{overwrite}
 use Rattle.line.specs.Table.{first}
-use Rattle.line.proofs.Symbols.{by-test}
-use Rattle.line.proofs.Tables.{first-here, first-next, first-other}
 use Rattle.station.specs.declared.Settings.{Settings}
 use Rattle.station.specs.declared.State.{State}
 use Rattle.station.specs.declared.Part.{Part}
@@ -16,8 +13,8 @@ use Rattle.station.specs.declared.Outcome.{Outcome}
 use Rattle.station.specs.declared.Refusal.{Refusal}
 use Rattle.station.specs.declared.Checked.{Checked}
 use Rattle.log.specs.declared.Record.{Record}
-use Rattle.log.specs.Log.{octetsOfRecord, counts, frontCount, readBack}
-use Rattle.log.specs.Claims.{Fits, AllFit, IsMultiple, zeroLog, countedOnes, filled}
+use Rattle.log.specs.Log.{readBack}
+use Rattle.log.specs.Claims.{Fits, AllFit, IsMultiple, zeroLog, filled}
 use Rattle.log.proofs.Records.{counts-so, counts-not}
 use Rattle.log.proofs.Filled.{AllCount, filled-multiple, length-filled, count-filled, read-filled, write-filled}
 use Rattle.log.proofs.Claims.{zero-filled, counted-nil, counted-yes, counted-no, fit-append, count-append, ones-count}
@@ -32,11 +29,9 @@ use Rattle.receive.specs.Reading.{readRefusals, reading}
 use Rattle.receive.specs.Walk.{readingsFrom, walk, walkOf, walked}
 use Rattle.receive.proofs.Cases.{read-refused}
 use Rattle.logging.specs.declared.KeepRefusal.the-variants.{ByReading}
-use Rattle.logging.specs.declared.KeepChecked.{KeepChecked}
-use Rattle.logging.specs.declared.LogEnd.{LogEnd}
 use Rattle.logging.specs.declared.LogEnd.the-variants.{Nothing, Open}
 use Rattle.logging.specs.Records.{recordOfReading}
-use Rattle.logging.specs.Walks.{Keeping, stopped, keepFrom, keepRefusals, walkLogged}
+use Rattle.logging.specs.Walks.{Keeping, stopped, keepFrom, walkLogged}
 use Rattle.logging.specs.Claims.{recordsOf, lastNext, endOf, KeepsWalk}
 use Rattle.logging.proofs.Readings.{reading-fits}
 use Rattle.logging.proofs.Refusals.{keep-read, keep-goes}
@@ -44,7 +39,8 @@ use Rattle.logging.proofs.Turns.{counted-some, turn-refused, turn-none,
 
 -- ---- the records of readings, one by one
 
-records-counted : (r : Reading) (rs : List Reading) (o : Outcome) (w : ℕ) (q : Part) → r .answer ≡ Counted o w q → recordsOf (r ∷ rs) ≡ recordOfReading r ∷ recordsOf rs
+records-counted : (r : Reading) (rs : List Reading) (o : Outcome) (w : ℕ) (q : Part) → r .answer ≡ Counted o w q
+    → recordsOf (r ∷ rs) ≡ recordOfReading r ∷ recordsOf rs
 unfolding recordsOf
 records-counted r rs o w q e = counted-yes (recordOfReading r) (map recordOfReading rs) (counts-so (recordOfReading r) (counted-some r o w q e))
 
@@ -84,7 +80,8 @@ module _ (most : ℕ) (s : Settings) (st : State) (os ms : List ℕ) (p : ℕ) w
   readings-on h = ap then h
 
 -- a reading that counts a Start is not refused, so its record has its widths
-counted-fits : (s : Settings) (st : State) (os ms : List ℕ) (p : ℕ) → isCounted (reading s st os ms p .answer) ≡ true → Fits (recordOfReading (reading s st os ms p))
+counted-fits : (s : Settings) (st : State) (os ms : List ℕ) (p : ℕ) → isCounted (reading s st os ms p .answer) ≡ true
+    → Fits (recordOfReading (reading s st os ms p))
 counted-fits s st os ms p h = by-checked (first (readRefusals s os ms p)) refl
   where
     by-checked : (c : Checked) → first (readRefusals s os ms p) ≡ c → Fits (recordOfReading (reading s st os ms p))
@@ -103,7 +100,8 @@ module _ (room : ℕ) where
         → shown n st p us (r ∷ []) ≡ stopped (endOf x) (r .state) (r .next) n (filled room us)
     unfolding lastNext
     shown-last x e h =
-        ap₂ (λ (y : WalkEnd) (us′ : List Record). stopped (endOf (y .answer)) (y .state) (r .next) (n + length us′) (filled room (us ++ us′))) e (records-last r h)
+        ap₂ (λ (y : WalkEnd) (us′ : List Record). stopped (endOf (y .answer)) (y .state) (r .next) (n + length us′) (filled room (us ++ us′)))
+        e (records-last r h)
         ∙ ap₂ (λ (k : ℕ) (us′ : List Record). stopped (endOf x) (r .state) (r .next) k (filled room us′)) (let z : n + 0 ≡ n = omega arith in z) (append-nil us)
 
     last-refused : (x : Refusal) → r .answer ≡ Answer.Refused x → walkOf n st (r ∷ []) ≡ record { answer = Walked.Refused x; state = r .state }

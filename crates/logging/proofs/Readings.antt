@@ -1,8 +1,8 @@
 -- A reading of a capture: it moves on, its places lie inside the capture, and its record holds it whole: `reading-whole`. Assumes nothing.
-use Prim.Native.Nat.{ℕ, _+_, _-_, _*_, _%_, _^_, _≤_, _<_}
+use Prim.Native.Nat.{ℕ, _+_, _-_, _^_, _≤_, _<_}
 use native.Mathlib.Omega.{arith}
 use native.Mathlib.Nat.{mod-eq-of-lt, mod-lt}
-use mathlib.Core.Path.{_≡_, refl, sym, ap, _∙_, subst}
+use mathlib.Core.Path.{_≡_, refl, sym, subst}
 use mathlib.Core.Bool.{Bool, true, false, not, _&&_, false≢true}
 use mathlib.Core.List.{List}
 use lib.ListN.{length, getD, length-take, length-drop}
@@ -16,7 +16,8 @@ use Rattle.line.proofs.Places.{start-found, control-found}
 use Rattle.station.specs.declared.Settings.{Settings}
 use Rattle.station.specs.declared.State.{State}
 use Rattle.station.specs.declared.Outcome.{Outcome}
-use Rattle.station.specs.declared.Outcome.the-variants.{Cut, BadPreamble, Undersized, Oversized, WrongFcs, WrongLength, Filtered, PauseTaken, PfcTaken, ControlDropped, HandedOut}
+use Rattle.station.specs.declared.Outcome.the-variants.{Cut, BadPreamble, Undersized, Oversized, WrongFcs, WrongLength, Filtered}
+use Rattle.station.specs.declared.Outcome.the-variants.{PauseTaken, PfcTaken, ControlDropped, HandedOut}
 use Rattle.station.specs.declared.Checked.the-variants.{Fine}
 use Rattle.station.specs.Numbers.{byOutcome, outcomeNumber}
 use Rattle.station.specs.Station.{isGroup}
@@ -167,10 +168,12 @@ module _ (s : Settings) (st : State) (os ms : List ℕ) (p : ℕ) (fine : first 
   pub reading-whole : Whole (reading s st os ms p)
   unfolding recordOfReading
   reading-whole =
-      let r = reading-sound in
-      let a = r .place in
-      let b = r .handed in
-      record { place = mod-eq-of-lt (let z : reading s st os ms p .start < 2 ^ 32 = omega arith in z); handed = mod-eq-of-lt (let z : answerPart (reading s st os ms p .answer) .len < 2 ^ 16 = omega arith in z) }
+      let r = reading s st os ms p in
+      let a = reading-sound .place in
+      let b = reading-sound .handed in
+      let place : r .start < 2 ^ 32 = omega arith in
+      let handed : answerPart (r .answer) .len < 2 ^ 16 = omega arith in
+      record { place = mod-eq-of-lt place; handed = mod-eq-of-lt handed }
 
   -- its record's fields have their widths
   pub reading-fits : Fits (recordOfReading (reading s st os ms p))

@@ -1,8 +1,8 @@
 -- What a walk that keeps its readings and is not refused knows of its capture and its log. Assumes nothing.
 use Prim.Native.Nat.{ℕ}
 use native.Mathlib.Omega.{arith}
-use mathlib.Core.Path.{_≡_, refl, sym, ap, _∙_}
-use mathlib.Core.Bool.{Bool, false}
+use mathlib.Core.Path.{_≡_, sym, ap, _∙_}
+use mathlib.Core.Bool.{Bool, true, false}
 use mathlib.Core.List.{List}
 use Rattle.line.specs.Table.{Table, _⇒_, _∣_, first}
 use Rattle.line.proofs.Symbols.{by-test}
@@ -13,6 +13,7 @@ use Rattle.station.specs.declared.Refusal.{Refusal}
 use Rattle.station.proofs.Refusals.{fine-row}
 use Rattle.station.specs.declared.Refusal.the-variants.{BadSettings, BadBuffers, BadPlace}
 use Rattle.log.specs.declared.LogRefusal.the-variants.{BadLog}
+use Rattle.log.specs.Log.{badLog}
 use Rattle.log.specs.Claims.{IsMultiple}
 use Rattle.log.proofs.Calls.{good-mod, good-log}
 use Rattle.receive.specs.Reading.{readRefusals}
@@ -78,3 +79,16 @@ keep-read s os ms p l x h =
         (λ t. first-here (Refused (ByReading z)) ks t
         ∙ ap (λ (c : Checked). elim c [ Checked.Fine ↦ Fine | Checked.Refused u ↦ Refused (ByReading u) ]) (sym (first-here (Checked.Refused z) ts t) ∙ g))
         (λ t. first-next (Refused (ByReading z)) ks t ∙ next (sym (first-next (Checked.Refused z) ts t) ∙ g))
+
+-- a reading that is not refused, and another length: 11
+pub keep-bad : (s : Settings) (os ms : List ℕ) (p : ℕ) (l : List ℕ) → first (readRefusals s os ms p) ≡ Checked.Fine → badLog l ≡ true
+    → first (keepRefusals s os ms p l) ≡ Refused (ByLog BadLog)
+unfolding keepRefusals readRefusals
+keep-bad s os ms p l h t =
+    let a = fine-row BadSettings _ h in
+    let b = fine-row BadBuffers _ (a .1) in
+    let c = fine-row BadPlace _ (b .1) in
+    first-next (Refused (ByReading BadSettings)) _ (a .0)
+    ∙ first-next (Refused (ByReading BadBuffers)) _ (b .0)
+    ∙ first-next (Refused (ByReading BadPlace)) _ (c .0)
+    ∙ first-here (Refused (ByLog BadLog)) _ t

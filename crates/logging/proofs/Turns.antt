@@ -1,8 +1,7 @@
 -- One turn of a walk that keeps its readings, by what the reading answers and whether a record is unused. Assumes nothing.
 use Prim.Native.Nat.{ℕ, suc, _+_, _-_, _*_, _/_, _≤_, _<_}
 use native.Mathlib.Omega.{arith}
-use mathlib.Core.Path.{_≡_, refl, sym, ap, _∙_}
-use mathlib.Core.Bool.{true, false}
+use mathlib.Core.Path.{_≡_, sym, ap, _∙_, subst}
 use mathlib.Core.List.{List}
 use lib.ListN.{length}
 use Rattle.line.specs.Line.{overwrite}
@@ -11,12 +10,13 @@ use Rattle.station.specs.declared.Settings.{Settings}
 use Rattle.station.specs.declared.State.{State}
 use Rattle.station.specs.declared.Part.{Part}
 use Rattle.station.specs.declared.Outcome.{Outcome}
-use Rattle.station.specs.declared.Outcome.the-variants.{Cut, BadPreamble, Undersized, Oversized, WrongFcs, WrongLength, Filtered, PauseTaken, PfcTaken, ControlDropped, HandedOut}
+use Rattle.station.specs.declared.Outcome.the-variants.{Cut, BadPreamble, Undersized, Oversized, WrongFcs, WrongLength, Filtered}
+use Rattle.station.specs.declared.Outcome.the-variants.{PauseTaken, PfcTaken, ControlDropped, HandedOut}
 use Rattle.station.specs.declared.Refusal.{Refusal}
 use Rattle.station.specs.Numbers.{outcomeNumber}
 use Rattle.log.specs.declared.Record.{Record}
 use Rattle.log.specs.declared.Logged.{Logged}
-use Rattle.log.specs.Log.{octetsOfRecord, isUsed, frontCount, Logging, appending}
+use Rattle.log.specs.Log.{octetsOfRecord, frontCount, Logging, appending}
 use Rattle.log.specs.Searched.{unusedFrom}
 use Rattle.log.specs.Claims.{Fits, IsMultiple}
 use Rattle.log.proofs.Records.{length-record, used-counts, counts-so}
@@ -98,19 +98,31 @@ module _ (s : Settings) (st : State) (os ms : List ℕ) (p n : ℕ) (l : List �
     pub turn-open : r .answer ≡ Answer.Open → keepFrom left s st os ms p n l ≡ stopped Open (r .state) (r .next) n l
     turn-open e = here ∙ rw e
 
-    module _ (o : Outcome) (w : ℕ) (q : Part) (e : r .answer ≡ Counted o w q) (good : IsMultiple l) where
+    module _ (o : Outcome) (w : ℕ) (q : Part) (e : r .answer ≡ Counted o w q) where
       counted : keepFrom left s st os ms p n l ≡ given r (appending l (recordOfReading r))
       counted = here ∙ rw e
 
-      pub turn-full : frontCount l ≡ length l / 16 → keepFrom left s st os ms p n l ≡ stopped Full st p n l
-      turn-full h =
+      -- what the appending gives decides
+      by-logged : (P : Keeping → Type 0) → ((m : List ℕ) → P (keepFrom (left - 1) s (r .state) os ms (r .next) (n + 1) m)) → P (stopped Full st p n l)
+          → (x : Logged) (m : List ℕ) → P (given r (record { given = x; log = m }))
+      by-logged P on full Logged.Fine m = on m
+      by-logged P on full (Logged.Refused x) m = full
+
+      pub by-appending : (P : Keeping → Type 0) → ((m : List ℕ) → P (keepFrom (left - 1) s (r .state) os ms (r .next) (n + 1) m)) → P (stopped Full st p n l)
+          → P (keepFrom left s st os ms p n l)
+      by-appending P on full =
+          let a = appending l (recordOfReading r) in
+          subst P (sym counted) (by-logged P on full (a .given) (a .log))
+
+      pub turn-full : IsMultiple l → frontCount l ≡ length l / 16 → keepFrom left s st os ms p n l ≡ stopped Full st p n l
+      turn-full good h =
           counted
           ∙ ap (given r) (append-full l (recordOfReading r) (good-log l good) (counts-so (recordOfReading r) (counted-some r o w q e)) (count-all l h))
 
-      pub turn-kept : (k : ℕ) → k ≡ frontCount l → k < length l / 16
+      pub turn-kept : IsMultiple l → (k : ℕ) → k ≡ frontCount l → k < length l / 16
           → keepFrom left s st os ms p n l
           ≡ keepFrom (left - 1) s (r .state) os ms (r .next) (n + 1) (overwrite l (16 * k) (octetsOfRecord (recordOfReading r)))
-      turn-kept k h lt = counted ∙ ap (given r) (append-at l (recordOfReading r) k good (counted-some r o w q e) h lt)
+      turn-kept good k h lt = counted ∙ ap (given r) (append-at l (recordOfReading r) k good (counted-some r o w q e) h lt)
 
 -- ---- the whole walk
 

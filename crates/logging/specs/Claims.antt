@@ -1,23 +1,28 @@
--- What the claim on a walk that keeps its readings speaks of. The theorem is proofs/Claims.antt.
-use Prim.Native.Nat.{ℕ}
+-- What the claims on a walk that keeps its readings speak of. The theorems are proofs/Claims.antt and proofs/Refused.antt.
+use Prim.Native.Nat.{ℕ, _<_}
 use mathlib.Core.Path.{_≡_}
 use mathlib.Core.Bool.{true, false}
+use mathlib.Core.Logic.{_↔_}
 use mathlib.Core.List.{List, [], _∷_, map}
 use lib.ListN.{length}
 use Rattle.station.specs.declared.Settings.{Settings}
 use Rattle.station.specs.declared.State.{State}
+use Rattle.station.specs.Numbers.{refusalNumber}
 use Rattle.log.specs.declared.Record.{Record}
+use Rattle.log.specs.Numbers.{logRefusalNumber}
 use Rattle.log.specs.Log.{readBack}
-use Rattle.log.specs.Claims.{zeroLog, countedOnes, filled}
+use Rattle.log.specs.Claims.{zeroLog, countedOnes, filled, IsMultiple}
 use Rattle.receive.specs.declared.Reading.{Reading}
 use Rattle.receive.specs.declared.Walked.{Walked}
 use Rattle.receive.specs.declared.Walked.the-variants.{Ended}
+use Rattle.receive.specs.Values.{answerRefusal}
+use Rattle.receive.specs.Reading.{reading}
 use Rattle.receive.specs.Walk.{walk, walked}
-use Rattle.logging.specs.declared.KeepRefusal.the-variants.{ByReading}
+use Rattle.logging.specs.declared.KeepRefusal.the-variants.{ByReading, ByLog}
 use Rattle.logging.specs.declared.LogEnd.{LogEnd}
-use Rattle.logging.specs.declared.LogEnd.the-variants.{Nothing, Open}
+use Rattle.logging.specs.declared.LogEnd.the-variants.{Nothing, Open, Full}
 use Rattle.logging.specs.Records.{recordOfReading}
-use Rattle.logging.specs.Walks.{walkLogged}
+use Rattle.logging.specs.Walks.{stopped, walkLogged}
 
 -- the records of readings: "one record … per counted Start", in their order
 unfoldable pub recordsOf : List Reading → List Record
@@ -43,3 +48,22 @@ pub record KeepsWalk (s : Settings) (st : State) (os ms : List ℕ) (room : ℕ)
   pub end : walkLogged s st os ms 0 (zeroLog room) .given .end ≡ endOf (walked s st os ms .answer)
   pub next : walkLogged s st os ms 0 (zeroLog room) .given .next ≡ lastNext 0 (walk s st os ms)
   pub kept : walkLogged s st os ms 0 (zeroLog room) .given .kept ≡ length (recordsOf (walk s st os ms))
+
+-- ---- Refusals: 1 to 3 as a reading at that place, then "11 log length no multiple of 16"; it never gives 12
+
+-- the number of a walk's refusal, 0 where it was not refused
+abbrev pub endRefusal : LogEnd → ℕ
+endRefusal (LogEnd.Refused (ByReading x)) = refusalNumber x
+endRefusal (LogEnd.Refused (ByLog x)) = logRefusalNumber x
+endRefusal Nothing = 0
+endRefusal Open = 0
+endRefusal Full = 0
+
+-- which it gives, exactly when; and a refused walk gives the state and the place it was given, and leaves the log
+pub record WalksOrRefuses (s : Settings) (st : State) (os ms : List ℕ) (p : ℕ) (l : List ℕ) : Type 0 where
+  pub reads : 0 < answerRefusal (reading s st os ms p .answer)
+      → endRefusal (walkLogged s st os ms p l .given .end) ≡ answerRefusal (reading s st os ms p .answer)
+  pub eleven : (endRefusal (walkLogged s st os ms p l .given .end) ≡ 11) ↔ ((answerRefusal (reading s st os ms p .answer) ≡ 0) × (IsMultiple l → ⊥))
+  pub goes : answerRefusal (reading s st os ms p .answer) ≡ 0 → IsMultiple l → endRefusal (walkLogged s st os ms p l .given .end) ≡ 0
+  pub refused : 0 < endRefusal (walkLogged s st os ms p l .given .end)
+      → walkLogged s st os ms p l ≡ stopped (walkLogged s st os ms p l .given .end) st p 0 l

@@ -1,6 +1,5 @@
 -- `logging::append_reading` meets its contract: the appending of the reading's record. Assumes nothing.
 use mathlib.Core.Path.{ap, _∙_}
-use denote.Ref.{now}
 use borrow.Author.Needs.{needs}
 use Rattle.log.specs.Log.{appending}
 use Rattle.logging.proofs.append_reading.Statement.{statement}

@@ -8,7 +8,6 @@ use lib.ListN.{length}
 use denote.Ref.{now}
 use borrow.Author.Needs.{needs}
 use native.Mathlib.Nat.{lt-of-not-le}
-use mathlib.Core.Bool.{true}
 use Rattle.line.specs.Line.{overwrite}
 use Rattle.line.specs.Table.{first}
 use Rattle.station.specs.declared.Checked.the-variants.{Fine}

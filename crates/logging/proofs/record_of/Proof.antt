@@ -1,6 +1,6 @@
 -- `logging::record_of` meets its contract: each case of the answer gives its outcome, octets handed out and status word. Assumes nothing.
 use Prim.Native.Nat.{ℕ}
-use mathlib.Core.Path.{_≡_, sym, ap, _∙_}
+use mathlib.Core.Path.{sym, ap, _∙_}
 use borrow.Author.Needs.{needs}
 use Rattle.receive.specs.declared.Answer.{Answer}
 use Rattle.log.specs.declared.Record.{Record}

@@ -1,0 +1,124 @@
+-- The exact refusals of a walk that keeps its readings, as a theorem: `walk-refuses`. Assumes nothing.
+use Prim.Native.Nat.{ℕ, zero, suc, _+_, _-_, _≤_, _<_}
+use native.Mathlib.Omega.{arith}
+use mathlib.Core.Path.{_≡_, refl, sym, ap, _∙_, subst}
+use mathlib.Core.Bool.{true}
+use mathlib.Core.List.{List}
+use lib.ListN.{length}
+use Rattle.line.specs.Table.{first}
+use Rattle.line.proofs.Symbols.{by-test}
+use Rattle.station.specs.declared.Settings.{Settings}
+use Rattle.station.specs.declared.State.{State}
+use Rattle.station.specs.declared.Refusal.{Refusal}
+use Rattle.station.specs.declared.Refusal.the-variants.{BadSettings, BadBuffers, BadPlace, OtherFlow, BadClass, BadType, LongData, NoRoom, Held, ManyTags}
+use Rattle.station.specs.declared.Checked.{Checked}
+use Rattle.station.specs.Numbers.{refusalNumber}
+use Rattle.log.specs.declared.LogRefusal.the-variants.{BadLog}
+use Rattle.log.specs.Log.{badLog}
+use Rattle.log.proofs.Calls.{good-mod, bad-mod}
+use Rattle.receive.specs.declared.Answer.{Answer}
+use Rattle.receive.specs.declared.Answer.the-variants.{Counted}
+use Rattle.receive.specs.declared.Reading.{Reading}
+use Rattle.receive.specs.Values.{isCounted, answerRefusal}
+use Rattle.receive.specs.Reading.{readRefusals, reading}
+use Rattle.receive.proofs.Cases.{read-refused}
+use Rattle.receive.proofs.Refusals.{still-fine}
+use Rattle.logging.specs.declared.KeepRefusal.the-variants.{ByReading, ByLog}
+use Rattle.logging.specs.declared.LogEnd.{LogEnd}
+use Rattle.logging.specs.Walks.{Keeping, stopped, keepFrom, walkLogged}
+use Rattle.logging.specs.Claims.{endRefusal, WalksOrRefuses}
+use Rattle.logging.proofs.Readings.{reading-sound}
+use Rattle.logging.proofs.Refusals.{keep-read, keep-goes, keep-bad}
+use Rattle.logging.proofs.Turns.{turn-none, turn-open, by-appending, walk-refused, walk-fine}
+
+-- document 01's refusals are 1 to 10
+pub number-range : (x : Refusal) → (0 < refusalNumber x) × (refusalNumber x ≤ 10)
+number-range BadSettings = (omega arith, omega arith)
+number-range BadBuffers = (omega arith, omega arith)
+number-range BadPlace = (omega arith, omega arith)
+number-range OtherFlow = (omega arith, omega arith)
+number-range BadClass = (omega arith, omega arith)
+number-range BadType = (omega arith, omega arith)
+number-range LongData = (omega arith, omega arith)
+number-range NoRoom = (omega arith, omega arith)
+number-range Held = (omega arith, omega arith)
+number-range ManyTags = (omega arith, omega arith)
+
+-- ---- a walk whose first reading is not refused goes on
+
+abbrev Goes : Keeping → Type 0
+Goes k = endRefusal (k .given .end) ≡ 0
+
+module _ (s : Settings) (os ms : List ℕ) where
+  abbrev GoesFrom : ℕ → State → ℕ → Type 0
+  GoesFrom most st p = (n : ℕ) (l : List ℕ) → Goes (keepFrom most s st os ms p n l)
+
+  goes-turn : (most : ℕ) (st : State) (p : ℕ) → first (readRefusals s os ms p) ≡ Checked.Fine
+      → (isCounted (reading s st os ms p .answer) ≡ true → GoesFrom most (reading s st os ms p .state) (reading s st os ms p .next))
+      → (a : Answer) → reading s st os ms p .answer ≡ a → GoesFrom (suc most) st p
+  goes-turn most st p fine ih (Answer.Refused x) e n l =
+      let z : refusalNumber x ≡ 0 = sym (ap answerRefusal e) ∙ reading-sound s st os ms p fine .refused in
+      let b = number-range x .0 in
+      absurd (let w : ⊥ = omega arith in w)
+  goes-turn most st p fine ih Answer.Nothing e n l =
+      ap (λ (k : Keeping). endRefusal (k .given .end)) (turn-none s st os ms p n l (suc most) (omega arith) _ refl e)
+  goes-turn most st p fine ih Answer.Open e n l =
+      ap (λ (k : Keeping). endRefusal (k .given .end)) (turn-open s st os ms p n l (suc most) (omega arith) _ refl e)
+  goes-turn most st p fine ih (Counted o w q) e n l =
+      let r = reading s st os ms p in
+      let less : suc most - 1 ≡ most = omega arith in
+      by-appending s st os ms p n l (suc most) (omega arith) r refl o w q e Goes
+      (λ m. subst (λ (k : ℕ). Goes (keepFrom k s (r .state) os ms (r .next) (n + 1) m)) (sym less) (ih (ap isCounted e) (n + 1) m)) refl
+
+  goes-from : (most : ℕ) (st : State) (p : ℕ) → first (readRefusals s os ms p) ≡ Checked.Fine → GoesFrom most st p
+  goes-from zero st p fine = λ n l. (unfold keepFrom in refl)
+  goes-from (suc most) st p fine =
+      let r = reading s st os ms p in
+      goes-turn most st p fine
+      (λ h. goes-from most (r .state) (r .next) (still-fine s os ms p (r .next) fine (let b = reading-sound s st os ms p fine .on h in omega arith)))
+      (r .answer) refl
+
+-- ---- refusals, each exactly when
+
+pub walk-refuses : (s : Settings) (st : State) (os ms : List ℕ) (p : ℕ) (l : List ℕ) → WalksOrRefuses s st os ms p l
+walk-refuses s st os ms p l = by-checked (first (readRefusals s os ms p)) refl
+  where
+    -- a walk that is refused so
+    refused-as : (e : LogEnd) → walkLogged s st os ms p l ≡ stopped e st p 0 l
+        → walkLogged s st os ms p l ≡ stopped (walkLogged s st os ms p l .given .end) st p 0 l
+    refused-as e h = h ∙ ap (λ (x : LogEnd). stopped x st p 0 l) (sym (ap (λ (k : Keeping). k .given .end) h))
+
+    by-checked : (c : Checked) → first (readRefusals s os ms p) ≡ c → WalksOrRefuses s st os ms p l
+    by-checked (Checked.Refused x) e =
+        let h = walk-refused s st os ms p l (ByReading x) (keep-read s os ms p l x e) in
+        let n : endRefusal (walkLogged s st os ms p l .given .end) ≡ refusalNumber x = ap (λ (k : Keeping). endRefusal (k .given .end)) h in
+        let a : answerRefusal (reading s st os ms p .answer) ≡ refusalNumber x
+        = ap (λ (r : Reading). answerRefusal (r .answer)) (read-refused s st os ms p x e) in
+        let some = number-range x in
+        record {
+          reads = λ _. n ∙ sym a;
+          eleven = ((λ z. absurd (let w : ⊥ = omega arith in w)), (λ z. absurd (let b = z .0 in let w : ⊥ = omega arith in w)));
+          goes = λ z _. absurd (let w : ⊥ = omega arith in w);
+          refused = λ _. refused-as _ h;
+        }
+    by-checked Checked.Fine e =
+        let a = reading-sound s st os ms p e .refused in
+        by-test (badLog l)
+        (λ b. let h = walk-refused s st os ms p l (ByLog BadLog) (keep-bad s os ms p l e b) in
+        let n : endRefusal (walkLogged s st os ms p l .given .end) ≡ 11 = ap (λ (k : Keeping). endRefusal (k .given .end)) h in
+        record {
+          reads = λ z. absurd (let w : ⊥ = omega arith in w);
+          eleven = ((λ _. (a, bad-mod l b)), (λ _. n));
+          goes = λ _ g. absurd (bad-mod l b g);
+          refused = λ _. refused-as _ h;
+        })
+        (λ b. let g = good-mod l b in
+        let h = walk-fine s st os ms p l (keep-goes s os ms p l g e) in
+        let n : endRefusal (walkLogged s st os ms p l .given .end) ≡ 0
+        = ap (λ (k : Keeping). endRefusal (k .given .end)) h ∙ goes-from s os ms (length os + 1) st p e 0 l in
+        record {
+          reads = λ z. absurd (let w : ⊥ = omega arith in w);
+          eleven = ((λ z. absurd (let w : ⊥ = omega arith in w)), (λ z. absurd (z .1 g)));
+          goes = λ _ _. n;
+          refused = λ z. absurd (let w : ⊥ = omega arith in w);
+        })
