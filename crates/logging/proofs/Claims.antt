@@ -75,7 +75,7 @@ module _ (most : ℕ) (s : Settings) (st : State) (os ms : List ℕ) (p : ℕ) w
   unfolding readingsFrom
   readings-stop h = ap then h
 
-  readings-on : isCounted (here .answer) ≡ true → readingsFrom (suc most) s st os ms p ≡ here ∷ readingsFrom most s (here .state) os ms (here .next)
+  pub readings-on : isCounted (here .answer) ≡ true → readingsFrom (suc most) s st os ms p ≡ here ∷ readingsFrom most s (here .state) os ms (here .next)
   unfolding readingsFrom
   readings-on h = ap then h
 

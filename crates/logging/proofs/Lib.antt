@@ -1,4 +1,5 @@
 pub mod Claims
+pub mod Full
 pub mod Readings
 pub mod Refusals
 pub mod Refused

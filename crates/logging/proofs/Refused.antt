@@ -14,7 +14,7 @@ use Rattle.station.specs.declared.Refusal.the-variants.{BadSettings, BadBuffers
 use Rattle.station.specs.declared.Checked.{Checked}
 use Rattle.station.specs.Numbers.{refusalNumber}
 use Rattle.log.specs.declared.LogRefusal.the-variants.{BadLog}
-use Rattle.log.specs.Log.{badLog}
+use Rattle.log.specs.Log.{badLog, appending}
 use Rattle.log.proofs.Calls.{good-mod, bad-mod}
 use Rattle.receive.specs.declared.Answer.{Answer}
 use Rattle.receive.specs.declared.Answer.the-variants.{Counted}
@@ -25,6 +25,7 @@ use Rattle.receive.proofs.Cases.{read-refused}
 use Rattle.receive.proofs.Refusals.{still-fine}
 use Rattle.logging.specs.declared.KeepRefusal.the-variants.{ByReading, ByLog}
 use Rattle.logging.specs.declared.LogEnd.{LogEnd}
+use Rattle.logging.specs.Records.{recordOfReading}
 use Rattle.logging.specs.Walks.{Keeping, stopped, keepFrom, walkLogged}
 use Rattle.logging.specs.Claims.{endRefusal, WalksOrRefuses}
 use Rattle.logging.proofs.Readings.{reading-sound}
@@ -67,8 +68,9 @@ module _ (s : Settings) (os ms : List ℕ) where
   goes-turn most st p fine ih (Counted o w q) e n l =
       let r = reading s st os ms p in
       let less : suc most - 1 ≡ most = omega arith in
+      let m = appending l (recordOfReading r) .log in
       by-appending s st os ms p n l (suc most) (omega arith) r refl o w q e Goes
-      (λ m. subst (λ (k : ℕ). Goes (keepFrom k s (r .state) os ms (r .next) (n + 1) m)) (sym less) (ih (ap isCounted e) (n + 1) m)) refl
+      (subst (λ (k : ℕ). Goes (keepFrom k s (r .state) os ms (r .next) (n + 1) m)) (sym less) (ih (ap isCounted e) (n + 1) m)) (λ x _. refl)
 
   goes-from : (most : ℕ) (st : State) (p : ℕ) → first (readRefusals s os ms p) ≡ Checked.Fine → GoesFrom most st p
   goes-from zero st p fine = λ n l. (unfold keepFrom in refl)

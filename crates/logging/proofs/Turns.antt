@@ -1,7 +1,7 @@
 -- One turn of a walk that keeps its readings, by what the reading answers and whether a record is unused. Assumes nothing.
 use Prim.Native.Nat.{ℕ, suc, _+_, _-_, _*_, _/_, _≤_, _<_}
 use native.Mathlib.Omega.{arith}
-use mathlib.Core.Path.{_≡_, sym, ap, _∙_, subst}
+use mathlib.Core.Path.{_≡_, refl, sym, ap, _∙_, subst}
 use mathlib.Core.List.{List}
 use lib.ListN.{length}
 use Rattle.line.specs.Line.{overwrite}
@@ -15,6 +15,7 @@ use Rattle.station.specs.declared.Outcome.the-variants.{PauseTaken, PfcTaken, C
 use Rattle.station.specs.declared.Refusal.{Refusal}
 use Rattle.station.specs.Numbers.{outcomeNumber}
 use Rattle.log.specs.declared.Record.{Record}
+use Rattle.log.specs.declared.LogRefusal.{LogRefusal}
 use Rattle.log.specs.declared.Logged.{Logged}
 use Rattle.log.specs.Log.{octetsOfRecord, frontCount, Logging, appending}
 use Rattle.log.specs.Searched.{unusedFrom}
@@ -103,16 +104,21 @@ module _ (s : Settings) (st : State) (os ms : List ℕ) (p n : ℕ) (l : List �
       counted = here ∙ rw e
 
       -- what the appending gives decides
-      by-logged : (P : Keeping → Type 0) → ((m : List ℕ) → P (keepFrom (left - 1) s (r .state) os ms (r .next) (n + 1) m)) → P (stopped Full st p n l)
-          → (x : Logged) (m : List ℕ) → P (given r (record { given = x; log = m }))
-      by-logged P on full Logged.Fine m = on m
-      by-logged P on full (Logged.Refused x) m = full
-
-      pub by-appending : (P : Keeping → Type 0) → ((m : List ℕ) → P (keepFrom (left - 1) s (r .state) os ms (r .next) (n + 1) m)) → P (stopped Full st p n l)
+      pub by-appending : (P : Keeping → Type 0) → let a : Logging = appending l (recordOfReading r) in
+          P (keepFrom (left - 1) s (r .state) os ms (r .next) (n + 1) (a .log))
+          → ((x : LogRefusal) → a .given ≡ Logged.Refused x → P (stopped Full st p n l))
           → P (keepFrom left s st os ms p n l)
-      by-appending P on full =
-          let a = appending l (recordOfReading r) in
-          subst P (sym counted) (by-logged P on full (a .given) (a .log))
+      by-appending P on full = subst P (sym counted) (by-logged (a .given) refl)
+        where
+          a : Logging
+          a = appending l (recordOfReading r)
+
+          branch : Logged → Keeping
+          branch g = elim g [ Logged.Fine ↦ keepFrom (left - 1) s (r .state) os ms (r .next) (n + 1) (a .log) | Logged.Refused x ↦ stopped Full st p n l ]
+
+          by-logged : (g : Logged) → a .given ≡ g → P (branch (a .given))
+          by-logged Logged.Fine e = subst (λ (g : Logged). P (branch g)) (sym e) on
+          by-logged (Logged.Refused x) e = subst (λ (g : Logged). P (branch g)) (sym e) (full x e)
 
       pub turn-full : IsMultiple l → frontCount l ≡ length l / 16 → keepFrom left s st os ms p n l ≡ stopped Full st p n l
       turn-full good h =

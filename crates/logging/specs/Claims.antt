@@ -1,28 +1,28 @@
--- What the claims on a walk that keeps its readings speak of. The theorems are proofs/Claims.antt and proofs/Refused.antt.
-use Prim.Native.Nat.{ℕ, _<_}
+-- What the claims on a walk that keeps its readings speak of. The theorems are proofs/Claims.antt, proofs/Refused.antt and proofs/Full.antt.
+use Prim.Native.Nat.{ℕ, _+_, _-_, _<_}
 use mathlib.Core.Path.{_≡_}
 use mathlib.Core.Bool.{true, false}
 use mathlib.Core.Logic.{_↔_}
-use mathlib.Core.List.{List, [], _∷_, map}
+use mathlib.Core.List.{List, [], _∷_, _++_, map}
 use lib.ListN.{length}
 use Rattle.station.specs.declared.Settings.{Settings}
 use Rattle.station.specs.declared.State.{State}
 use Rattle.station.specs.Numbers.{refusalNumber}
 use Rattle.log.specs.declared.Record.{Record}
-use Rattle.log.specs.Numbers.{logRefusalNumber}
-use Rattle.log.specs.Log.{readBack}
-use Rattle.log.specs.Claims.{zeroLog, countedOnes, filled, IsMultiple}
+use Rattle.log.specs.Numbers.{logRefusalNumber, loggedRefusal}
+use Rattle.log.specs.Log.{readBack, appending}
+use Rattle.log.specs.Claims.{zeroLog, appendAll, countedOnes, filled, IsMultiple}
 use Rattle.receive.specs.declared.Reading.{Reading}
 use Rattle.receive.specs.declared.Walked.{Walked}
 use Rattle.receive.specs.declared.Walked.the-variants.{Ended}
-use Rattle.receive.specs.Values.{answerRefusal}
+use Rattle.receive.specs.Values.{isCounted, answerRefusal}
 use Rattle.receive.specs.Reading.{reading}
-use Rattle.receive.specs.Walk.{walk, walked}
+use Rattle.receive.specs.Walk.{readingsFrom, walk, walked}
 use Rattle.logging.specs.declared.KeepRefusal.the-variants.{ByReading, ByLog}
 use Rattle.logging.specs.declared.LogEnd.{LogEnd}
 use Rattle.logging.specs.declared.LogEnd.the-variants.{Nothing, Open, Full}
 use Rattle.logging.specs.Records.{recordOfReading}
-use Rattle.logging.specs.Walks.{stopped, walkLogged}
+use Rattle.logging.specs.Walks.{Keeping, stopped, walkLogged}
 
 -- the records of readings: "one record … per counted Start", in their order
 unfoldable pub recordsOf : List Reading → List Record
@@ -67,3 +67,21 @@ pub record WalksOrRefuses (s : Settings) (st : State) (os ms : List ℕ) (p : �
   pub goes : answerRefusal (reading s st os ms p .answer) ≡ 0 → IsMultiple l → endRefusal (walkLogged s st os ms p l .given .end) ≡ 0
   pub refused : 0 < endRefusal (walkLogged s st os ms p l .given .end)
       → walkLogged s st os ms p l ≡ stopped (walkLogged s st os ms p l .given .end) st p 0 l
+
+-- ---- A full log: "12 no unused record", which the walk tells by its end
+
+-- readings that each counted a Start
+unfoldable pub AllCounted : List Reading → Type 0
+AllCounted [] = Unit {0}
+AllCounted (r ∷ rs) = (isCounted (r .answer) ≡ true) × AllCounted rs
+
+-- where a walk of at most `most` readings found the log full: the readings that it made and kept, the records of these in the log, and the walk's further
+-- readings, which go on from its state and next place; the first of those counts a Start, for which there was "no unused record". So nothing is lost.
+pub record StopsFull (most : ℕ) (s : Settings) (st : State) (os ms : List ℕ) (p n : ℕ) (l : List ℕ) (k : Keeping) : Type 0 where
+  pub made : List Reading
+  pub counted : AllCounted made
+  pub kept : k .given .kept ≡ n + length made
+  pub log : k .log ≡ appendAll l (map recordOfReading made)
+  pub further : readingsFrom most s st os ms p ≡ made ++ readingsFrom (most - length made) s (k .given .state) os ms (k .given .next)
+  pub next : isCounted (reading s (k .given .state) os ms (k .given .next) .answer) ≡ true
+  pub full : 0 < loggedRefusal (appending (k .log) (recordOfReading (reading s (k .given .state) os ms (k .given .next))) .given)
