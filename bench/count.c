@@ -1,7 +1,8 @@
 /*
- * The driver of tools/count_instructions: `count walk|read|send OCTETS FRAMES` has that many untagged frames of that size walked in one call, read or sent
- * one by one. They are good ones of a type, to the own address. All that is done beside is the same for any number of frames, so that the difference
- * between two numbers is what the frames took. Exits with 1 if an answer is not as expected.
+ * The driver of tools/count_instructions: `count walk|keep|read|send OCTETS FRAMES` has that many untagged frames of that size walked in one call, walked and
+ * kept in a log, read or sent one by one. They are good ones of a type, to the own address; of 0 octets they are Starts alone, each of which cuts the one
+ * before it. All that is done beside is the same for any number of frames, so that the difference between two numbers is what the frames took. Exits with 1
+ * if an answer is not as expected.
  */
 #include <stdio.h>
 #include <stdlib.h>
@@ -11,6 +12,7 @@
 
 #define LINE FENHAMPER_MOST_SYMBOLS
 #define BESIDE_DATA 18 /* addresses, field and FCS */
+#define START 0xFB
 
 static const fenhamper_address own = {{0x02, 0x00, 0x00, 0x00, 0x00, 0x01}};
 
@@ -19,6 +21,8 @@ static fenhamper_state state;
 static fenhamper_client client;
 static uint8_t data[FENHAMPER_MOST_LENGTH];
 static uint8_t octets[LINE], marks[LINE];
+static fenhamper_record kept_records[LINE];
+static fenhamper_outcome outcome; /* of each frame */
 
 static void expect(int holds, const char *what) {
   if (holds) return;
@@ -51,9 +55,18 @@ static size_t send_one(size_t place, size_t length) {
   return sent.place;
 }
 
+/* Fills the line with Starts; gives the symbols of each. */
+static size_t fill_with_starts(void) {
+  outcome = FENHAMPER_CUT;
+  memset(octets, START, LINE);
+  memset(marks, 1, LINE);
+  return 1;
+}
+
 /* Fills the line with copies of one frame and its gap; gives their symbols. */
 static size_t fill_line(size_t length) {
   size_t frame = send_one(0, length), place;
+  outcome = FENHAMPER_HANDED_OUT;
   for (place = frame; place + frame <= LINE; place += frame) {
     memcpy(octets + place, octets, frame);
     memcpy(marks + place, marks, frame);
@@ -71,7 +84,7 @@ static void read_frames(size_t frames) {
   size_t place = 0;
   while (frames-- > 0) {
     fenhamper_read(&settings, &state, octets, LINE, marks, LINE, place, &reading);
-    expect(reading.outcome == FENHAMPER_HANDED_OUT, "a frame is not handed out");
+    expect(reading.outcome == (uint64_t)outcome, "a frame has another outcome");
     place = reading.next;
   }
 }
@@ -81,20 +94,32 @@ static void walk_frames(size_t frames, size_t symbols) {
   if (frames == 0) return; /* so that a whole call can be counted too */
   fenhamper_walk(&settings, &state, octets, symbols, marks, symbols, &walked);
   expect(walked.refusal == 0 && walked.starts == frames, "the walk counts other Starts");
-  expect(fenhamper_counter(&state, FENHAMPER_HANDED_OUT) == frames, "a frame is not handed out");
+  expect(fenhamper_counter(&state, outcome) == frames, "a frame has another outcome");
+}
+
+/* Into a log with room for all of them and more. */
+static void keep_frames(size_t frames, size_t symbols) {
+  fenhamper_kept kept;
+  if (frames == 0) return;
+  fenhamper_walk_log(&settings, &state, octets, symbols, marks, symbols, 0, (uint8_t *)kept_records, sizeof kept_records, &kept);
+  expect(kept.refusal == 0 && kept.records == frames, "the walk keeps other Starts");
+  expect(kept_records[frames - 1].outcome == outcome, "a frame has another outcome");
 }
 
 int main(int words, char **word) {
-  size_t size, frames, frame;
-  expect(words == 4, "count walk|read|send OCTETS FRAMES");
+  size_t size, frames, frame, symbols;
+  expect(words == 4, "count walk|keep|read|send OCTETS FRAMES");
   size = number(word[2]);
   frames = number(word[3]);
-  expect(size >= FENHAMPER_LEAST_FRAME && size <= BESIDE_DATA + sizeof data, "a frame has 64 to 1518 octets");
+  expect(size == 0 || (size >= FENHAMPER_LEAST_FRAME && size <= BESIDE_DATA + sizeof data), "a frame has 64 to 1518 octets");
+  expect(size > 0 || *word[1] != 's', "a Start alone is not sent");
   set_up();
-  frame = fill_line(size - BESIDE_DATA);
-  expect(frames <= LINE / frame, "so many frames do not fit");
+  frame = size == 0 ? fill_with_starts() : fill_line(size - BESIDE_DATA);
+  symbols = frames * frame + (size == 0); /* the last Start is open */
+  expect(symbols <= LINE, "so many frames do not fit");
   switch (*word[1]) {
-    case 'w': walk_frames(frames, frames * frame); break;
+    case 'w': walk_frames(frames, symbols); break;
+    case 'k': keep_frames(frames, symbols); break;
     case 'r': read_frames(frames); break;
     case 's': send_frames(frames, size - BESIDE_DATA); break;
     default: expect(0, "no such call");

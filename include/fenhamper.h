@@ -5,8 +5,8 @@
  *                 fenhamper), which itself needs memset and nothing else.
  *   Memory        No heap. The archive is code and constants: it has no data section, neither .data nor .bss.
  *   Reentrant     Yes. Nothing is kept between calls but what the caller lends.
- *   Stack         At most FENHAMPER_STACK_READ octets for a reading, .._SEND for a sending call, .._WALK for a walk, of
- *                 which 16 KB are for tables; a test measures them.
+ *   Stack         At most FENHAMPER_STACK_READ octets for a reading or a call on a log, .._SEND for a sending call,
+ *                 .._WALK for a walk, of which 16 KB are for tables; a test measures them.
  *   Client data   Of a reading: data_length octets from octets + data_place on, in the caller's own octets and
  *                 never a copy. They always lie inside, so that no fenhamper_client_data is needed for them.
  *
@@ -70,9 +70,10 @@ static uint32_t (*const fenhamper_layout)(void) __attribute__((used)) = fenhampe
 #define FENHAMPER_MOST_TAGS 8        /* of a frame */
 #define FENHAMPER_CLASSES 8          /* 0 to 7, a timer each */
 #define FENHAMPER_OUTCOMES 11        /* 1 to 11, a counter each */
-#define FENHAMPER_STACK_READ 1024    /* octets of stack that a call takes at most: fenhamper_read */
+#define FENHAMPER_RECORD_SIZE 16     /* octets of a record of a log */
+#define FENHAMPER_STACK_READ 1024    /* octets of stack that a call takes at most: fenhamper_read, fenhamper_log_.. */
 #define FENHAMPER_STACK_SEND 512     /* the sending calls and Idle fill */
-#define FENHAMPER_STACK_WALK 18432   /* fenhamper_walk */
+#define FENHAMPER_STACK_WALK 18432   /* fenhamper_walk and fenhamper_walk_log */
 
 /* ---- settings */
 
@@ -146,7 +147,7 @@ typedef enum fenhamper_outcome {
 
 /*
  * Why a call was refused: the first that holds, in the order of their numbers, but that 10 is tested after 6
- * and before 7. A refused call leaves the state and every symbol.
+ * and before 7. A refused call leaves the state, every symbol and the log.
  */
 typedef enum fenhamper_refusal {
   FENHAMPER_BAD_SETTINGS = 1, /* own address is a group, listed count above 4, or M out of range */
@@ -158,7 +159,10 @@ typedef enum fenhamper_refusal {
   FENHAMPER_LONG_DATA = 7,    /* data over 1500 (length form), or over M - 18 (type form) */
   FENHAMPER_NO_ROOM = 8,      /* too few symbols from the place to the end of the buffers */
   FENHAMPER_HELD = 9,         /* a client frame, and the timer of its class is above zero */
-  FENHAMPER_MANY_TAGS = 10    /* more than eight tags */
+  FENHAMPER_MANY_TAGS = 10,   /* more than eight tags */
+  FENHAMPER_BAD_LOG = 11,     /* length of a log no multiple of FENHAMPER_RECORD_SIZE */
+  FENHAMPER_LOG_FULL = 12,    /* no unused record */
+  FENHAMPER_NOT_USED = 13     /* record number not used */
 } fenhamper_refusal;
 
 /* Whether a reading found a Start whose run ends inside the capture. */
@@ -213,6 +217,40 @@ FENHAMPER_HOLDS(offsetof(fenhamper_walked, refusal) == 0);
 FENHAMPER_HOLDS(offsetof(fenhamper_walked, starts) == 8);
 FENHAMPER_HOLDS(offsetof(fenhamper_walked, open) == 16);
 FENHAMPER_HOLDS(offsetof(fenhamper_walked, spare) == 24);
+
+/* How a walk that keeps its readings ended. */
+typedef enum fenhamper_end { FENHAMPER_END_NONE = 1, FENHAMPER_END_OPEN = 2, FENHAMPER_END_FULL = 3 } fenhamper_end;
+
+/* Such a walk's answer. */
+typedef struct fenhamper_kept {
+  uint64_t refusal; /* 0, or the refusal: then the place is the call's and the rest is 0 */
+  uint64_t end;     /* FENHAMPER_END_..; FULL: a further Start is to be counted, and no record is unused */
+  uint64_t next;    /* where to go on; after FULL with another log, and nothing is lost */
+  uint64_t records; /* how many were appended: as many as Starts were counted */
+} fenhamper_kept;
+FENHAMPER_HOLDS(sizeof(fenhamper_kept) == 32);
+FENHAMPER_HOLDS(offsetof(fenhamper_kept, refusal) == 0);
+FENHAMPER_HOLDS(offsetof(fenhamper_kept, end) == 8);
+FENHAMPER_HOLDS(offsetof(fenhamper_kept, next) == 16);
+FENHAMPER_HOLDS(offsetof(fenhamper_kept, records) == 24);
+
+/*
+ * A record of a log, as it stands there: a log is an array of them, with no header, and begins as all zeros. One whose
+ * outcome is 0 is unused.
+ */
+typedef struct fenhamper_record {
+  uint32_t place;       /* of the Start */
+  uint8_t outcome;      /* 1 to 11 */
+  uint8_t zero;         /* 0 */
+  uint16_t data_length; /* octets handed out */
+  uint64_t status;      /* the status word */
+} fenhamper_record;
+FENHAMPER_HOLDS(sizeof(fenhamper_record) == FENHAMPER_RECORD_SIZE);
+FENHAMPER_HOLDS(offsetof(fenhamper_record, place) == 0);
+FENHAMPER_HOLDS(offsetof(fenhamper_record, outcome) == 4);
+FENHAMPER_HOLDS(offsetof(fenhamper_record, zero) == 5);
+FENHAMPER_HOLDS(offsetof(fenhamper_record, data_length) == 6);
+FENHAMPER_HOLDS(offsetof(fenhamper_record, status) == 8);
 
 /* A sending call's answer. */
 typedef struct fenhamper_sent {
@@ -279,6 +317,29 @@ void fenhamper_read(const fenhamper_settings *settings, fenhamper_state *state, 
 /* Read Start after Start from place 0 until NONE or OPEN, all in one call. */
 void fenhamper_walk(const fenhamper_settings *settings, fenhamper_state *state, const uint8_t *octets,
                     size_t octets_length, const uint8_t *marks, size_t marks_length, fenhamper_walked *walked);
+
+/*
+ * Read Start after Start from `place` on, and append a record of each to the log, until NONE, OPEN or a full log. A
+ * Start that finds no unused record is not counted. log_length is in octets.
+ */
+void fenhamper_walk_log(const fenhamper_settings *settings, fenhamper_state *state, const uint8_t *octets,
+                        size_t octets_length, const uint8_t *marks, size_t marks_length, size_t place, uint8_t *log,
+                        size_t log_length, fenhamper_kept *kept);
+
+/* Append a record in the first unused one; a record of outcome 0 is not appended. Gives the refusal's number, or 0. */
+uint32_t fenhamper_log_append(uint8_t *log, size_t log_length, const fenhamper_record *record);
+
+/* Append the record of a reading; one that counted no Start is not appended. */
+uint32_t fenhamper_log_append_reading(uint8_t *log, size_t log_length, const fenhamper_reading *reading);
+
+/* The record of a stated number. A refusal leaves *record, here and in the next one. */
+uint32_t fenhamper_log_record(const uint8_t *log, size_t log_length, size_t number, fenhamper_record *record);
+
+/* The record number *at, which then moves on by one: from 0 on, until it is refused (13), this reads a log back. */
+uint32_t fenhamper_log_next(const uint8_t *log, size_t log_length, size_t *at, fenhamper_record *record);
+
+/* How many used records stand in front of the first unused one. A refusal leaves *used. */
+uint32_t fenhamper_log_used(const uint8_t *log, size_t log_length, size_t *used);
 
 /*
  * The client data that a part stands for, where it is not a reading's own: the part itself if it lies inside
@@ -393,6 +454,16 @@ static inline fenhamper_walked fenhamper_capture_walk(const fenhamper_settings *
   return walked;
 }
 
+/* The log as an array of `records` records. */
+static inline fenhamper_kept fenhamper_capture_keep(const fenhamper_settings *settings, fenhamper_state *state,
+                                                    fenhamper_capture capture, size_t place, fenhamper_record *log,
+                                                    size_t records) {
+  fenhamper_kept kept;
+  fenhamper_walk_log(settings, state, capture.octets, capture.length, capture.marks, capture.length, place,
+                     (uint8_t *)log, records * sizeof *log, &kept);
+  return kept;
+}
+
 /* Here data of no octets may be null. */
 static inline fenhamper_sent fenhamper_line_client(const fenhamper_settings *settings, fenhamper_state *state,
                                                    fenhamper_line line, size_t place, const fenhamper_client *client,
@@ -486,6 +557,9 @@ static inline const char *fenhamper_refusal_name(uint64_t refusal) {
     case FENHAMPER_NO_ROOM: return "no room";
     case FENHAMPER_HELD: return "held";
     case FENHAMPER_MANY_TAGS: return "many tags";
+    case FENHAMPER_BAD_LOG: return "bad log";
+    case FENHAMPER_LOG_FULL: return "log full";
+    case FENHAMPER_NOT_USED: return "not used";
     default: return "none";
   }
 }

@@ -1,6 +1,7 @@
 #!/usr/bin/env python3
-"""Makes the sample captures of this folder, NAME.capture, and beside each what the printing program prints of it, NAME.txt, by the independent
-model (tools/oracle/model.py). `samples/make.py` writes them; `samples/make.py --check` writes nothing and compares them with the files kept."""
+"""Makes the sample captures of this folder, NAME.capture, and beside each what the printing program prints of it, NAME.txt; of one also a log of its
+readings, NAME.log, and a line on each record, NAME.log.txt: all by the independent model (tools/oracle/model.py). `samples/make.py` writes them;
+`samples/make.py --check` writes nothing and compares them with the files kept."""
 import random
 import sys
 from dataclasses import replace
@@ -9,8 +10,8 @@ from pathlib import Path
 HERE = Path(__file__).resolve().parent
 sys.dont_write_bytecode = True  # nothing but the samples is written into the repository
 sys.path.insert(0, str(HERE.parent / "tools" / "oracle"))
-from model import (BROADCAST, CONTROL, CUSTOMER, ERROR, IDLE, PRINTING, SERVICE, START, TERMINATE, Client, client_symbols, high_first,  # noqa: E402
-                   idle_symbols, on_line, pause_symbols, pfc_symbols, printed, records)
+from model import (BROADCAST, CONTROL, CUSTOMER, ERROR, IDLE, PRINTING, SERVICE, START, TERMINATE, Client, State, client_symbols,  # noqa: E402
+                   high_first, idle_symbols, log_records, logged_walk, on_line, pause_symbols, pfc_symbols, printed, read_back, records, walks_on)
 
 US = PRINTING.own
 PEER = replace(PRINTING, own=[0x02, 0, 0, 0, 0, 0x09])  # the station at the other end: the source of every frame here
@@ -139,17 +140,45 @@ def samples():
     }
 
 
+# ---- The log of a run
+
+LOGGED = "first"  # the capture whose readings are kept
+PARTS, RECORDS = 3, 4  # in so many logs of so many records, one behind the other in the file: the last of them has unused ones
+OUTCOMES = ["cut", "bad preamble", "undersized", "oversized", "wrong FCS", "wrong length", "filtered", "pause taken", "PFC taken", "control dropped",
+            "handed out"]
+
+
+def kept_walk(capture):
+    """The walk over a capture file that keeps its readings. In logs one after the other, each gone on with, they are the same octets as in one."""
+    run = PRINTING, State(), list(capture[1::2]), list(capture[0::2]), 0
+    whole = logged_walk(*run, [0] * (16 * PARTS * RECORDS))
+    parts = walks_on(*run, [RECORDS] * PARTS)
+    assert sum((part.log for part in parts), []) == whole.log and (parts[-1].end, parts[-1].next) == (whole.end, whole.next)
+    return whole
+
+
+def log_lines(walked):
+    """A line on each record that was appended: its octets, and what they say; and a last line on the walk."""
+    lines = [f"{bytes(r.octets()).hex(' ').upper()}  at {r.place}: {r.outcome} {OUTCOMES[r.outcome - 1]}, {r.handed} octets, status {r.status:010X}"
+             for r in read_back(walked.log)]
+    lines.append(f"{walked.appended} of {len(log_records(walked.log))} records used, end {walked.end} at {walked.next}")
+    return ("\n".join(lines) + "\n").encode()
+
+
 def files():
-    """Every file that is made, by its name: the captures, and what the model says is printed of them."""
-    made = {f"{name}.capture": data for name, data in samples().items()}
-    made.update({f"{name}.txt": printed(data) for name, data in samples().items()})
+    """Every file that is made, by its name: the captures, what the model says is printed of them, and the log."""
+    captures = samples()
+    made = {f"{name}.capture": data for name, data in captures.items()}
+    made.update({f"{name}.txt": printed(data) for name, data in captures.items()})
+    walked = kept_walk(captures[LOGGED])
+    made.update({f"{LOGGED}.log": bytes(walked.log), f"{LOGGED}.log.txt": log_lines(walked)})
     return made
 
 
 def differences():
     """What is wrong with the files kept, a line each."""
     made = files()
-    kept = {path.name: path.read_bytes() for pattern in ("*.capture", "*.txt") for path in HERE.glob(pattern)}
+    kept = {path.name: path.read_bytes() for pattern in ("*.capture", "*.txt", "*.log") for path in HERE.glob(pattern)}
     lines = [f"samples/{name} is missing" for name in made if name not in kept]
     lines += [f"samples/{name} is not one that samples/make.py makes" for name in kept if name not in made]
     return sorted(lines + [f"samples/{name} differs from what samples/make.py makes" for name in made if name in kept and kept[name] != made[name]])

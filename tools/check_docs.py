@@ -1,6 +1,6 @@
 #!/usr/bin/env python3
 """Holds docs/DEFINITIONS.md and docs/PROMISES.md to the sources: every definition and record of crates/*/specs is named there, and every
-name and theorem there exists.
+name and theorem there exists; and README.md to the samples that it shows.
 
 Every public function and no other is in docs/PROMISES.md, each with two must-fail edits or more, and every edit named there exists. Internal files (those whose first line
 says `Internal`) need not be named. Prints what is missing and exits 1, or says nothing.
@@ -63,6 +63,8 @@ for row in re.findall(r"^\| `\w+::\w+`.*$", promises, re.M):
         missing.append(f"docs/PROMISES.md: a row for each function: {row.split('|')[1].strip()}")
     if len(set(EDIT.findall(row))) < 2:
         missing.append(f"docs/PROMISES.md: fewer than two edits: {row.split('|')[1].strip()}")
+readme = (root / "README.md").read_text()
+missing += [f"README.md: samples/{name} is not shown as it is" for name in ("first.txt", "first.log.txt") if (root / "samples" / name).read_text() not in readme]
 for line in missing:
     print(line)
 sys.exit(1 if missing else 0)

@@ -1,5 +1,5 @@
 //! Fenhamper's speed beside an independent Rust program and C: symbols per second of `walk`, of
-//! `read` Start by Start and of sending.
+//! `walk_log`, of `read` Start by Start and of sending.
 #![deny(unsafe_code)]
 mod baseline;
 mod captures;
@@ -18,7 +18,7 @@ use baseline::Reader;
 use captures::{Kind, Line, FRAMES, HOSTILE, SYMBOLS};
 use measure::{agree, Effort, Rivals};
 use reference::Check;
-use report::{placed, Growth, Report, Row};
+use report::{placed, Cell, Growth, Report, Row};
 use rivals::{By, InC, Independent, IndependentSender, Job, Proved, ProvedSender};
 
 const USAGE: &str = "\
@@ -44,7 +44,7 @@ impl Bench {
         rates.collect()
     }
 
-    // `walk` and `read` on one capture.
+    // `walk`, `walk_log` and `read` on one capture. What the others keep of a walk are its counters.
     fn reading(&self, kind: &Kind, line: &Line) -> Vec<Row> {
         let (name, limit, symbols) = (kind.name, kind.limit, line.octets.len());
         let proved = |by| Box::new(Proved::new(by, line, limit));
@@ -62,6 +62,7 @@ impl Bench {
 
         let mut walks: Rivals = vec![
             proved(By::Walk),
+            proved(By::WalkLog),
             independent(Check::ByteTable, By::Walk),
             independent(Check::Slicing16, By::Walk),
             in_c(self.slicing),
@@ -81,14 +82,12 @@ impl Bench {
 
         let walk = self.rates(symbols, &mut walks);
         let read = self.rates(symbols, &mut reads);
-        let zlib = walk.get(4).copied();
+        let zlib = walk.get(5).copied();
+        let walkers = [Some(walk[2]), Some(walk[3]), Some(walk[4]), zlib];
         let byte_and_16 = [Some(read[2]), Some(read[3]), None, None];
         let mut rows = vec![
-            row(
-                "walk",
-                walk[0],
-                [Some(walk[1]), Some(walk[2]), Some(walk[3]), zlib],
-            ),
+            row("walk", walk[0], walkers),
+            row("walk_log", walk[1], walkers),
             row("read", read[0], byte_and_16),
         ];
         // the iterator is the same call for each Start: good traffic shows what it adds or saves
@@ -121,7 +120,7 @@ impl Bench {
         }
     }
 
-    // `walk` on captures of one kind and growing size, in fewer rounds, since there are many.
+    // `walk` and `walk_log` on captures of one kind and growing size, in fewer rounds, since there are many.
     fn growth(&self, kind: &Kind) -> Growth {
         let bench = Bench {
             effort: Effort {
@@ -140,10 +139,15 @@ impl Bench {
                     &line,
                     kind.limit,
                 )),
+                Box::new(Proved::new(By::WalkLog, &line, kind.limit)),
             ];
             agree(kind.name, &mut rivals);
             let rates = bench.rates(line.octets.len(), &mut rivals);
-            Some((1.0 / rates[0], rates[0] / rates[1]))
+            Some(Cell {
+                walk: 1.0 / rates[0],
+                ratio: rates[0] / rates[1],
+                walk_log: 1.0 / rates[2],
+            })
         });
         Growth {
             capture: kind.name,
@@ -169,7 +173,7 @@ impl Bench {
             eprintln!("by size: {}", kind.name);
             growth.push(self.growth(kind));
         }
-        let order = ["walk", "read", "readings", "send"];
+        let order = ["walk", "walk_log", "read", "readings", "send"];
         rows.sort_by_key(|row| order.iter().position(|call| *call == row.call));
         Report {
             machine,

@@ -19,7 +19,17 @@ pub struct Effort {
 /// A turn is cut into batches, half a millisecond each: on a busy machine few longer ones go undisturbed.
 const BATCHES: u32 = 100;
 
+// Where something has to be made ready, each run is timed by itself.
 fn batch(rival: &mut dyn Rival, runs: u32) -> Duration {
+    if rival.ready() {
+        let one = |_| {
+            rival.ready();
+            let from = Instant::now();
+            black_box(rival.run());
+            from.elapsed()
+        };
+        return (0..runs).map(one).sum();
+    }
     let from = Instant::now();
     for _ in 0..runs {
         black_box(rival.run());
@@ -60,7 +70,11 @@ impl Effort {
 
 /// Runs each rival once; all must give the same. Gives what they left behind.
 pub fn agree(job: &str, rivals: &mut Rivals) -> Vec<u32> {
-    let results: Vec<_> = rivals.iter_mut().map(|r| (r.run(), r.kept())).collect();
+    let once = |rival: &mut Box<dyn Rival + '_>| {
+        rival.ready();
+        (rival.run(), rival.kept())
+    };
+    let results: Vec<_> = rivals.iter_mut().map(once).collect();
     for (number, result) in results.iter().enumerate() {
         assert_eq!(
             result.0, results[0].0,

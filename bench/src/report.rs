@@ -27,12 +27,22 @@ impl Row {
     }
 }
 
-/// `walk` on one kind of capture by size: nanoseconds per symbol, and how many times as fast as the
-/// reference by 16 it is; nothing where no frame fits.
+/// What was measured on a capture of one size.
+#[derive(Clone, Copy)]
+pub struct Cell {
+    /// Nanoseconds per symbol of `walk`.
+    pub walk: f64,
+    /// How many times as fast as the reference by 16 it is.
+    pub ratio: f64,
+    /// Nanoseconds per symbol of `walk_log`.
+    pub walk_log: f64,
+}
+
+/// One kind of capture by size; nothing where no frame fits.
 pub struct Growth {
     pub capture: &'static str,
     pub hostile: bool,
-    pub cells: Vec<Option<(f64, f64)>>,
+    pub cells: Vec<Option<Cell>>,
 }
 
 // What was asked for, and what was measured.
@@ -92,7 +102,8 @@ impl Report {
 
     fn rates(&self, out: &mut String) {
         out.push_str("### Symbols per second\n\n");
-        out.push_str("In 10^9 symbols per second; the last four columns say how many times as fast as each of the others Fenhamper is.\n");
+        out.push_str("In 10^9 symbols per second; the last four columns say how many times as fast as each of the others Fenhamper is. In rows of\n");
+        out.push_str("`walk_log` the others walk and keep no log.\n");
         if !self.zlib {
             out.push_str("zlib not installed.\n");
         }
@@ -109,8 +120,22 @@ impl Report {
         }
     }
 
+    // How many times as fast as `walk` a walk with a log is, in the same run.
+    fn logged(&self, capture: &str) -> Option<f64> {
+        let rate = |call| self.row(call, capture)?.rates[0];
+        Some(rate("walk_log")? / rate("walk")?)
+    }
+
+    // That of each capture, side by side.
+    fn logs(&self, out: &mut String) {
+        let walks = self.rows.iter().filter(|row| row.call == "walk");
+        let captures: Vec<&str> = walks.map(|row| row.capture).collect();
+        head(out, captures.iter().map(|&c| c.to_owned()).collect(), 0);
+        line(out, captures.iter().map(|&c| cell(self.logged(c), 2)));
+    }
+
     // One table by size, of the figures that `of` picks.
-    fn by_size(&self, out: &mut String, digits: usize, of: fn((f64, f64)) -> f64) {
+    fn by_size(&self, out: &mut String, digits: usize, of: fn(Cell) -> f64) {
         let mut names = vec!["Capture".to_owned()];
         names.extend(self.sizes.iter().map(|&size| size_name(size)));
         head(out, names, 1);
@@ -131,7 +156,7 @@ impl Report {
     fn worst_by_size(&self, of: fn(usize) -> bool) -> Option<(f64, String)> {
         let cells = self.growth.iter().filter(|g| g.hostile).flat_map(|growth| {
             let sizes = self.sizes.iter().zip(&growth.cells);
-            sizes.filter_map(move |(&size, cell)| Some((growth.capture, size, (*cell)?.1)))
+            sizes.filter_map(move |(&size, cell)| Some((growth.capture, size, (*cell)?.ratio)))
         });
         let cells = cells.filter(|&(_, size, _)| of(size));
         least(
@@ -164,6 +189,16 @@ impl Report {
                 ratio("read", capture, BY_16),
             );
         }
+        ask(
+            "`walk_log` to `walk`: 64".to_owned(),
+            0.8,
+            self.logged("64"),
+        );
+        ask(
+            "`walk_log` to reference's walk, by 16: all Starts".to_owned(),
+            0.5,
+            ratio("walk_log", "all Starts", BY_16),
+        );
         for capture in ["64", "mix", "1518"] {
             ask(
                 format!("`walk` to C, zlib: {capture}"),
@@ -180,6 +215,7 @@ impl Report {
         }
         let worst = [
             ("`walk` on hostile captures", self.worst("walk")),
+            ("`walk_log` on hostile captures", self.worst("walk_log")),
             ("`read` on hostile captures", self.worst("read")),
             (
                 "`walk` on those of 1K to 64K symbols",
@@ -205,10 +241,16 @@ impl Report {
         }
         out.push('\n');
         self.rates(&mut out);
+        out.push_str("\n### `walk_log`: how many times as fast as `walk`, by capture\n\n");
+        self.logs(&mut out);
         out.push_str("\n### `walk`: nanoseconds per symbol by the capture's size in symbols\n\n");
-        self.by_size(&mut out, 3, |(cost, _)| cost);
+        self.by_size(&mut out, 3, |cell| cell.walk);
         out.push_str("\n### `walk`: how many times as fast as reference, by 16, by the capture's size in symbols\n\n");
-        self.by_size(&mut out, 2, |(_, ratio)| ratio);
+        self.by_size(&mut out, 2, |cell| cell.ratio);
+        out.push_str(
+            "\n### `walk_log`: nanoseconds per symbol by the capture's size in symbols\n\n",
+        );
+        self.by_size(&mut out, 3, |cell| cell.walk_log);
         out.push_str("\n### Targets\n\n");
         let names = ["Target", "asked", "measured", ""].map(str::to_owned);
         head(&mut out, names.to_vec(), 1);

@@ -1,7 +1,8 @@
 //! The ways to do one job, each with the state that it keeps, so that what they did can be compared.
 use std::hint::black_box;
 
-use fenhamper::{Address, Capture, Frame, Reading, Sender, Settings, State};
+use fenhamper::limits::RECORD_SIZE;
+use fenhamper::{Address, Capture, End, Frame, Log, Reading, Sender, Settings, State};
 use reference::{Answer, Check, Client, Form, Sent, Walked};
 
 use crate::baseline::Reader;
@@ -16,6 +17,11 @@ pub trait Rival {
     fn run(&mut self) -> Tally;
     /// What it left behind in all runs so far: counters, or symbols.
     fn kept(&self) -> Vec<u32>;
+    /// Makes ready for a run what is no part of the job, such as an empty log; false where there is
+    /// nothing to do.
+    fn ready(&mut self) -> bool {
+        false
+    }
 }
 
 /// What one run gave: Starts counted, whether the last is open, octets handed out, status words
@@ -50,6 +56,8 @@ pub enum By {
     Read,
     /// The iterator over readings, which is a call for each Start too.
     Readings,
+    /// All in one call, with a record of each Start in a log.
+    WalkLog,
 }
 
 /// Fenhamper, reading.
@@ -58,16 +66,57 @@ pub struct Proved<'a> {
     line: &'a Line,
     settings: Settings,
     state: State,
+    log: Vec<u8>,
+}
+
+/// Records that a log has beyond those that a walk needs.
+const SPARE_RECORDS: usize = 1024;
+
+// A log with room for each Start that is counted, and more.
+fn log_for(line: &Line, limit: u16) -> Vec<u8> {
+    let (s, mut state) = (reference_settings(limit), reference::State::default());
+    let walk = reference::walk(Check::Slicing16, &s, &mut state, &line.octets, &line.marks);
+    match walk {
+        Walked::Ended { starts, .. } => vec![0; (starts + SPARE_RECORDS) * RECORD_SIZE],
+        Walked::Refused(_) => Vec::new(),
+    }
 }
 
 impl<'a> Proved<'a> {
     pub fn new(by: By, line: &'a Line, limit: u16) -> Self {
+        let log = match by {
+            By::WalkLog => log_for(line, limit),
+            _ => Vec::new(),
+        };
         Proved {
             by,
             line,
             settings: settings(limit),
             state: State::default(),
+            log,
         }
+    }
+
+    /// The log of the last run.
+    #[cfg(test)]
+    pub fn log(&self) -> &[u8] {
+        &self.log
+    }
+
+    fn walk_log(&mut self, capture: Capture) -> Tally {
+        let mut log = match Log::new(black_box(&mut self.log)) {
+            Ok(log) => log,
+            Err(_) => return Tally::default(),
+        };
+        let kept = capture.walk_log(&self.settings, &mut self.state, 0, &mut log);
+        kept.map_or_else(
+            |_| Tally::default(),
+            |kept| Tally {
+                count: kept.records,
+                open: kept.end == End::Open,
+                ..Tally::default()
+            },
+        )
     }
 
     fn read(&mut self, capture: Capture) -> Tally {
@@ -120,12 +169,18 @@ impl Rival for Proved<'_> {
             }
             By::Read => self.read(capture),
             By::Readings => self.readings(capture),
+            By::WalkLog => self.walk_log(capture),
         }
     }
 
     fn kept(&self) -> Vec<u32> {
         // a counter is 32 bits wide: nothing is lost
         self.state.counters().map(|counter| counter as u32).to_vec()
+    }
+
+    fn ready(&mut self) -> bool {
+        self.log.fill(0);
+        !self.log.is_empty()
     }
 }
 

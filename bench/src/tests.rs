@@ -1,11 +1,11 @@
 //! That the rivals do the same job: frames of every kind, good and damaged, with the same counters.
-use reference::Check;
+use reference::{Check, State};
 
 use crate::baseline::Reader;
 use crate::captures::{Kind, Line, Random, FRAMES, HOSTILE};
 use crate::measure::{agree, Rivals};
 use crate::report::placed;
-use crate::rivals::{By, InC, Independent, Proved, OWN};
+use crate::rivals::{reference_settings, By, InC, Independent, Proved, Rival, OWN};
 
 const LIMIT: u16 = 1518;
 
@@ -13,6 +13,7 @@ const LIMIT: u16 = 1518;
 fn same(name: &str, line: &Line, limit: u16) -> Vec<u32> {
     let mut walks: Rivals = vec![
         Box::new(Proved::new(By::Walk, line, limit)),
+        Box::new(Proved::new(By::WalkLog, line, limit)),
         Box::new(Independent::new(Check::ByteTable, By::Walk, line, limit)),
         Box::new(Independent::new(Check::Slicing16, By::Walk, line, limit)),
         Box::new(InC::new(Reader::slicing(), line, limit)),
@@ -27,7 +28,25 @@ fn same(name: &str, line: &Line, limit: u16) -> Vec<u32> {
     ];
     let counted = agree(name, &mut walks);
     assert_eq!(counted, agree(name, &mut reads));
+    assert!(logs_alike(line, limit), "{name}: another log");
     counted
+}
+
+// Whether a walk leaves the reference's log.
+fn logs_alike(line: &Line, limit: u16) -> bool {
+    let mut proved = Proved::new(By::WalkLog, line, limit);
+    let mut log = vec![0; proved.log().len()];
+    proved.run();
+    reference::walk_log(
+        Check::Slicing16,
+        &reference_settings(limit),
+        &mut State::default(),
+        &line.octets,
+        &line.marks,
+        0,
+        &mut log,
+    );
+    proved.log() == log
 }
 
 // One of these.

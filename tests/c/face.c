@@ -193,6 +193,246 @@ static void a_part_is_kept_inside(void) {
   CHECK(part.place == 0 && part.length == 0);
 }
 
+/* ---- the log */
+
+/* A record all of whose octets differ: in the log they are 1 to 16. */
+static const fenhamper_record numbered = {0x04030201, 5, 6, 0x0807, UINT64_C(0x100F0E0D0C0B0A09)};
+
+/* The records that calls are tried on, and what they were. */
+static fenhamper_record logged[4], was[4];
+
+/* Records of these outcomes, every other octet of them 0xA7; what stands there is kept in `was`. */
+static uint8_t *log_of(unsigned first, unsigned second, unsigned third, unsigned fourth) {
+  memset(logged, 0xA7, sizeof logged);
+  logged[0].outcome = (uint8_t)first;
+  logged[1].outcome = (uint8_t)second;
+  logged[2].outcome = (uint8_t)third;
+  logged[3].outcome = (uint8_t)fourth;
+  memcpy(was, logged, sizeof was);
+  return (uint8_t *)logged;
+}
+
+static uint8_t *zero_log(void) {
+  memset(logged, 0, sizeof logged);
+  memset(was, 0, sizeof was);
+  return (uint8_t *)logged;
+}
+
+static int same(const fenhamper_record *one, const fenhamper_record *another) { return memcmp(one, another, sizeof *one) == 0; }
+
+/* Whether the log is as it was but for the record of this number, where that is one. */
+static int same_but(size_t number) {
+  size_t i;
+  int holds = 1;
+  for (i = 0; i < 4; i++) holds = holds && (i == number || same(&logged[i], &was[i]));
+  return holds;
+}
+
+static void a_record_stands_low_octet_first(void) {
+  uint8_t *log = zero_log();
+  size_t i;
+  CHECK(fenhamper_log_append(log, 64, &numbered) == 0);
+  for (i = 0; i < 16; i++) CHECK(log[i] == i + 1);
+  CHECK(same_but(0) && same(&logged[0], &numbered));
+}
+
+/* Holes are taken in order, whatever else stands in them, and no value of a field is refused. */
+static void appending_takes_the_first_unused_one(void) {
+  static const fenhamper_record most = {UINT32_MAX, UINT8_MAX, UINT8_MAX, UINT16_MAX, UINT64_MAX};
+  uint8_t *log = log_of(11, 0, 255, 0);
+  CHECK(fenhamper_log_append(log, 64, &numbered) == 0 && same(&logged[1], &numbered) && same_but(1));
+  memcpy(was, logged, sizeof was);
+  CHECK(fenhamper_log_append(log, 64, &most) == 0 && same(&logged[3], &most) && same_but(3));
+  memcpy(was, logged, sizeof was);
+  CHECK(fenhamper_log_append(log, 64, &numbered) == FENHAMPER_LOG_FULL && same_but(4));
+  CHECK(fenhamper_log_append(log, 0, &numbered) == FENHAMPER_LOG_FULL && same_but(4));
+}
+
+/* It may be refused for the length, never for a full log. */
+static void outcome_0_is_not_appended(void) {
+  fenhamper_record none = numbered;
+  none.outcome = 0;
+  CHECK(fenhamper_log_append(log_of(1, 0, 0, 1), 64, &none) == 0 && same_but(4));
+  CHECK(fenhamper_log_append(log_of(1, 1, 1, 1), 64, &none) == 0 && same_but(4));
+  CHECK(fenhamper_log_append(log_of(1, 1, 1, 1), 0, &none) == 0 && same_but(4));
+  CHECK(fenhamper_log_append(log_of(0, 0, 0, 0), 63, &none) == FENHAMPER_BAD_LOG && same_but(4));
+}
+
+/* 13 asks for that record alone: one behind an unused one is read. */
+static void a_record_is_read_by_its_number(void) {
+  const uint8_t *log = log_of(11, 0, 255, 1);
+  fenhamper_record record = numbered;
+  CHECK(fenhamper_log_record(log, 48, 0, &record) == 0 && same(&record, &was[0]));
+  CHECK(fenhamper_log_record(log, 48, 2, &record) == 0 && same(&record, &was[2]));
+  record = numbered;
+  CHECK(fenhamper_log_record(log, 48, 1, &record) == FENHAMPER_NOT_USED);
+  CHECK(fenhamper_log_record(log, 48, 3, &record) == FENHAMPER_NOT_USED);
+  CHECK(fenhamper_log_record(log, 48, SIZE_MAX, &record) == FENHAMPER_NOT_USED);
+  CHECK(fenhamper_log_record(log, 0, 0, &record) == FENHAMPER_NOT_USED);
+  CHECK(same(&record, &numbered) && same_but(4));
+}
+
+/* From record 0 on, up to the first unused one: there the number stays. */
+static void a_log_is_read_back(void) {
+  const uint8_t *log = log_of(11, 7, 0, 1);
+  fenhamper_record record = numbered;
+  size_t at = 0, used = 99;
+  CHECK(fenhamper_log_next(log, 64, &at, &record) == 0 && at == 1 && same(&record, &was[0]));
+  CHECK(fenhamper_log_next(log, 64, &at, &record) == 0 && at == 2 && same(&record, &was[1]));
+  CHECK(fenhamper_log_next(log, 64, &at, &record) == FENHAMPER_NOT_USED && at == 2 && same(&record, &was[1]));
+  CHECK(fenhamper_log_next(log, 32, &at, &record) == FENHAMPER_NOT_USED && at == 2);
+  CHECK(fenhamper_log_used(log, 64, &used) == 0 && used == 2);
+  CHECK(fenhamper_log_used(log, 32, &used) == 0 && used == 2);
+  CHECK(fenhamper_log_used(log + 32, 32, &used) == 0 && used == 0);
+  CHECK(fenhamper_log_used(log, 0, &used) == 0 && used == 0);
+  CHECK(same_but(4));
+}
+
+/* 11 comes before 12 and 13, and a refused call leaves all. */
+static void a_bad_log_is_refused(void) {
+  static const size_t lengths[] = {1, 15, 17, 31, 63};
+  fenhamper_record record = numbered;
+  fenhamper_reading reading;
+  size_t i, at = 7, used = 99;
+  memset(&reading, 1, sizeof reading);
+  for (i = 0; i < sizeof lengths / sizeof *lengths; i++) {
+    uint8_t *log = log_of(1, 1, 1, 1);
+    CHECK(fenhamper_log_append(log, lengths[i], &numbered) == FENHAMPER_BAD_LOG);
+    CHECK(fenhamper_log_append_reading(log, lengths[i], &reading) == FENHAMPER_BAD_LOG);
+    CHECK(fenhamper_log_record(log, lengths[i], 0, &record) == FENHAMPER_BAD_LOG);
+    CHECK(fenhamper_log_record(log, lengths[i], 4, &record) == FENHAMPER_BAD_LOG);
+    CHECK(fenhamper_log_next(log, lengths[i], &at, &record) == FENHAMPER_BAD_LOG);
+    CHECK(fenhamper_log_used(log, lengths[i], &used) == FENHAMPER_BAD_LOG);
+    CHECK(same_but(4) && same(&record, &numbered) && at == 7 && used == 99);
+  }
+}
+
+/* A line to read: a frame for us at place 3, a damaged one at 87, a Start at 200 that the next one cuts, and an open Start at 260. */
+static fenhamper_capture traffic(void) {
+  fenhamper_settings s = fenhamper_settings_for(other);
+  fenhamper_client client = fenhamper_client_to(own);
+  fenhamper_line line = fresh_line();
+  fenhamper_sent sent = fenhamper_line_client(&s, &state, line, 3, &client, (const uint8_t *)"data", 4);
+  CHECK(fenhamper_line_client(&s, &state, line, 87, &client, (const uint8_t *)"data", 4).place == 171 && sent.place == 87);
+  octets[120] ^= 1;
+  CHECK(fenhamper_line_idle(&state, line, 171, 89).place == 260);
+  octets[200] = octets[201] = octets[260] = 0xFB;
+  octets[202] = 0xFD;
+  marks[260] = 1;
+  fenhamper_fresh_state(&state);
+  return fenhamper_captured(line, LINE);
+}
+
+/* What is kept of that line. */
+static const fenhamper_record kept_of_traffic[4] = {
+    {3, FENHAMPER_HANDED_OUT, 0, 4, UINT64_C(0x4000400004)},
+    {87, FENHAMPER_WRONG_FCS, 0, 0, 0},
+    {200, FENHAMPER_CUT, 0, 0, 0},
+    {201, FENHAMPER_BAD_PREAMBLE, 0, 0, 0},
+};
+
+/* Each counted one; of none, open and a refused one nothing, and never 12. */
+static void readings_are_appended(void) {
+  fenhamper_settings s = fenhamper_settings_for(own);
+  fenhamper_capture capture = traffic();
+  uint8_t *log = zero_log();
+  fenhamper_reading r;
+  size_t place = 0;
+  do {
+    r = fenhamper_capture_read(&s, &state, capture, place);
+    CHECK(fenhamper_log_append_reading(log, 64, &r) == 0);
+    place = (size_t)r.next;
+  } while (r.outcome != 0);
+  CHECK(r.kind == FENHAMPER_OPEN && memcmp(logged, kept_of_traffic, sizeof logged) == 0);
+  /* the log is full now */
+  memcpy(was, logged, sizeof was);
+  CHECK(fenhamper_log_append_reading(log, 64, &r) == 0);
+  r = fenhamper_capture_read(&s, &state, capture, LINE);
+  CHECK(r.kind == FENHAMPER_NONE && fenhamper_log_append_reading(log, 64, &r) == 0);
+  r = fenhamper_capture_read(&s, &state, capture, LINE + 1);
+  CHECK(r.refusal == FENHAMPER_BAD_PLACE && fenhamper_log_append_reading(log, 64, &r) == 0);
+  r = fenhamper_capture_read(&s, &state, capture, 0);
+  CHECK(r.outcome == FENHAMPER_HANDED_OUT && fenhamper_log_append_reading(log, 64, &r) == FENHAMPER_LOG_FULL);
+  CHECK(same_but(4));
+}
+
+/* How a walk that keeps its readings must have ended. */
+static int ended(fenhamper_kept kept, uint64_t end, uint64_t next, uint64_t records) {
+  return kept.refusal == 0 && kept.end == end && kept.next == next && kept.records == records;
+}
+
+/* All of the line in one log; the state is that of the walk. */
+static void a_walk_keeps_its_readings(void) {
+  fenhamper_settings s = fenhamper_settings_for(own);
+  fenhamper_capture capture = traffic();
+  fenhamper_state walked = state, archives = state;
+  fenhamper_kept kept;
+  fenhamper_record log[4];
+  zero_log();
+  CHECK(ended(fenhamper_capture_keep(&s, &state, capture, 0, logged, 4), FENHAMPER_END_OPEN, 260, 4));
+  CHECK(memcmp(logged, kept_of_traffic, sizeof logged) == 0);
+  CHECK(fenhamper_capture_walk(&s, &walked, capture).starts == 4 && memcmp(&state, &walked, sizeof state) == 0);
+  /* the inline one is the archive's */
+  memset(log, 0, sizeof log);
+  fenhamper_walk_log(&s, &archives, octets, LINE, marks, LINE, 0, (uint8_t *)log, sizeof log, &kept);
+  CHECK(ended(kept, FENHAMPER_END_OPEN, 260, 4) && memcmp(log, logged, sizeof log) == 0);
+  CHECK(memcmp(&state, &archives, sizeof state) == 0);
+  /* none and open end it, where no record is left too */
+  CHECK(ended(fenhamper_capture_keep(&s, &state, capture, 202, logged, 4), FENHAMPER_END_OPEN, 260, 0));
+  CHECK(ended(fenhamper_capture_keep(&s, &state, capture, 261, logged, 4), FENHAMPER_END_NONE, LINE, 0));
+  CHECK(ended(fenhamper_capture_keep(&s, &state, capture, 261, logged, 0), FENHAMPER_END_NONE, LINE, 0));
+  CHECK(memcmp(&state, &archives, sizeof state) == 0 && memcmp(log, logged, sizeof log) == 0);
+}
+
+/* A Start that finds no record is not counted, and another log gets it: nothing is lost, and nothing comes twice. */
+static void a_full_log_goes_on_with_another(void) {
+  fenhamper_settings s = fenhamper_settings_for(own);
+  fenhamper_capture capture = traffic();
+  fenhamper_state whole = state;
+  fenhamper_kept kept;
+  size_t place = 0, i;
+  CHECK(fenhamper_capture_walk(&s, &whole, capture).refusal == 0);
+  zero_log();
+  CHECK(ended(fenhamper_capture_keep(&s, &state, capture, 0, logged, 0), FENHAMPER_END_FULL, 0, 0));
+  CHECK(fenhamper_counter(&state, FENHAMPER_HANDED_OUT) == 0);
+  for (i = 0; i < 3; i++) {
+    kept = fenhamper_capture_keep(&s, &state, capture, place, logged + i, 1);
+    CHECK(ended(kept, FENHAMPER_END_FULL, i == 0 ? 75 : i == 1 ? 159 : 201, 1));
+    place = (size_t)kept.next;
+  }
+  CHECK(fenhamper_counter(&state, FENHAMPER_CUT) == 1 && fenhamper_counter(&state, FENHAMPER_BAD_PREAMBLE) == 0);
+  CHECK(ended(fenhamper_capture_keep(&s, &state, capture, place, logged + 3, 1), FENHAMPER_END_OPEN, 260, 1));
+  CHECK(memcmp(logged, kept_of_traffic, sizeof logged) == 0 && memcmp(&state, &whole, sizeof state) == 0);
+  /* holes of a log are filled in order */
+  log_of(9, 0, 9, 0);
+  fenhamper_fresh_state(&state);
+  CHECK(ended(fenhamper_capture_keep(&s, &state, capture, 0, logged, 4), FENHAMPER_END_FULL, 159, 2));
+  CHECK(same(&logged[1], &kept_of_traffic[0]) && same(&logged[3], &kept_of_traffic[1]));
+  CHECK(same(&logged[0], &was[0]) && same(&logged[2], &was[2]));
+}
+
+/* Whether a walk that keeps its readings is refused so, and leaves state and log. */
+static int refused(const fenhamper_settings *s, size_t marks_length, size_t place, size_t log_length, uint64_t refusal) {
+  fenhamper_state before;
+  fenhamper_kept kept;
+  uint8_t *log = log_of(0, 0, 0, 0);
+  memset(&state, 0xFF, sizeof state);
+  before = state;
+  fenhamper_walk_log(s, &state, octets, LINE, marks, marks_length, place, log, log_length, &kept);
+  return kept.refusal == refusal && kept.end == 0 && kept.next == place && kept.records == 0 && same_but(4) && memcmp(&state, &before, sizeof state) == 0;
+}
+
+static void a_walk_with_a_log_is_refused_in_order(void) {
+  fenhamper_settings s = fenhamper_settings_for(own), bad = s;
+  traffic();
+  bad.limit = 0;
+  CHECK(refused(&bad, LINE - 1, LINE + 1, 63, FENHAMPER_BAD_SETTINGS));
+  CHECK(refused(&s, LINE - 1, LINE + 1, 63, FENHAMPER_BAD_BUFFERS));
+  CHECK(refused(&s, LINE, LINE + 1, 63, FENHAMPER_BAD_PLACE));
+  CHECK(refused(&s, LINE, LINE, 63, FENHAMPER_BAD_LOG));
+  CHECK(refused(&s, LINE, 0, 1, FENHAMPER_BAD_LOG));
+}
+
 int main(void) {
   CHECK(fenhamper_layout_2() == FENHAMPER_LAYOUT);
   settings_are_the_printing_programs();
@@ -205,5 +445,15 @@ int main(void) {
   counters_go_by_the_outcome();
   every_number_has_a_name();
   a_part_is_kept_inside();
+  a_record_stands_low_octet_first();
+  appending_takes_the_first_unused_one();
+  outcome_0_is_not_appended();
+  a_record_is_read_by_its_number();
+  a_log_is_read_back();
+  a_bad_log_is_refused();
+  readings_are_appended();
+  a_walk_keeps_its_readings();
+  a_full_log_goes_on_with_another();
+  a_walk_with_a_log_is_refused_in_order();
   return wrong;
 }

@@ -23,6 +23,7 @@ static fenhamper_state state;
 static fenhamper_client client;
 static uint16_t quanta[FENHAMPER_CLASSES];
 static size_t symbols;
+static fenhamper_record logged[2000];
 
 static void run(void) { what(); }
 
@@ -56,6 +57,45 @@ static void walk_short(void) {
 static void walk_long(void) {
   fenhamper_walked walked;
   fenhamper_walk(&settings, &state, octets, symbols, marks, symbols, &walked);
+}
+
+static void walk_log_short(void) {
+  fenhamper_kept kept;
+  memset(logged, 0, sizeof logged);
+  fenhamper_walk_log(&settings, &state, octets, 4096, marks, 4096, 0, (uint8_t *)logged, sizeof logged, &kept);
+}
+
+static void walk_log_long(void) {
+  fenhamper_kept kept;
+  memset(logged, 0, sizeof logged);
+  fenhamper_walk_log(&settings, &state, octets, symbols, marks, symbols, 0, (uint8_t *)logged, sizeof logged, &kept);
+}
+
+/* The records of the walk above stand in front. */
+static void log_append(void) {
+  fenhamper_record record = {.outcome = FENHAMPER_HANDED_OUT};
+  fenhamper_log_append((uint8_t *)logged, sizeof logged, &record);
+}
+
+static void log_append_reading(void) {
+  fenhamper_reading reading = {.outcome = FENHAMPER_HANDED_OUT};
+  fenhamper_log_append_reading((uint8_t *)logged, sizeof logged, &reading);
+}
+
+static void log_record(void) {
+  fenhamper_record record;
+  fenhamper_log_record((const uint8_t *)logged, sizeof logged, 1, &record);
+}
+
+static void log_next(void) {
+  fenhamper_record record;
+  size_t at = 1;
+  fenhamper_log_next((const uint8_t *)logged, sizeof logged, &at, &record);
+}
+
+static void log_used(void) {
+  size_t used;
+  fenhamper_log_used((const uint8_t *)logged, sizeof logged, &used);
 }
 
 static void send_client(void) {
@@ -102,6 +142,13 @@ int main(void) {
   hold("read", read_one, FENHAMPER_STACK_READ);
   hold("walk, under 8,192 symbols", walk_short, FENHAMPER_STACK_WALK);
   hold("walk", walk_long, FENHAMPER_STACK_WALK);
+  hold("walk_log, under 8,192 symbols", walk_log_short, FENHAMPER_STACK_WALK);
+  hold("walk_log", walk_log_long, FENHAMPER_STACK_WALK);
+  hold("log_append", log_append, FENHAMPER_STACK_READ);
+  hold("log_append_reading", log_append_reading, FENHAMPER_STACK_READ);
+  hold("log_record", log_record, FENHAMPER_STACK_READ);
+  hold("log_next", log_next, FENHAMPER_STACK_READ);
+  hold("log_used", log_used, FENHAMPER_STACK_READ);
   hold("send_client", send_client, FENHAMPER_STACK_SEND);
   hold("send_pause", send_pause, FENHAMPER_STACK_SEND);
   hold("send_pfc", send_pfc, FENHAMPER_STACK_SEND);

@@ -229,6 +229,7 @@ def reading_hits(c, r):
                 side = 0 if f.field == 0 else 1 if f.field < 45 else 100 if 47 < f.field < 1500 else 1510 if 1501 < f.field < 1535 else f.field
                 names = {0: "0", 1: "1 to 44", 100: "48 to 1499", 1510: "1502 to 1534"}
                 hits.add(f"reading: field {names.get(side, side)} {'broken' if n == 6 else 'kept'}, {tagged}")
+                hits |= padding_hits(f, tagged, "broken" if n == 6 else "kept")
             elif f.field == 1536:
                 hits.add("reading: field 1536, a type")
         elif f.field < 1536:
@@ -255,6 +256,18 @@ def reading_hits(c, r):
         if c.state.counters[n - 1] == 2**32 - 1:
             hits.add("reading: a counter rolls over")
     return hits
+
+
+def padding_hits(f, tagged, rule):
+    """What a frame hits by item 2: "data whose length is the larger of the field and 46 - 4 × n, or the 46 of before; nothing else" """
+    if not f.tags or f.field >= 46:
+        return set()
+    by_tags = 46 - 4 * len(f.tags)
+    if len(f.data) == 46:
+        return {f"reading: {tagged}, padded to 46: {rule}"}
+    over = len(f.data) - max(f.field, by_tags)
+    by = "field" if f.field > by_tags else "tags"
+    return {f"reading: {tagged}, shortest data by the {by}{f', and {over:+d}' if over else ''}: {rule}"} if abs(over) <= 1 else set()
 
 
 def tag_hits(f, status):
@@ -313,8 +326,9 @@ def some_state(r, free=None):
 
 
 def address_of(r, s, to):
-    return {"own": s.own, "reserved": RESERVED_GROUP, "broadcast": BROADCAST, "listed": s.listed[r.randrange(max(1, s.count)) % 4],
-            "past": s.listed[min(s.count, 3)], "near": s.own[:5] + [s.own[5] ^ 1], "group": some_address(r, True), "other": some_address(r)}[to]
+    past = next((a for a in s.listed[s.count:] if a != BROADCAST), s.listed[3])
+    return {"own": s.own, "reserved": RESERVED_GROUP, "broadcast": BROADCAST, "listed": s.listed[r.randrange(max(1, s.count)) % 4], "past": past,
+            "near": s.own[:5] + [s.own[5] ^ 1], "group": some_address(r, True), "other": some_address(r)}[to]
 
 
 def frame(r, s, to=None, tags=0, field=None, data=None, control=None, quanta=None, named=None, size=None, fcs=True):
@@ -529,7 +543,10 @@ READINGS = (
         (1501, 46), (1520, 50), (1536, 46)]]
     + [{"to": "own", "tags": 1, "field": f, "data": d, "settings": to_own()} for f, d in [(42, 42), (45, 45), (46, 45)]]
     + [{"to": "own", "tags": t, "field": f, "data": d, "settings": to_own()} for t in (2, 8) for f, d in
-       [(0, 46), (0, 46 - 4 * t), (45, 46), (45, 47), (46, 46), (46, 47), (47, 47), (47, 46), (1501, 46), (1536, 46)]]
+       [(0, 46), (0, 46 - 4 * t), (0, 47 - 4 * t), (45, 46), (45, 47), (46, 46), (46, 47), (47, 47), (47, 46), (1501, 46), (1536, 46)]]
+    # the shorter padding of item 2, by the tags and by the field; one octet less by the tags would be an undersized frame
+    + [{"to": "own", "tags": t, "field": f, "data": d, "settings": to_own()} for t in (1, 2, 8) for f, d in
+       [(10, 46 - 4 * t), (10, 47 - 4 * t), (10, 46), (48 - 4 * t, 47 - 4 * t), (48 - 4 * t, 48 - 4 * t), (48 - 4 * t, 49 - 4 * t)]]
     # tags: how many, of which kinds, and a ninth
     + [{"to": "own", "tags": t, "settings": to_own()} for t in (3, 4, 5, 6, 7)]
     + [{"to": "own", "tags": [a], "field": 0x0800, "settings": to_own()} for a in TAG_KINDS]
@@ -541,6 +558,7 @@ READINGS = (
     # the address rule
     + [{"to": x, "control": c, "settings": {"promiscuous": p, "checking": True}} for x in ("own", "listed", "past", "near", "other", "group", "reserved")
        for c in (None, 2) for p in (False,)]
+    + [{"to": "past", "settings": to_own(count=n)} for n in (0, 3)]
     + [{"to": x, "control": c, "settings": {"promiscuous": True, "pass_control": True}} for x in ("other", "broadcast", "reserved") for c in (None, 2)]
     + [{"to": "broadcast", "settings": to_own(broadcast=b, count=4)} for b in (False, True)]
     + [{"to": "broadcast", "control": 2, "tags": 0, "settings": to_own(broadcast=b, count=4, pass_control=p)} for b, p in [(False, True), (True, True), (True, False)]]
@@ -654,6 +672,9 @@ MUST = (
     + [f"reading: M{x}" for x in (", untagged", "+1, untagged", "+4, untagged", "+4, 1 tag", "+5, 1 tag", "+8, 2 tags", "+9, 2 tags", "+32, 8 tags", "+33, 8 tags")]
     + [f"reading: field {x}, {t}" for t in ("2 tags", "8 tags") for x in ("0 kept", "0 broken", "45 kept", "45 broken", "46 kept", "46 broken", "47 kept",
        "47 broken", "1501 broken")]
+    + [f"reading: {t}, {x}" for t in ("1 tag", "2 tags", "8 tags") for x in ("padded to 46: kept", "shortest data by the tags: kept",
+       "shortest data by the tags, and +1: broken", "shortest data by the field, and -1: broken", "shortest data by the field: kept",
+       "shortest data by the field, and +1: broken")]
     + [f"reading: {n}, bits 33 and 32 are {x}" for n, x in [("untagged", "00"), ("1 tag", "10"), ("2 tags", "01"), ("3 tags", "01"), ("8 tags", "01")]]
     + [f"reading: {n}, {x:#06x} outermost" for n in ("1 tag", "2 tags", "8 tags") for x in TAG_KINDS]
     + [f"reading: {a:#06x} outside {b:#06x}" for a in TAG_KINDS for b in TAG_KINDS] + [f"reading: a ninth tag, {x:#06x}, an ordinary type" for x in TAG_KINDS]

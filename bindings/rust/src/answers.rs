@@ -116,7 +116,7 @@ impl fmt::Display for Outcome {
     }
 }
 
-/// Why a call was refused. A refused call leaves the state and every symbol as they were.
+/// Why a call was refused. A refused call leaves the state, every symbol and the log as they were.
 ///
 /// ```
 /// use fenhamper::{Capture, Refusal, Settings, State};
@@ -155,6 +155,12 @@ pub enum Refusal {
     Held,
     /// 10: more than eight tags. It is tested after 6 and before 7.
     ManyTags,
+    /// 11: length of a log no multiple of 16.
+    BadLog,
+    /// 12: no unused record.
+    LogFull,
+    /// 13: record number not used.
+    NotUsed,
     /// A number that has no name here, or 0 for an answer that has no meaning here: the archive is
     /// of another version than this face.
     Unknown(u8),
@@ -175,6 +181,9 @@ impl Refusal {
             Refusal::NoRoom => 8,
             Refusal::Held => 9,
             Refusal::ManyTags => 10,
+            Refusal::BadLog => 11,
+            Refusal::LogFull => 12,
+            Refusal::NotUsed => 13,
             Refusal::Unknown(number) => number,
         }
     }
@@ -193,6 +202,9 @@ impl Refusal {
             Refusal::NoRoom => "no room",
             Refusal::Held => "held",
             Refusal::ManyTags => "many tags",
+            Refusal::BadLog => "bad log",
+            Refusal::LogFull => "log full",
+            Refusal::NotUsed => "not used",
             Refusal::Unknown(_) => "unknown",
         }
     }
@@ -213,6 +225,9 @@ impl Refusal {
             Refusal::NoRoom => "too few symbols from the place to the end of the buffers",
             Refusal::Held => "the timer of the frame's class is above zero",
             Refusal::ManyTags => "more than eight tags",
+            Refusal::BadLog => "length of the log no multiple of 16",
+            Refusal::LogFull => "no unused record",
+            Refusal::NotUsed => "record number not used",
             Refusal::Unknown(_) => "the archive is of another version",
         }
     }
@@ -231,6 +246,9 @@ impl Refusal {
             8 => Refusal::NoRoom,
             9 => Refusal::Held,
             10 => Refusal::ManyTags,
+            11 => Refusal::BadLog,
+            12 => Refusal::LogFull,
+            13 => Refusal::NotUsed,
             other => Refusal::Unknown(u8::try_from(other).unwrap_or(u8::MAX)),
         })
     }

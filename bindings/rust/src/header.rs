@@ -79,6 +79,13 @@ fn in_capitals(name: &str) -> String {
     capitals
 }
 
+// All refusals, in the order of their numbers.
+fn refusals() -> impl Iterator<Item = Refusal> {
+    (1..)
+        .map(|number| Refusal::check(number).unwrap_err())
+        .take_while(|refusal| !matches!(refusal, Refusal::Unknown(_)))
+}
+
 #[test]
 fn numbers_are_the_headers() {
     let mut ours = BTreeMap::new();
@@ -100,8 +107,7 @@ fn numbers_are_the_headers() {
             u64::from(outcome.number()),
         );
     }
-    for number in 1..=10 {
-        let refusal = Refusal::check(number).unwrap_err();
+    for (number, refusal) in (1..).zip(refusals()) {
         assert_eq!(u64::from(refusal.number()), number);
         ours.insert(in_capitals(&format!("{refusal:?}")), number);
     }
@@ -119,8 +125,7 @@ fn names_are_the_headers() {
         (name.to_string(), said.to_string())
     });
     let outcomes = Outcome::ALL.map(|o| (format!("{o:?}"), o.name()));
-    let refusals = (1..=10).map(|n| Refusal::check(n).unwrap_err());
-    let refusals = refusals.map(|r| (format!("{r:?}"), r.name()));
+    let refusals = refusals().map(|r| (format!("{r:?}"), r.name()));
     let ours = outcomes.into_iter().chain(refusals);
     assert_eq!(
         ours.map(|(name, said)| (in_capitals(&name), said.to_string()))

@@ -46,11 +46,15 @@ pub const CLASSES: usize = sys::CLASSES;
 /// How many outcomes there are, 1 to 11, with a counter each: 11.
 pub const OUTCOMES: usize = sys::OUTCOMES;
 
+/// Octets of a record of a log: 16.
+pub const RECORD_SIZE: usize = sys::RECORD_SIZE;
+
 /// Octets of stack that a reading takes at most: 1024.
 pub const STACK_READ: usize = 1024;
 
 /// Octets of stack that a sending call or an Idle fill takes at most: 512.
 pub const STACK_SEND: usize = 512;
 
-/// Octets of stack that a walk takes at most: 18,432, of which 16,384 are for tables.
+/// Octets of stack that a walk takes at most, one that keeps its readings too: 18,432, of which
+/// 16,384 are for tables.
 pub const STACK_WALK: usize = 18432;

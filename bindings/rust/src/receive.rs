@@ -207,6 +207,21 @@ impl Reading<'_> {
             Reading::Counted(counted) => counted.next,
         }
     }
+
+    // As the header lays it out.
+    pub(crate) fn record(&self) -> sys::Reading {
+        let uncounted = |kind| sys::Reading {
+            kind,
+            start: self.start() as u64,
+            next: self.next() as u64,
+            ..sys::Reading::default()
+        };
+        match self {
+            Reading::Nothing { .. } => uncounted(sys::NONE),
+            Reading::Open { .. } => uncounted(sys::OPEN),
+            Reading::Counted(counted) => counted.record(),
+        }
+    }
 }
 
 /// A Start that was counted.
@@ -260,6 +275,20 @@ impl Counted<'_> {
             ..
         } = *self;
         (start, next, outcome, status, at, data)
+    }
+
+    // As the header lays it out.
+    pub(crate) fn record(&self) -> sys::Reading {
+        sys::Reading {
+            kind: sys::COUNTED,
+            outcome: self.outcome.number().into(),
+            start: self.start as u64,
+            next: self.next as u64,
+            status: self.status.word(),
+            data_place: self.at as u64,
+            data_length: self.data.len() as u64,
+            ..sys::Reading::default()
+        }
     }
 }
 

@@ -525,6 +525,11 @@ mod tests {
         let (o, m, s) = (&mut octets, &mut marks, &mut state);
         assert_eq!(sys::read(&settings, s, o, m, 9).refusal, 3);
         assert_eq!(sys::walk(&settings, s, o, &m[1..]).refusal, 2);
+        // 3 comes before 11, which no log of this face gives
+        let mut log = [0xFF; 17];
+        assert_eq!(sys::walk_log(&settings, s, o, m, 9, &mut log).refusal, 3);
+        assert_eq!(sys::walk_log(&settings, s, o, m, 8, &mut log).refusal, 11);
+        assert_eq!(log, [0xFF; 17]);
         let data = b"data";
         assert_eq!(
             sys::send_client(&settings, s, o, m, 0, &client.record, data).refusal,

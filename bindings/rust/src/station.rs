@@ -1,5 +1,6 @@
 //! Settings and state together.
 use crate::answers::Refusal;
+use crate::log::{Kept, Log};
 use crate::receive::{Capture, Reading, Readings, Walk};
 use crate::send::{Frame, Sender};
 use crate::settings::Settings;
@@ -84,6 +85,39 @@ impl Station {
     /// Refusals 1 and 2.
     pub fn walk(&mut self, capture: Capture<'_>) -> Result<Walk, Refusal> {
         capture.walk(&self.settings, &mut self.state)
+    }
+
+    /// [`Capture::walk_log`]: the capture from `place` on in one call, with a record of each counted
+    /// Start appended to a log.
+    ///
+    /// ```
+    /// use fenhamper::{Capture, End, Kept, Log, Station};
+    ///
+    /// let capture = Capture::new(&[0xFB, 0x07, 0xFB, 0xFD], &[1; 4]);
+    /// let mut station = Station::default();
+    /// let mut octets = [0; 16];
+    /// let mut log = Log::new(&mut octets)?;
+    /// let kept = station.walk_log(capture, 0, &mut log)?;
+    /// assert_eq!(kept, Kept { end: End::Full, next: 1, records: 1 });
+    ///
+    /// // go on with another log
+    /// let mut octets = [0; 16];
+    /// let mut log = Log::new(&mut octets)?;
+    /// let kept = station.walk_log(capture, kept.next, &mut log)?;
+    /// assert_eq!(kept, Kept { end: End::None, next: 4, records: 1 });
+    /// # Ok::<(), fenhamper::Refusal>(())
+    /// ```
+    ///
+    /// # Errors
+    ///
+    /// Refusals 1 to 3.
+    pub fn walk_log(
+        &mut self,
+        capture: Capture<'_>,
+        place: usize,
+        log: &mut Log<'_>,
+    ) -> Result<Kept, Refusal> {
+        capture.walk_log(&self.settings, &mut self.state, place, log)
     }
 
     /// [`Sender::client`]: a client frame and its gap.

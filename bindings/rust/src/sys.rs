@@ -16,6 +16,7 @@ pub const MOST_LISTED: usize = 4;
 pub const MOST_TAGS: usize = 8;
 pub const CLASSES: usize = 8;
 pub const OUTCOMES: usize = 11;
+pub const RECORD_SIZE: usize = 16;
 
 pub const FLOW_NONE: u8 = 0;
 pub const FLOW_PAUSE: u8 = 1;
@@ -24,6 +25,10 @@ pub const FLOW_PFC: u8 = 2;
 pub const COUNTED: u64 = 0;
 pub const NONE: u64 = 1;
 pub const OPEN: u64 = 2;
+
+pub const END_NONE: u64 = 1;
+pub const END_OPEN: u64 = 2;
+pub const END_FULL: u64 = 3;
 
 pub const STATUS_PFC: u64 = 1 << 39;
 pub const STATUS_UNICAST: u64 = 1 << 38;
@@ -93,6 +98,25 @@ pub struct Walked {
 }
 
 #[repr(C)]
+#[derive(Default)]
+pub struct Kept {
+    pub refusal: u64,
+    pub end: u64,
+    pub next: u64,
+    pub records: u64,
+}
+
+#[repr(C)]
+#[derive(Default)]
+pub struct Record {
+    pub place: u32,
+    pub outcome: u8,
+    pub zero: u8,
+    pub data_length: u16,
+    pub status: u64,
+}
+
+#[repr(C)]
 #[derive(Clone, Copy, Debug, Default, PartialEq, Eq)]
 pub struct Sent {
     pub refusal: u64,
@@ -129,6 +153,7 @@ pub struct Client {
 // Members of the same names, order and numbers in the layout of C: with the sizes, all is the same.
 const _: () = assert!(size_of::<Settings>() == 48 && size_of::<State>() == 192);
 const _: () = assert!(size_of::<Reading>() == 96 && size_of::<Walked>() == 32);
+const _: () = assert!(size_of::<Kept>() == 32 && size_of::<Record>() == RECORD_SIZE);
 const _: () = assert!(size_of::<Sent>() == 16 && size_of::<Part>() == 16);
 const _: () = assert!(size_of::<Tag>() == 4 && size_of::<Client>() == 44);
 
@@ -153,6 +178,33 @@ extern "C" {
         marks_length: usize,
         walked: &mut Walked,
     );
+    fn fenhamper_walk_log(
+        settings: &Settings,
+        state: &mut State,
+        octets: *const u8,
+        octets_length: usize,
+        marks: *const u8,
+        marks_length: usize,
+        place: usize,
+        log: *mut u8,
+        log_length: usize,
+        kept: &mut Kept,
+    );
+    fn fenhamper_log_append(log: *mut u8, log_length: usize, record: &Record) -> u32;
+    fn fenhamper_log_append_reading(log: *mut u8, log_length: usize, reading: &Reading) -> u32;
+    fn fenhamper_log_record(
+        log: *const u8,
+        log_length: usize,
+        number: usize,
+        record: &mut Record,
+    ) -> u32;
+    fn fenhamper_log_next(
+        log: *const u8,
+        log_length: usize,
+        at: &mut usize,
+        record: &mut Record,
+    ) -> u32;
+    fn fenhamper_log_used(log: *const u8, log_length: usize, used: &mut usize) -> u32;
     fn fenhamper_client_data(octets_length: usize, place: usize, length: usize, part: &mut Part);
     fn fenhamper_send_client(
         settings: &Settings,
@@ -261,6 +313,66 @@ pub fn walk(settings: &Settings, state: &mut State, octets: &[u8], marks: &[u8])
         );
     }
     walked
+}
+
+pub fn walk_log(
+    settings: &Settings,
+    state: &mut State,
+    octets: &[u8],
+    marks: &[u8],
+    place: usize,
+    log: &mut [u8],
+) -> Kept {
+    let mut kept = Kept::default();
+    // SAFETY: each pointer and length is one slice's, and the log is lent alone.
+    unsafe {
+        fenhamper_walk_log(
+            settings,
+            state,
+            octets.as_ptr(),
+            octets.len(),
+            marks.as_ptr(),
+            marks.len(),
+            place,
+            log.as_mut_ptr(),
+            log.len(),
+            &mut kept,
+        );
+    }
+    kept
+}
+
+// Of the calls on a log the answer is the refusal's number; what they give beside it is 0 for a
+// refusal.
+pub fn log_append(log: &mut [u8], record: &Record) -> u64 {
+    // SAFETY: the pointer and the length are one slice's, and it is lent alone.
+    unsafe { fenhamper_log_append(log.as_mut_ptr(), log.len(), record) }.into()
+}
+
+pub fn log_append_reading(log: &mut [u8], reading: &Reading) -> u64 {
+    // SAFETY: the pointer and the length are one slice's, and it is lent alone.
+    unsafe { fenhamper_log_append_reading(log.as_mut_ptr(), log.len(), reading) }.into()
+}
+
+pub fn log_record(log: &[u8], number: usize) -> (u64, Record) {
+    let mut record = Record::default();
+    // SAFETY: the pointer and the length are one slice's.
+    let refusal = unsafe { fenhamper_log_record(log.as_ptr(), log.len(), number, &mut record) };
+    (refusal.into(), record)
+}
+
+pub fn log_next(log: &[u8], at: &mut usize) -> (u64, Record) {
+    let mut record = Record::default();
+    // SAFETY: the pointer and the length are one slice's.
+    let refusal = unsafe { fenhamper_log_next(log.as_ptr(), log.len(), at, &mut record) };
+    (refusal.into(), record)
+}
+
+pub fn log_used(log: &[u8]) -> (u64, usize) {
+    let mut used = 0;
+    // SAFETY: the pointer and the length are one slice's.
+    let refusal = unsafe { fenhamper_log_used(log.as_ptr(), log.len(), &mut used) };
+    (refusal.into(), used)
 }
 
 pub fn send_client(

@@ -1,9 +1,14 @@
 //! The examples' own functions, run on captures that are made here, and on the samples where they are.
 use fenhamper::{
-    limits, Address, Capture, Flow, Frame, Outcome, Sender, Settings, Station, Status, Tag, SYMBOLS,
+    limits, records, Address, Capture, End, Flow, Frame, Record, Sender, Settings, Station, Status,
+    Tag, SYMBOLS,
 };
 use std::fs;
 use std::path::Path;
+
+#[allow(dead_code)]
+#[path = "../examples/keep_readings.rs"]
+mod keep_readings;
 
 #[allow(dead_code)]
 #[path = "../examples/read_capture.rs"]
@@ -51,6 +56,34 @@ fn the_reader_names_what_it_reads() {
     );
 }
 
+// What the keeper prints, with so many records in each log.
+fn printed_logs(records: &[u8], capacity: usize) -> Result<String, String> {
+    let mut out = Vec::new();
+    match keep_readings::print(records, capacity, &mut out) {
+        Ok(()) => Ok(String::from_utf8(out).unwrap()),
+        Err(error) => Err(error.to_string()),
+    }
+}
+
+#[test]
+fn the_keeper_goes_on_with_another_log() {
+    // cut, bad preamble, open
+    let records = [1, 0xFB, 1, 0x07, 1, 0xFB, 0, 0x55, 1, 0xFD, 1, 0xFB];
+    let (cut, bad, open) = ("     0 cut\n", "     2 bad preamble\n", "     5 open\n");
+    let expected = [
+        // with no record a log is full at once
+        "log 1, 0 of 0 records:\n".to_string(),
+        format!("log 1, 1 of 1 records:\n{cut}log 2, 1 of 1 records:\n{bad}{open}"),
+        format!("log 1, 2 of 2 records:\n{cut}{bad}{open}"),
+        format!("log 1, 2 of 3 records:\n{cut}{bad}{open}"),
+    ];
+    for (capacity, expected) in (0..).zip(expected) {
+        assert_eq!(printed_logs(&records, capacity), Ok(expected));
+    }
+    assert_eq!(printed_logs(&[], 1).unwrap(), "log 1, 0 of 1 records:\n");
+    printed_logs(&[1], 1).unwrap_err();
+}
+
 #[test]
 fn the_reader_tells_bad_records() {
     assert_eq!(printed(&[]).unwrap(), "");
@@ -64,18 +97,67 @@ fn the_reader_tells_bad_records() {
     );
 }
 
-// The samples' texts have place, outcome, status word and length of each reading.
-#[test]
-fn the_reader_reads_the_samples() {
+// The samples with their texts, which have place, outcome, status word and length of each reading;
+// none outside the repository.
+fn samples() -> Vec<(Vec<u8>, String)> {
     let samples = Path::new(env!("CARGO_MANIFEST_DIR")).join("../../samples");
     if !samples.is_dir() {
-        return;
+        return Vec::new();
     }
-    for name in [
+    let names = [
         "empty", "example", "first", "noise", "odd", "open", "outcomes", "tags",
-    ] {
+    ];
+    let sample = |name: &str| {
         let records = fs::read(samples.join(name).with_extension("capture")).unwrap();
         let text = fs::read_to_string(samples.join(name).with_extension("txt")).unwrap();
+        (records, text)
+    };
+    names.map(sample).to_vec()
+}
+
+// A text's numbers as the record of a log.
+fn record(line: &str) -> Record {
+    let numbers: Vec<u64> = line.split(' ').map(|n| n.parse().unwrap()).collect();
+    Record {
+        place: u32::try_from(numbers[0]).unwrap(),
+        outcome_number: u8::try_from(numbers[1]).unwrap(),
+        zero: 0,
+        data_length: u16::try_from(numbers[3]).unwrap(),
+        status: Status::new(numbers[2]),
+    }
+}
+
+#[test]
+fn the_keeper_keeps_the_samples() {
+    for (records, text) in samples() {
+        let (mut octets, mut marks) = (vec![0; SYMBOLS], vec![0; SYMBOLS]);
+        let Ok(capture) = records::capture(&records, &mut octets, &mut marks) else {
+            assert_eq!(text, "bad input\n");
+            continue;
+        };
+        let (readings, last) = text.trim_end().rsplit_once('\n').unwrap_or(("", &text));
+        let expected: Vec<_> = readings.lines().map(record).collect();
+        for capacity in [1, 2, 7, 100] {
+            let (mut station, mut logs) = (Station::default(), Vec::new());
+            let kept = keep_readings::keep(&mut station, capture, capacity, |log| {
+                assert_eq!(log.capacity(), capacity);
+                logs.push(log.records().collect::<Vec<_>>());
+            });
+            let open = kept.unwrap().end == End::Open;
+            assert_eq!(logs.concat(), expected);
+            assert_eq!(
+                last.trim_end(),
+                format!("starts {} open {}", expected.len(), u8::from(open))
+            );
+            // each log is full before the next is begun
+            assert_eq!(logs.len(), expected.len().div_ceil(capacity).max(1));
+        }
+    }
+}
+
+#[test]
+fn the_reader_reads_the_samples() {
+    for (records, text) in samples() {
         let expected: Vec<_> = text.lines().collect();
         let Some((last, expected)) = expected
             .split_last()
@@ -88,10 +170,9 @@ fn the_reader_reads_the_samples() {
         let lines: Vec<_> = lines.lines().collect();
         assert!(lines.len() >= expected.len());
         for (line, expected) in lines.iter().zip(expected) {
-            let numbers: Vec<u64> = expected.split(' ').map(|n| n.parse().unwrap()).collect();
-            let outcome = Outcome::from_number(u8::try_from(numbers[1]).unwrap()).unwrap();
-            let status = Status::new(numbers[2]);
-            let place = numbers[0];
+            let expected = record(expected);
+            let outcome = expected.outcome().unwrap();
+            let (place, status) = (expected.place, expected.status);
             let words = match status.word() {
                 0 => String::new(),
                 _ => format!(": {status}"),

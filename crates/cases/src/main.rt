@@ -363,24 +363,110 @@ fn sending(c: Call, d: &[u8], o: &mut [u8], m: &mut [u8]) {
     changes(&before, &after);
 }
 
-// ---- cases
+// ---- the log
 
-fn called(t: &[u8], r: usize, o: &mut [u8], m: &mut [u8]) {
-    let name = field(t, r, 1);
-    let c = call_at(t, r);
-    if c.kind == 0 {
-        reading(name, c, o, m);
+fn refusal(n: u32) {
+    told(b" fine||| refused 0", which(n as u64, 0), &[n as u64]);
+}
+
+// The 16 octets, four at a time.
+fn record_told(record: &[u8; 16]) {
+    let x = number(record, 0, 0);
+    let y = number(record, 0, 1);
+    told(
+        b" record A B C D",
+        0,
+        &[
+            x / 4294967296,
+            x % 4294967296,
+            y / 4294967296,
+            y % 4294967296,
+        ],
+    );
+}
+
+fn log_told(log: &[u8]) {
+    let sum = fenhamper::fenhamper_fcs(log) as u64;
+    told(b" log 0 B", 0, &[log.len() as u64, sum]);
+}
+
+// The numbers of a reading are the first of those on the tape in place of a state.
+fn append_reading(c: Call, log: &mut [u8]) {
+    let n = c.state;
+    let a = [
+        n[0],
+        n[1],
+        n[2],
+        n[3],
+        n[4],
+        n[5],
+        n[6],
+        n[7],
+        n[8],
+        n[9],
+        n[10],
+        n[11],
+    ];
+    refusal(fenhamper::fenhamper_log_append_reading(log, &a));
+}
+
+// Record k; the next record of a reader that stands at k; how many are used, where k was told before.
+fn look(before: [u8; 16], log: &[u8], k: usize) {
+    let mut record = before;
+    refusal(fenhamper::fenhamper_log_record(log, k, &mut record));
+    record_told(&record);
+    let mut at = k;
+    let mut next = before;
+    refusal(fenhamper::fenhamper_log_next(log, &mut at, &mut next));
+    record_told(&next);
+    let mut used = k;
+    refusal(fenhamper::fenhamper_log_used(log, &mut used));
+    told(b" at 0 used 1", 0, &[at as u64, used as u64]);
+}
+
+fn log_call(c: Call, record: [u8; 16], log: &mut [u8]) {
+    if c.kind == 5 {
+        refusal(fenhamper::fenhamper_log_append(log, &record));
         return;
     }
-    io::write_all(1, name);
-    sending(c, field(t, r, 10), o, m);
+    if c.kind == 6 {
+        append_reading(c, log);
+        return;
+    }
+    look(record, log, c.place);
 }
 
-fn filled(t: &[u8], r: usize, o: &mut [u8], m: &mut [u8]) {
-    octets(t, (number(t, r, 8) / 4294967296) as usize, o);
-    octets(t, (number(t, r, 9) / 4294967296) as usize, m);
-    called(t, r, o, m);
+// Every call on a log but the walk: the log stands in place of the octets, a record in place of the client frame.
+fn logged(t: &[u8], r: usize, c: Call, log: &mut [u8]) {
+    let mut record = [0u8; 16];
+    octets(t, number(t, r, 4) as usize, &mut record);
+    log_call(c, record, log);
+    log_told(log);
+    io::write_all(1, b"\n");
 }
+
+fn keep_told(a: &[u64; 4]) {
+    told(
+        b" kept 3 end 1 next 2||| refused 0 next 2",
+        which(a[0], 0),
+        a,
+    );
+}
+
+// A walk that keeps its readings, in the log that lies at a place.
+fn keep(t: &[u8], at: usize, c: Call, o: &[u8], m: &[u8], log: &mut [u8]) {
+    octets(t, at, log);
+    let s = c.settings;
+    let before = c.state;
+    let mut state = before;
+    let mut a = [0u64; 4];
+    fenhamper::fenhamper_walk_log(&s, &mut state, o, m, c.place, log, &mut a);
+    keep_told(&a);
+    log_told(log);
+    changes(&before, &state);
+}
+
+// ---- cases
 
 fn blank() -> [u8; 65537]
     ensures { λ r. ⌜ 65537 ≡ length r ⌝ }
@@ -393,6 +479,39 @@ fn most(n: u64) -> usize
 {
     let k = n % 4294967296;
     if k < 65538 { k as usize } else { 65537 }
+}
+
+// The log of a walk is the last that the call names.
+fn kept(t: &[u8], r: usize, c: Call, o: &[u8], m: &[u8]) {
+    let mut l = blank();
+    let named = number(t, r, 11);
+    let n = most(named);
+    keep(t, (named / 4294967296) as usize, c, o, m, &mut l[0..n]);
+}
+
+fn called(t: &[u8], r: usize, o: &mut [u8], m: &mut [u8]) {
+    let name = field(t, r, 1);
+    let c = call_at(t, r);
+    if c.kind == 0 {
+        reading(name, c, o, m);
+        return;
+    }
+    io::write_all(1, name);
+    if c.kind == 8 {
+        kept(t, r, c, o, m);
+        return;
+    }
+    if 4 < c.kind {
+        logged(t, r, c, o);
+        return;
+    }
+    sending(c, field(t, r, 10), o, m);
+}
+
+fn filled(t: &[u8], r: usize, o: &mut [u8], m: &mut [u8]) {
+    octets(t, (number(t, r, 8) / 4294967296) as usize, o);
+    octets(t, (number(t, r, 9) / 4294967296) as usize, m);
+    called(t, r, o, m);
 }
 
 fn case(t: &[u8], r: usize) {

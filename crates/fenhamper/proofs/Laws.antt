@@ -1,8 +1,8 @@
 -- What the arrays' meanings keep: a part handed over as place and length is the module's own client data; a state that crossed back is the
--- same state. Assume nothing.
+-- same state; the record of a reading is the same by its numbers; a record of a log is given out as it stands there. Assume nothing.
 use Prim.Native.Nat.{ℕ, zero, suc, _+_, _-_, _%_, _<_}
 use native.Mathlib.Numerals.{add-one}
-use mathlib.Core.Path.{_≡_, refl, ap, ap₂, _∙_}
+use mathlib.Core.Path.{_≡_, refl, sym, ap, ap₂, _∙_}
 use mathlib.Core.List.{List, [], _∷_}
 use lib.ListN.{length, getD, take, drop}
 use lib.Dec.{leb}
@@ -10,9 +10,23 @@ use Rattle.line.proofs.Symbols.{by-test}
 use Rattle.station.specs.declared.Part.{Part}
 use Rattle.station.specs.declared.Slots.{Slots}
 use Rattle.station.specs.declared.State.{State}
+use Rattle.station.specs.declared.Outcome.{Outcome}
+use Rattle.station.specs.declared.Outcome.the-variants.{Cut, BadPreamble, Undersized, Oversized, WrongFcs, WrongLength, Filtered}
+use Rattle.station.specs.declared.Outcome.the-variants.{PauseTaken, PfcTaken, ControlDropped, HandedOut}
+use Rattle.station.specs.Numbers.{outcomeNumber}
 use Rattle.flow.specs.Timers.{timer}
+use Rattle.receive.specs.declared.Answer.{Answer}
+use Rattle.receive.specs.declared.Answer.the-variants.{Counted}
+use Rattle.receive.specs.declared.Reading.{Reading}
+use Rattle.receive.specs.Values.{answerOutcome, answerStatus, answerPart}
 use Rattle.receive.specs.Reading.{partOf}
-use Rattle.fenhamper.specs.Face.{each, lowAt, countersOf, timersOf, stateOf, stateNumbers, partWithin}
+use Rattle.log.specs.declared.LogRead.the-variants.{Holds}
+use Rattle.log.specs.Log.{recordOf, slotAt, recordRead}
+use Rattle.log.specs.Claims.{OfOctets, IsMultiple, Used}
+use Rattle.log.proofs.Searches.{slot-stands}
+use Rattle.log.proofs.Calls.{good-log, read-used}
+use Rattle.logging.specs.Records.{recordAt, recordOfReading}
+use Rattle.fenhamper.specs.Face.{each, lowAt, countersOf, timersOf, stateOf, stateNumbers, partWithin, recordNamed, readingNumbers, recordLeft}
 
 -- the octets from the place, so many of them, are what `client_data` hands out
 pub part-is : (os : List ℕ) (at len : ℕ)
@@ -57,3 +71,39 @@ state-crosses st eleven eight counters timers =
     ∙ rw eight at (each-all (record { 0 = 0 }) (st .timers))
     in
     ap₂ (λ (c : List ℕ) (t : List Slots). record { counters = c; timers = t }) cs ts
+
+-- ---- records of a log
+
+-- of a reading that crossed, the record that is appended is the reading's own
+outcome-low : (a : Answer) → answerOutcome a % 256 ≡ answerOutcome a
+outcome-low (Answer.Refused x) = refl
+outcome-low Answer.Nothing = refl
+outcome-low Answer.Open = refl
+outcome-low (Counted o w p) = number-low o
+  where
+    number-low : (o : Outcome) → outcomeNumber o % 256 ≡ outcomeNumber o
+    number-low Cut = refl
+    number-low BadPreamble = refl
+    number-low Undersized = refl
+    number-low Oversized = refl
+    number-low WrongFcs = refl
+    number-low WrongLength = refl
+    number-low Filtered = refl
+    number-low PauseTaken = refl
+    number-low PfcTaken = refl
+    number-low ControlDropped = refl
+    number-low HandedOut = refl
+
+pub reading-record : (r : Reading) → recordNamed (readingNumbers r) ≡ recordOfReading r
+unfolding recordNamed readingNumbers recordOfReading lowAt
+reading-record r =
+    ap (λ (n : ℕ). recordAt (r .start) n (answerPart (r .answer) .len) (answerStatus (r .answer))) (outcome-low (r .answer))
+
+-- a record that is read is given out as its octets stand in the log, and is the same where these cross to the module again
+module _ (l before : List ℕ) (k : ℕ) (octets : OfOctets l) (good : IsMultiple l) (used : Used l k) where
+  pub record-given : recordLeft before (recordRead l k) ≡ slotAt l k
+  unfolding recordLeft
+  record-given = ap (recordLeft before) (read-used l k (good-log l good) used) ∙ slot-stands l k octets good used
+
+  pub record-crosses : Holds (recordOf (recordLeft before (recordRead l k))) ≡ recordRead l k
+  record-crosses = ap (λ (s : List ℕ). Holds (recordOf s)) record-given ∙ sym (read-used l k (good-log l good) used)

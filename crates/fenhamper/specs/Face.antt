@@ -19,6 +19,20 @@ use Rattle.receive.specs.declared.Answer.the-variants.{Nothing, Open, Counted}
 use Rattle.receive.specs.declared.Reading.{Reading}
 use Rattle.receive.specs.declared.WalkEnd.{WalkEnd}
 use Rattle.receive.specs.Values.{answerOutcome, answerRefusal, answerStatus, answerPart, walkedRefusal, walkedStarts, walkedOpen}
+use Rattle.log.specs.declared.Record.{Record}
+use Rattle.log.specs.declared.LogRead.{LogRead}
+use Rattle.log.specs.declared.LogRead.the-variants.{Holds}
+use Rattle.log.specs.declared.LogNumber.{LogNumber}
+use Rattle.log.specs.declared.LogNumber.the-variants.{Number}
+use Rattle.log.specs.declared.Step.{Step}
+use Rattle.log.specs.Numbers.{loggedRefusal, logReadRefusal, logNumberRefusal}
+use Rattle.log.specs.Log.{octetsOfRecord, Logging}
+use Rattle.logging.specs.declared.LogEnd.{LogEnd}
+use Rattle.logging.specs.declared.LogEnd.the-variants.{Full}
+use Rattle.logging.specs.declared.KeepRefusal.{KeepRefusal}
+use Rattle.logging.specs.declared.LogWalk.{LogWalk}
+use Rattle.logging.specs.Walks.{Keeping}
+use Rattle.logging.specs.Claims.{endRefusal}
 use Rattle.writing.specs.declared.Client.{Client}
 use Rattle.writing.specs.declared.Classes.{Classes}
 use Rattle.writing.specs.declared.Kind.{Kind}
@@ -110,6 +124,11 @@ quantaOf n = record { 0 = n }
 unfoldable pub classesOf : ℕ → List ℕ → Classes
 classesOf named l = record { named = named; quanta = each (λ (i : ℕ). quantaOf (getD l i 0)) 0 8 }
 
+-- the record of a reading, of its 12 numbers: place, outcome, octets handed out and status word, of each its low bits, as many as the field has
+unfoldable pub recordNamed : List ℕ → Record
+recordNamed n =
+    record { place = lowAt n 3; outcome = getD n 2 0 % 256; zero = 0; handed = getD n 7 0 % 65536; status = getD n 5 0 }
+
 -- ---- what crosses back
 
 -- a state as 24 numbers: counters, timers, and zeros for what is kept for later
@@ -144,6 +163,20 @@ walkNumbers w = walkedRefusal (w .answer) ∷ walkedStarts (w .answer) ∷ walke
 -- a sending call, as 2 numbers: refusal, and the place behind what was written
 unfoldable pub sentNumbers : Sent → List ℕ
 sentNumbers s = wentRefusal (s .answer) ∷ s .place ∷ []
+
+-- a walk that keeps its readings, as 4 numbers: refusal, how it ended (0 refused, 1 `none`, 2 `open`, 3 no record unused), the next place, and how many
+-- records were appended
+abbrev pub keepRefusalNumber : KeepRefusal → ℕ
+keepRefusalNumber x = endRefusal (LogEnd.Refused x)
+
+abbrev pub endKind : LogEnd → ℕ
+endKind (LogEnd.Refused x) = 0
+endKind LogEnd.Nothing = 1
+endKind LogEnd.Open = 2
+endKind Full = 3
+
+unfoldable pub keepNumbers : LogWalk → List ℕ
+keepNumbers w = endRefusal (w .end) ∷ endKind (w .end) ∷ w .next ∷ w .kept ∷ []
 
 -- the part itself if it lies inside n octets, else 0 and 0
 unfoldable pub partWithin : ℕ → ℕ → ℕ → List ℕ
@@ -181,3 +214,70 @@ wrote a st os ms = record { answer = a; state = st; octets = os; marks = ms }
 -- of a sending call, likewise
 unfoldable pub sendTold : List ℕ → Sending → Wrote
 sendTold before x = wrote (sentNumbers (x .given)) (stateLeft (wentRefusal (x .given .answer)) before (x .given .state)) (x .octets) (x .marks)
+
+-- ---- what a call over a log leaves: its answer is the refusal's number
+
+pub record Kept : Type 0 where
+  pub answer : List ℕ
+  pub state : List ℕ
+  pub log : List ℕ
+
+abbrev pub kept : List ℕ → List ℕ → List ℕ → Kept
+kept a st l = record { answer = a; state = st; log = l }
+
+-- of a walk that keeps its readings, with the numbers of the state before it
+unfoldable pub keepTold : List ℕ → Keeping → Kept
+keepTold before k = kept (keepNumbers (k .given)) (stateLeft (endRefusal (k .given .end)) before (k .given .state)) (k .log)
+
+pub record Lodged : Type 0 where
+  pub refusal : ℕ
+  pub log : List ℕ
+
+abbrev pub lodged : ℕ → List ℕ → Lodged
+lodged n l = record { refusal = n; log = l }
+
+-- of an appending
+unfoldable pub appendTold : Logging → Lodged
+appendTold x = lodged (loggedRefusal (x .given)) (x .log)
+
+pub record RecordGiven : Type 0 where
+  pub refusal : ℕ
+  pub octets : List ℕ
+
+abbrev pub recordGiven : ℕ → List ℕ → RecordGiven
+recordGiven n o = record { refusal = n; octets = o }
+
+-- of a record that is read: its 16 octets; a refusal leaves those that stood there before
+unfoldable pub recordLeft : List ℕ → LogRead → List ℕ
+recordLeft before (LogRead.Refused x) = before
+recordLeft before (Holds r) = octetsOfRecord r
+
+unfoldable pub recordTold : List ℕ → LogRead → RecordGiven
+recordTold before x = recordGiven (logReadRefusal x) (recordLeft before x)
+
+pub record StepGiven : Type 0 where
+  pub refusal : ℕ
+  pub at : ℕ
+  pub octets : List ℕ
+
+abbrev pub stepGiven : ℕ → ℕ → List ℕ → StepGiven
+stepGiven n at o = record { refusal = n; at = at; octets = o }
+
+-- of a record that a reader hands out, with its record number after that
+unfoldable pub stepTold : List ℕ → Step → StepGiven
+stepTold before s = stepGiven (logReadRefusal (s .read)) (s .at) (recordLeft before (s .read))
+
+pub record NumberGiven : Type 0 where
+  pub refusal : ℕ
+  pub number : ℕ
+
+abbrev pub numberGiven : ℕ → ℕ → NumberGiven
+numberGiven n k = record { refusal = n; number = k }
+
+-- of a number of records; a refusal leaves the one that stood there before
+unfoldable pub numberLeft : ℕ → LogNumber → ℕ
+numberLeft before (LogNumber.Refused x) = before
+numberLeft before (Number n) = n
+
+unfoldable pub numberTold : ℕ → LogNumber → NumberGiven
+numberTold before x = numberGiven (logNumberRefusal x) (numberLeft before x)

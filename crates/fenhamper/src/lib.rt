@@ -1,5 +1,12 @@
 // The C face (include/fenhamper.h): each exported function decodes its records, calls the module's function of that name, and encodes what
 // comes back. A record crosses as the array of its octets, or of its numbers of 64 bits. Meaning: specs/Face.antt.
+use log::LogNumber;
+use log::LogRead;
+use log::Logged;
+use log::Record;
+use logging::KeepRefusal;
+use logging::LogEnd;
+use logging::LogWalk;
 use receive::Answer;
 use receive::Reading;
 use receive::WalkEnd;
@@ -29,8 +36,16 @@ ghost use Rattle.station.specs.Station.{fresh};
 ghost use Rattle.flow.specs.Timers.{timer};
 ghost use Rattle.receive.specs.Reading.{reading};
 ghost use Rattle.receive.specs.Walk.{walked};
+ghost use Rattle.log.specs.Numbers.{loggedRefusal};
+ghost use Rattle.log.specs.Log.{recordOf, appending, recordRead, usedInFront};
+ghost use Rattle.log.specs.Readers.{nextStep};
+ghost use Rattle.logging.specs.Walks.{walkLogged};
 ghost use Rattle.send.specs.Sending.{clientSending, pauseSending, pfcSending, idleSending};
-ghost use Rattle.fenhamper.specs.Face.{layout, flowOf, addressAt, settingsOf, countersOf, timersOf, stateOf, kindOf, tagAt, countedTag, tagsOf, formOf, clientOf, quantaOf, classesOf, stateNumbers, readingNumbers, walkNumbers, sentNumbers, partWithin, stateLeft, told, readTold, walkTold, wrote, sendTold};
+ghost use Rattle.fenhamper.specs.Face.{layout, flowOf, addressAt, settingsOf, countersOf, timersOf, stateOf};
+ghost use Rattle.fenhamper.specs.Face.{kindOf, tagAt, countedTag, tagsOf, formOf, clientOf, quantaOf, classesOf};
+ghost use Rattle.fenhamper.specs.Face.{recordNamed, stateNumbers, readingNumbers, walkNumbers, sentNumbers, keepRefusalNumber, keepNumbers, partWithin};
+ghost use Rattle.fenhamper.specs.Face.{stateLeft, told, readTold, walkTold, wrote, sendTold};
+ghost use Rattle.fenhamper.specs.Face.{kept, keepTold, lodged, appendTold, recordGiven, recordTold, stepGiven, stepTold, numberGiven, numberTold};
 
 // ---- what crosses to the module
 
@@ -241,6 +256,19 @@ fn classes(named: u8, q: &[u16; 8]) -> Classes
     Classes { named, quanta }
 }
 
+// The record of a reading, of its numbers: of each its low bits, as many as the field has.
+fn record_named(n: &[u64; 12]) -> Record
+    ensures { λ r. ⌜ r ≡ recordNamed (now (n .entry)) ⌝ }
+{
+    Record {
+        place: (n[3] % 4294967296) as u32,
+        outcome: (n[2] % 256) as u8,
+        zero: 0,
+        handed: (n[7] % 65536) as u16,
+        status: n[5],
+    }
+}
+
 // ---- what crosses back
 
 // The slots of a class.
@@ -344,6 +372,53 @@ fn sent_numbers(s: Sent) -> [u64; 2]
         Went::Refused(x) => {
             let n = station::refusal_number(x) as u64;
             [n, place]
+        }
+    }
+}
+
+// The number of a refusal of a walk that keeps its readings.
+fn keep_refusal(x: KeepRefusal) -> u64
+    ensures { λ n. ⌜ n ≡ keepRefusalNumber x ⌝ }
+{
+    match x {
+        KeepRefusal::ByReading(r) => station::refusal_number(r) as u64,
+        KeepRefusal::ByLog(r) => log::refusal_number(r) as u64,
+    }
+}
+
+fn keep_numbers(w: LogWalk) -> [u64; 4]
+    ensures { λ n. ⌜ n ≡ keepNumbers w ⌝ }
+{
+    let end = w.end;
+    let next = w.next as u64;
+    let kept = w.kept as u64;
+    match end {
+        LogEnd::Refused(x) => [keep_refusal(x), 0, next, kept],
+        LogEnd::Nothing => [0, 1, next, kept],
+        LogEnd::Open => [0, 2, next, kept],
+        LogEnd::Full => [0, 3, next, kept],
+    }
+}
+
+// The number of a log's refusal, 0 if the call went on.
+fn logged_number(a: Logged) -> u32
+    ensures { λ n. ⌜ n ≡ loggedRefusal a ⌝ }
+{
+    match a {
+        Logged::Fine => 0,
+        Logged::Refused(x) => log::refusal_number(x) as u32,
+    }
+}
+
+// A record that is read goes out as its 16 octets; a refusal leaves what is there.
+fn give_record(record: &mut [u8; 16], read: LogRead) -> u32
+    ensures { λ n. ⌜ recordGiven n (now («record» .exit)) ≡ recordTold (now («record» .entry)) read ⌝ }
+{
+    match read {
+        LogRead::Refused(x) => log::refusal_number(x) as u32,
+        LogRead::Holds(r) => {
+            log::write_record(record, 0, r);
+            0
         }
     }
 }
@@ -541,4 +616,68 @@ pub extern "C" fn fenhamper_fill_idle(
     let r = send::fill_idle(state_of(state), octets, marks, place, idles);
     *answer = sent_numbers(r);
     leave(state, answer[0], r.state);
+}
+
+#[no_mangle]
+pub extern "C" fn fenhamper_walk_log(
+    s: &[u8; 48],
+    state: &mut [u64; 24],
+    octets: &[u8],
+    marks: &[u8],
+    place: usize,
+    log: &mut [u8],
+    answer: &mut [u64; 4],
+)
+    ensures { λ _. ⌜ kept (now (answer .exit)) (now (state .exit)) (now (log .exit))
+        ≡ keepTold (now (state .entry)) (walkLogged (settingsOf (now (s .entry))) (stateOf (now (state .entry)))
+        (now (octets .entry)) (now (marks .entry)) place (now (log .entry))) ⌝ }
+{
+    let k = logging::walk_log(settings(s), state_of(state), octets, marks, place, log);
+    *answer = keep_numbers(k);
+    leave(state, answer[0], k.state);
+}
+
+#[no_mangle]
+pub extern "C" fn fenhamper_log_append(log: &mut [u8], record: &[u8; 16]) -> u32
+    ensures { λ n. ⌜ lodged n (now (log .exit)) ≡ appendTold (appending (now (log .entry)) (recordOf (now («record» .entry)))) ⌝ }
+{
+    logged_number(log::append(log, log::record_of(record)))
+}
+
+#[no_mangle]
+pub extern "C" fn fenhamper_log_append_reading(log: &mut [u8], reading: &[u64; 12]) -> u32
+    ensures { λ n. ⌜ lodged n (now (log .exit)) ≡ appendTold (appending (now (log .entry)) (recordNamed (now (reading .entry)))) ⌝ }
+{
+    logged_number(log::append(log, record_named(reading)))
+}
+
+#[no_mangle]
+pub extern "C" fn fenhamper_log_record(log: &[u8], number: usize, record: &mut [u8; 16]) -> u32
+    ensures { λ n. ⌜ recordGiven n (now («record» .exit)) ≡ recordTold (now («record» .entry)) (recordRead (now (log .entry)) number) ⌝ }
+{
+    give_record(record, log::read_record(log, number))
+}
+
+#[no_mangle]
+pub extern "C" fn fenhamper_log_next(log: &[u8], at: &mut usize, record: &mut [u8; 16]) -> u32
+    ensures { λ n. ⌜ stepGiven n (now (at .exit)) (now («record» .exit))
+        ≡ stepTold (now («record» .entry)) (nextStep (now (log .entry)) (now (at .entry))) ⌝ }
+{
+    let step = log::next_at(log, *at);
+    *at = step.at;
+    let read = step.read;
+    give_record(record, read)
+}
+
+#[no_mangle]
+pub extern "C" fn fenhamper_log_used(log: &[u8], used: &mut usize) -> u32
+    ensures { λ n. ⌜ numberGiven n (now (used .exit)) ≡ numberTold (now (used .entry)) (usedInFront (now (log .entry))) ⌝ }
+{
+    match log::used_in_front(log) {
+        LogNumber::Refused(x) => log::refusal_number(x) as u32,
+        LogNumber::Number(n) => {
+            *used = n;
+            0
+        }
+    }
 }

@@ -5,10 +5,11 @@ use native.Mathlib.Nat.{pow-suc, pow-le-pow-right, div-lt-iff-lt-mul, div-add-mo
 use mathlib.Core.Path.{_≡_, refl, sym, ap, ap₂, _∙_}
 use mathlib.Core.Bool.{true, false, not}
 use mathlib.Core.List.{List, [], _∷_, _++_, append-assoc, append-nil}
-use lib.ListN.{length, getD, take, drop, set, length-append}
+use lib.ListN.{length, getD, take, drop, set, length-append, drop-of-length-le}
 use lib.Seq.{sets, getD-at, append-snoc, drop-cons, take-add, take-all}
 use lib.Dec.{eqb, lit<}
 use borrow.Author.Tests.{eqb-true, eq-eqb, ne-eqb, not-false}
+use Rattle.line.specs.Line.{overwrite}
 use Rattle.line.specs.Octets.{lowFirst}
 use Rattle.log.specs.declared.Record.{Record}
 use Rattle.log.specs.Log.{lowOctets, octetsOfRecord, recordOf, isUsed, counts}
@@ -61,6 +62,13 @@ low-back h (suc n) x t at e lt =
 pub length-record : (r : Record) → length (octetsOfRecord r) ≡ 16
 unfolding octetsOfRecord
 length-record r = simp (length-append, length-lowOctets)
+
+-- a record over 16 octets is all that stands there
+pub record-over : (s : List ℕ) (r : Record) → length s ≡ 16 → overwrite s 0 (octetsOfRecord r) ≡ octetsOfRecord r
+unfolding overwrite
+record-over s r n =
+    let o = octetsOfRecord r in
+    ap (λ (t : List ℕ). o ++ t) (drop-of-length-le s {i = 0 + length o} (let h = length-record r in omega arith)) ∙ append-nil o
 
 -- "Records are read as they stand": one that was written is read
 pub record-back : (r : Record) → Fits r → recordOf (octetsOfRecord r) ≡ r

@@ -6,16 +6,17 @@ use mathlib.Core.Path.{_≡_, refl, sym, ap, ap₂, _∙_}
 use mathlib.Core.Bool.{true, false, false≢true}
 use mathlib.Core.Logic.{⊎-elim}
 use mathlib.Core.List.{List, [], _∷_, _++_, append-assoc}
-use lib.ListN.{length, getD, take, drop, length-drop, take-append-drop, List·getD-eq-default}
+use lib.ListN.{length, getD, take, drop, length-take, length-drop, take-append-drop, List·getD-eq-default}
 use lib.Seq.{getD-take, getD-drop, drop-drop, length-take-le, take-append-le, drop-append-le, drop-append-add, take-at, drop-at}
-use lib.Dec.{lit<}
+use lib.Dec.{ltb, lit<}
+use borrow.Author.Tests.{ltb-true, ltb-false}
 use Rattle.line.specs.Line.{overwrite}
 use Rattle.line.proofs.Symbols.{by-test}
 use Rattle.line.proofs.Overwrite.{length-overwrite}
-use Rattle.log.specs.Log.{isUsed, slotAt, slotsIn, slots, allUsed, front, frontCount}
+use Rattle.log.specs.Log.{octetsOfRecord, recordOf, isUsed, slotAt, slotsIn, slots, allUsed, front, frontCount}
 use Rattle.log.specs.Searched.{unusedFrom}
-use Rattle.log.specs.Claims.{Used, EveryUsed, AreInFront}
-use Rattle.log.proofs.Records.{octet-unused, octet-used}
+use Rattle.log.specs.Claims.{OfOctets, IsMultiple, Used, EveryUsed, AreInFront}
+use Rattle.log.proofs.Records.{record-stands, octet-unused, octet-used}
 
 -- ---- the octets of a record
 
@@ -49,6 +50,19 @@ beyond-unused l k h = slot-unused l k (List·getD-eq-default l 0 {n = 16 * k + 4
 
 pub used-inside : (l : List ℕ) (k : ℕ) → Used l k → 16 * k < length l
 used-inside l k u = lt-of-not-le (λ h. false≢true (sym (beyond-unused l k h) ∙ u))
+
+-- what stands there is octets, and written again a used record gives the same 16
+slot-octets : (l : List ℕ) (k : ℕ) → OfOctets l → OfOctets (slotAt l k)
+unfolding slotAt
+slot-octets l k o i =
+    by-test (ltb i 16) (λ h. let lt = ltb-true i 16 h in rw (getD-take 16 (drop (16 * k) l) i 0 lt, getD-drop (16 * k) l i 0) (o (16 * k + i)))
+    (λ h. let ge = ltb-false i 16 h in rw (List·getD-eq-default (take 16 (drop (16 * k) l)) 0 {n = i} (simp length-take (omega arith))) (lit< tt))
+
+pub slot-stands : (l : List ℕ) (k : ℕ) → OfOctets l → IsMultiple l → Used l k → octetsOfRecord (recordOf (slotAt l k)) ≡ slotAt l k
+slot-stands l k o m u =
+    let h = used-inside l k u in
+    let n : length (slotAt l k) ≡ 16 = (unfold slotAt in simp (length-take, length-drop) (omega arith)) in
+    record-stands (slotAt l k) n (slot-octets l k o)
 
 pub length-slotsIn : (n : ℕ) (l : List ℕ) → length (slotsIn n l) ≡ n
 unfolding slotsIn

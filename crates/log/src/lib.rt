@@ -123,8 +123,8 @@ pub fn write_record(log: &mut [u8], k: usize, r: Record)
     put_low(log, b, 8, r.status);
 }
 
-// The record that stands in 16 octets.
-fn record_of(s: &[u8]) -> Record
+// The record that stands in 16 octets. For this repository's crates only, since it asks that there are 16.
+pub fn record_of(s: &[u8]) -> Record
     requires { ⌜ length (now s) ≡ 16 ⌝ }
     ensures { λ r. ⌜ r ≡ recordOf (now (s .entry)) ⌝ }
 {

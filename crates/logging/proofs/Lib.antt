@@ -1,5 +1,6 @@
 pub mod Claims
 pub mod Full
+pub mod Loops
 pub mod Readings
 pub mod Refusals
 pub mod Refused

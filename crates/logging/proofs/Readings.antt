@@ -118,7 +118,7 @@ pub record Sound (os : List ℕ) (p : ℕ) (r : Reading) : Type 0 where
   pub refused : answerRefusal (r .answer) ≡ 0
   pub on : isCounted (r .answer) ≡ true → (p < r .next) × (r .next < length os)
 
-run-length : (os : List ℕ) (i e : ℕ) → e ≤ length os → length (between os i e) ≡ e - i
+pub run-length : (os : List ℕ) (i e : ℕ) → e ≤ length os → length (between os i e) ≡ e - i
 unfolding between
 run-length os i e h = simp (length-take, length-drop) (omega arith)
 

@@ -39,7 +39,7 @@ use Rattle.logging.specs.Walks.{Keeping, stopped, keepFrom, keepRefusals
 
 -- ---- a counted Start's record
 
-number-some : (o : Outcome) → outcomeNumber o ≡ 0 → ⊥
+pub number-some : (o : Outcome) → outcomeNumber o ≡ 0 → ⊥
 number-some Cut h = omega arith
 number-some BadPreamble h = omega arith
 number-some Undersized h = omega arith

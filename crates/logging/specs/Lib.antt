@@ -1,3 +1,4 @@
 pub mod Claims
 pub mod Records
+pub mod Steps
 pub mod Walks

@@ -1,4 +1,6 @@
 // Readings kept in a log (document 02, item 4). Meaning: specs/.
+use fields::Layout;
+use line::Found;
 use log::LogRefusal;
 use log::Logged;
 use log::Record;
@@ -7,14 +9,25 @@ use log::unused_from;
 use log::write_record;
 use receive::Answer;
 use receive::Reading;
+use station::Checked;
+use station::Outcome;
 use station::Refusal;
 use station::Settings;
 use station::State;
 ghost use mathlib.Core.Path.{_≡_};
+ghost use mathlib.Core.Bool.{true, false};
+ghost use Prim.Native.Nat.{_≤_};
+ghost use lib.ListN.{length};
 ghost use Rattle.line.specs.Table.{first};
+ghost use Rattle.fcs.specs.Lent.{Lent};
+ghost use Rattle.station.specs.declared.Outcome.the-variants.{HandedOut};
+ghost use Rattle.station.specs.Numbers.{byOutcome};
+ghost use Rattle.fields.specs.Places.{layoutOf};
+ghost use Rattle.outcome.specs.Outcomes.{frameOf};
 ghost use Rattle.log.specs.Log.{logging, appending};
 ghost use Rattle.logging.specs.declared.KeepChecked.the-variants.{Fine};
 ghost use Rattle.logging.specs.Records.{recordAt, recordOfReading};
+ghost use Rattle.logging.specs.Steps.{recordOfFrame};
 ghost use Rattle.logging.specs.Walks.{keeping, keepRefusals, walkLogged};
 
 // Why a walk that keeps its readings is refused: by 1, 2 or 3, as a reading is, or by 11.
@@ -89,20 +102,77 @@ pub fn append_reading(log: &mut [u8], r: Reading) -> Logged
     append(log, record_of(r))
 }
 
+// ---- one Start of a walk
+
+// Whether a reading with this outcome says anything of its frame: outcomes 8 to 11.
+fn tells(o: Outcome) -> bool
+    ensures { λ r. ⌜ r ≡ byOutcome o false true true true true ⌝ }
+{
+    match o {
+        Outcome::PauseTaken => true,
+        Outcome::PfcTaken => true,
+        Outcome::ControlDropped => true,
+        Outcome::HandedOut => true,
+        _ => false,
+    }
+}
+
+// The record of a Start with outcome 11, of its frame, laid out as `l` says.
+fn handed_record(s: Settings, start: usize, f: &[u8], l: Layout) -> Record
+    requires { ⌜ (length (now f) ≤ 65536) × (l ≡ layoutOf (now f)) ⌝ }
+    ensures { λ r. ⌜ r ≡ recordOfFrame s start (now (f .entry)) HandedOut ⌝ }
+{
+    let handed = frame::handed_length(s.checking, l.field, frame::frame_data(f, l.place));
+    let word = outcome::status(Outcome::HandedOut, f, l, handed);
+    record_at(start, 11, handed, word)
+}
+
+// The same, of the frame alone. Most frames have no tag: with none named, much of the record is made of constants.
+fn handed_out(s: Settings, start: usize, f: &[u8]) -> Record
+    requires { ⌜ length (now f) ≤ 65536 ⌝ }
+    ensures { λ r. ⌜ r ≡ recordOfFrame s start (now (f .entry)) HandedOut ⌝ }
+{
+    let tags = fields::tag_count(f);
+    if tags == 0 {
+        return handed_record(s, start, f, fields::laid_out(f, 0));
+    }
+    handed_record(s, start, f, fields::laid_out(f, tags))
+}
+
+// The record of a Start whose frame is `f`: but for outcome 11, nothing is handed out.
+fn record_of_frame(s: Settings, start: usize, f: &[u8], o: Outcome) -> Record
+    requires { ⌜ length (now f) ≤ 65536 ⌝ }
+    ensures { λ r. ⌜ r ≡ recordOfFrame s start (now (f .entry)) o ⌝ }
+{
+    match o {
+        Outcome::HandedOut => handed_out(s, start, f),
+        _ => {
+            let word = outcome::status(o, f, fields::layout_of(f), 0);
+            record_at(start, station::outcome_number(o), 0, word)
+        }
+    }
+}
+
+// The record of a Start whose run has this outcome. Outcomes 1 to 7 say nothing of their frame, so it is not looked at.
+fn record_of_run(s: Settings, start: usize, run: &[u8], o: Outcome) -> Record
+    requires { ⌜ length (now run) ≤ 65536 ⌝ }
+    ensures { λ r. ⌜ r ≡ recordOfFrame s start (frameOf (now (run .entry))) o ⌝ }
+{
+    if !tells(o) {
+        return record_at(start, station::outcome_number(o), 0, 0);
+    }
+    record_of_frame(s, start, outcome::frame_of(run), o)
+}
+
 // ---- a walk that keeps its readings
 
-// The refusals of a walk that keeps its readings, lowest number first.
+// The refusals of a walk that keeps its readings, lowest number first: those of a reading, then the log's.
 fn check_keep(s: Settings, octets: &[u8], marks: &[u8], place: usize, log: &[u8]) -> KeepChecked
     ensures { λ r. ⌜ r ≡ first (keepRefusals s (now (octets .entry)) (now (marks .entry)) place (now (log .entry))) ⌝ }
 {
-    if station::bad_settings(s) {
-        return KeepChecked::Refused(KeepRefusal::ByReading(Refusal::BadSettings));
-    }
-    if station::bad_buffers(octets, marks) {
-        return KeepChecked::Refused(KeepRefusal::ByReading(Refusal::BadBuffers));
-    }
-    if station::bad_place(octets, place) {
-        return KeepChecked::Refused(KeepRefusal::ByReading(Refusal::BadPlace));
+    let checked = receive::check_read(s, octets, marks, place);
+    if let Checked::Refused(x) = checked {
+        return KeepChecked::Refused(KeepRefusal::ByReading(x));
     }
     if log.len() % 16 != 0 {
         return KeepChecked::Refused(KeepRefusal::ByLog(LogRefusal::BadLog));
@@ -110,8 +180,10 @@ fn check_keep(s: Settings, octets: &[u8], marks: &[u8], place: usize, log: &[u8]
     KeepChecked::Fine
 }
 
-// The walk where nothing is refused. Every record before record k is used, so the search for an unused one goes over the log once.
+// The walk where nothing is refused, the FCS by tables if they are lent. Counters and timers stay where they are, as in `receive::walk`. Every record
+// before record k is used, so the search for an unused one goes over the log once. A full log is seen before the outcome is: that costs no FCS.
 fn keep_on(
+    t: &[u32],
     s: Settings,
     state: State,
     octets: &[u8],
@@ -119,57 +191,65 @@ fn keep_on(
     place: usize,
     log: &mut [u8],
 ) -> LogWalk
-    requires { ⌜ first (keepRefusals s (now octets) (now marks) place (now log)) ≡ Fine ⌝ }
+    requires { ⌜ Lent (now t) × (first (keepRefusals s (now octets) (now marks) place (now log)) ≡ Fine) ⌝ }
     ensures { λ r. ⌜ keeping r (now (log .exit)) ≡ walkLogged s state (now (octets .entry)) (now (marks .entry)) place (now (log .entry)) ⌝ }
 {
     let records = log.len() / 16;
-    let mut st = state;
-    let mut at = place;
+    let mut counters = state.counters;
+    let mut timers = state.timers;
     let mut n: usize = 0;
+    let mut at = place;
     let mut k = unused_from(log, 0);
     loop {
-        let r = receive::read(s, st, octets, marks, at);
-        let a = r.answer;
-        let after = r.state;
-        let next = r.next;
-        match a {
-            Answer::Refused(x) => return LogWalk {
-                end: LogEnd::Refused(KeepRefusal::ByReading(x)),
-                state: after,
-                next,
-                kept: n,
-            },
-            Answer::Nothing => return LogWalk {
+        let Found::At(start) = line::find_start(octets, marks, at) else {
+            return LogWalk {
                 end: LogEnd::Nothing,
-                state: after,
-                next,
+                state: State { counters, timers },
+                next: octets.len(),
                 kept: n,
-            },
-            Answer::Open => return LogWalk {
+            };
+        };
+        let from = start + 1;
+        let Found::At(end) = line::find_control(octets, marks, from) else {
+            return LogWalk {
                 end: LogEnd::Open,
-                state: after,
-                next,
+                state: State { counters, timers },
+                next: start,
                 kept: n,
-            },
-            Answer::Counted(_, _, _) => {}
-        }
+            };
+        };
         if k == records {
             return LogWalk {
                 end: LogEnd::Full,
-                state: st,
+                state: State { counters, timers },
                 next: at,
                 kept: n,
             };
         }
-        write_record(log, k, record_of(r));
+        let o = outcome::outcome(t, s, &octets[from..end], octets[end]);
+        station::count(o, &mut counters);
+        if flow::sets_timers(o) {
+            let f = outcome::frame_of(&octets[from..end]);
+            let set = flow::timers_after(o, f, timers);
+            timers = set;
+        }
+        write_record(log, k, record_of_run(s, start, &octets[from..end], o));
         k = unused_from(log, k + 1);
         n += 1;
-        st = after;
-        at = next;
+        at = end;
     }
 }
 
-// A walk from a place on that appends the record of each Start it counts, until `none`, `open` or a full log.
+// Whether tables of the FCS pay: 8,192 symbols are left, and the log has records for as many frames of 64 octets as fill them.
+fn pays(symbols: usize, log: usize) -> bool {
+    if symbols < 8192 {
+        return false;
+    }
+    1568 <= log
+}
+
+// A walk from a place on that appends the record of each Start it counts, until `none`, `open` or a full log. In a long one the tables of the FCS are
+// made once and lent.
 pub fn walk_log(
     s: Settings,
     state: State,
@@ -189,5 +269,11 @@ pub fn walk_log(
             kept: 0,
         };
     }
-    keep_on(s, state, octets, marks, place, log)
+    if !pays(octets.len() - place, log.len()) {
+        let none = [0u32; 1];
+        return keep_on(&none[..0], s, state, octets, marks, place, log);
+    }
+    let mut t = [0u32; 4096];
+    fcs::make_tables(&mut t);
+    keep_on(&t, s, state, octets, marks, place, log)
 }

@@ -89,7 +89,7 @@ fn look_run(s: Settings, start: usize, run: &[u8], o: Outcome) -> Sight
 }
 
 // The refusals of a reading, lowest number first.
-fn check_read(s: Settings, octets: &[u8], marks: &[u8], place: usize) -> Checked
+pub fn check_read(s: Settings, octets: &[u8], marks: &[u8], place: usize) -> Checked
     ensures { λ r. ⌜ r ≡ first (readRefusals s (now (octets .entry)) (now (marks .entry)) place) ⌝ }
 {
     if station::bad_settings(s) {

@@ -1,20 +1,23 @@
 //! Cases: a few calls on the same settings, state and symbols. Each is drawn by its own number
 //! alone.
 use crate::compare::{Bench, Difference, Lent};
+use crate::compare_log::LentLog;
 use crate::generate::{self, Sending, Symbols, IDLE, START, TERMINATE};
 use crate::prng::Prng;
-use crate::records;
+use crate::{raw, records};
 use reference::{Client, Flow, Form, Settings};
 
 /// Makes the calls of one case of a seed.
 pub fn run(bench: &mut Bench, seed: u64, case: u64) -> Result<(), Difference> {
     let mut prng = bench.begin(seed, case);
-    match prng.below(18) {
+    match prng.below(20) {
         0..=7 => reading(bench, &mut prng),
         8..=13 => sending(bench, &mut prng),
         14 => holding(bench, &mut prng),
         15 => checking(bench, &mut prng),
-        _ => records(bench, &mut prng),
+        16..=17 => records(bench, &mut prng),
+        18 => logging(bench, &mut prng),
+        _ => keeping(bench, &mut prng),
     }
 }
 
@@ -175,4 +178,86 @@ fn records(bench: &mut Bench, prng: &mut Prng) -> Result<(), Difference> {
         bench.c_send(&settings, &mut numbers, &mut lent, place, sending)?;
     }
     bench.c_part(prng)
+}
+
+/// A log is appended to and read, here and there and from its front.
+fn logging(bench: &mut Bench, prng: &mut Prng) -> Result<(), Difference> {
+    let log = generate::short_log(prng);
+    let mut log = LentLog::new(prng, &log);
+    let records = log.octets().len() / raw::RECORD;
+    for _ in 0..prng.between(2, 6) {
+        match prng.below(8) {
+            0..=1 => {
+                let record = generate::record(prng);
+                bench.append(&mut log, &record)?;
+            }
+            2..=3 => readings_appended(bench, prng, &mut log)?,
+            4 => {
+                let numbers = generate::reading_record(prng);
+                bench.append_numbers(&mut log, &numbers)?;
+            }
+            5..=6 => {
+                let number = generate::record_number(prng, records);
+                bench.log_record(&log, number)?;
+            }
+            _ => bench.log_used(&log)?,
+        }
+    }
+    let from = generate::record_number(prng, records);
+    bench.log_read_on(&log, from)?;
+    bench.log_read_on(&log, 0)
+}
+
+/// Readings here and there in a capture are appended to a log.
+fn readings_appended(
+    bench: &mut Bench,
+    prng: &mut Prng,
+    log: &mut LentLog,
+) -> Result<(), Difference> {
+    let s = generate::settings(prng);
+    let state = generate::state(prng);
+    let symbols = generate::capture(prng, &s);
+    let lent = lend(prng, &symbols);
+    for _ in 0..prng.between(1, 3) {
+        let place = generate::place(prng, &symbols);
+        bench.append_reading(log, &lent, (&s, &state), place)?;
+    }
+    Ok(())
+}
+
+/// A capture is walked into logs of all sorts, and into one log after the other.
+fn keeping(bench: &mut Bench, prng: &mut Prng) -> Result<(), Difference> {
+    let drawn = generate::settings(prng);
+    let settings = generate::settings_record(prng, &drawn);
+    let symbols = match prng.below(48) {
+        0 => generate::longest_capture(prng),
+        1..=2 => generate::tabled_capture(prng, &drawn),
+        _ => generate::capture(prng, &drawn),
+    };
+    let lent = lend(prng, &symbols);
+    let starts = generate::starts(&symbols);
+    let place = |prng: &mut Prng| match prng.below(3) {
+        0 => 0,
+        _ => generate::place(prng, &symbols),
+    };
+    for _ in 0..prng.between(2, 4) {
+        let state = generate::state(prng);
+        let mut numbers = generate::state_record(prng, &state);
+        let place = place(prng);
+        let log = if prng.coin() {
+            generate::short_log(prng)
+        } else {
+            // a record for each Start, one fewer or one more
+            let more = prng.below(3);
+            generate::log(prng, (starts + more).saturating_sub(1))
+        };
+        let mut log = LentLog::new(prng, &log);
+        bench.walk_log(&settings, &mut numbers, &lent, place, &mut log)?;
+    }
+    let state = generate::state(prng);
+    let numbers = generate::state_record(prng, &state);
+    let place = place(prng);
+    // some six logs take all
+    let capacity = starts.div_ceil(prng.between(1, 6));
+    bench.going_on(prng, &settings, &numbers, &lent, (place, capacity))
 }

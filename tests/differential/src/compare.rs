@@ -8,8 +8,8 @@ use fenhamper::{Capture, Counted, Fcs, Refusal, Sender};
 use reference::{Answer, Check, Reading, Sent, Settings, State};
 use std::fmt;
 
-/// Symbols that a call is not lent, on either side of those that it is.
-const AROUND: usize = 16;
+/// Symbols that a call is not lent, on either side of those that it is; octets of a log likewise.
+pub(crate) const AROUND: usize = 16;
 
 /// Symbols to lend. They stand in the middle of longer buffers, so that a look or a step past the
 /// end shows.
@@ -61,17 +61,18 @@ impl fmt::Debug for Hex {
 
 /// Where two buffers differ first. A place below 0 or beyond the length was not lent.
 #[derive(Debug, PartialEq)]
-struct Other {
+pub(crate) struct Other {
     place: isize,
     library: u8,
     reference: u8,
 }
 
-fn first_other(library: &[u8], reference: &[u8]) -> Option<Other> {
+/// Of buffers with so many octets before those that were lent.
+pub(crate) fn first_other(library: &[u8], reference: &[u8], before: usize) -> Option<Other> {
     let mut pairs = library.iter().zip(reference);
     let at = pairs.position(|(library, reference)| library != reference)?;
     Some(Other {
-        place: at as isize - AROUND as isize,
+        place: at as isize - before as isize,
         library: library[at],
         reference: reference[at],
     })
@@ -160,9 +161,9 @@ impl Bench {
         if library == reference {
             return Ok(());
         }
-        let octets = first_other(&library.octets, &reference.octets);
+        let octets = first_other(&library.octets, &reference.octets, AROUND);
         self.same((call, "octets, first other"), (octets, None), &inputs)?;
-        let marks = first_other(&library.marks, &reference.marks);
+        let marks = first_other(&library.marks, &reference.marks, AROUND);
         self.same((call, "marks, first other"), (marks, None), &inputs)
     }
 
@@ -191,7 +192,7 @@ impl Bench {
     }
 
     /// How a refusal, whose number was compared, is told.
-    fn refused(
+    pub(crate) fn refused(
         &self,
         call: &str,
         refusal: Refusal,

@@ -7,7 +7,7 @@ use crate::{raw, records, show};
 use reference::{Answer, Sent, State, Walked};
 
 /// A state's numbers after a call: a refused one leaves them as they were, to the bit.
-fn after(refused: bool, before: &raw::State, state: &State) -> raw::State {
+pub(crate) fn after(refused: bool, before: &raw::State, state: &State) -> raw::State {
     if refused {
         *before
     } else {

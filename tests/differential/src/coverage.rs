@@ -1,5 +1,6 @@
 //! The coverage table: what has to be hit, and how often it was.
 use crate::seen::{CSeen, FcsSeen, ReadingSeen, SendingSeen, WalkSeen};
+use crate::seen_log::{GoingOnSeen, KeepSeen, LogSeen};
 use crate::table;
 use std::fmt;
 
@@ -11,6 +12,12 @@ pub(crate) enum When {
     Walk(Box<dyn Fn(&WalkSeen) -> bool>),
     /// By a sending.
     Sending(Box<dyn Fn(&SendingSeen) -> bool>),
+    /// By a call on a log.
+    Log(Box<dyn Fn(&LogSeen) -> bool>),
+    /// By a walk that keeps its readings.
+    Keep(Box<dyn Fn(&KeepSeen) -> bool>),
+    /// By walks that went on with other logs.
+    GoingOn(Box<dyn Fn(&GoingOnSeen) -> bool>),
     /// By a call through the C face.
     C(Box<dyn Fn(&CSeen) -> bool>),
     /// By an FCS.
@@ -56,6 +63,30 @@ impl Coverage {
     pub(crate) fn sending(&mut self, seen: &SendingSeen) {
         for row in &mut self.rows {
             if let When::Sending(test) = &row.when {
+                row.count += u64::from(test(seen));
+            }
+        }
+    }
+
+    pub(crate) fn log(&mut self, seen: &LogSeen) {
+        for row in &mut self.rows {
+            if let When::Log(test) = &row.when {
+                row.count += u64::from(test(seen));
+            }
+        }
+    }
+
+    pub(crate) fn keep(&mut self, seen: &KeepSeen) {
+        for row in &mut self.rows {
+            if let When::Keep(test) = &row.when {
+                row.count += u64::from(test(seen));
+            }
+        }
+    }
+
+    pub(crate) fn going_on(&mut self, seen: &GoingOnSeen) {
+        for row in &mut self.rows {
+            if let When::GoingOn(test) = &row.when {
                 row.count += u64::from(test(seen));
             }
         }

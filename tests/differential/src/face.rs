@@ -1,7 +1,8 @@
 //! The reference's values as those of the library's face, and back.
 use crate::names::StatusParts;
-use fenhamper::{Address, Counted, Refusal, Status};
-use reference::{Answer, Client, Flow, Form, Reading, Sent, Settings, State, Tag, TagKind, Walked};
+use fenhamper::{Address, Counted, End, Refusal, Status};
+use reference::{Answer, Client, Flow, Form, LogEnd, Logged, Reading, Record};
+use reference::{Sent, Settings, State, Tag, TagKind, Walked};
 
 /// Settings for the library.
 pub fn settings(s: &Settings) -> fenhamper::Settings {
@@ -100,6 +101,37 @@ pub fn walked(answer: Result<fenhamper::Walk, Refusal>) -> Walked {
             starts: walk.starts,
             open: walk.open,
         },
+    }
+}
+
+/// A record of a log for the library.
+pub fn record(record: &Record) -> fenhamper::Record {
+    fenhamper::Record {
+        place: record.place,
+        outcome_number: record.outcome,
+        zero: record.zero,
+        data_length: record.handed,
+        status: Status::new(record.status),
+    }
+}
+
+/// A walk of the library that keeps its readings, from a place, which a refusal gives back.
+pub fn kept(place: usize, answer: Result<fenhamper::Kept, Refusal>) -> Logged {
+    let logged = |end, next, appended| Logged {
+        end,
+        next,
+        appended,
+    };
+    match answer {
+        Err(refusal) => logged(LogEnd::Refused(refusal.number()), place, 0),
+        Ok(kept) => {
+            let end = match kept.end {
+                End::None => LogEnd::None,
+                End::Open => LogEnd::Open,
+                End::Full => LogEnd::Full,
+            };
+            logged(end, kept.next, kept.records)
+        }
     }
 }
 

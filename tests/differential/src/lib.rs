@@ -1,5 +1,5 @@
 //! The proved library, through its Rust face and through its C face, against the reference
-//! implementation of document 01 and of items 1 to 3 of document 02, on drawn inputs.
+//! implementation of document 01 and of items 1 to 4 of document 02, on drawn inputs.
 #![deny(unsafe_code)]
 #![warn(missing_docs)]
 
@@ -13,8 +13,10 @@ pub mod seed;
 pub mod show;
 
 mod compare_c;
+mod compare_log;
 mod face;
 mod raw;
 mod records;
 mod seen;
+mod seen_log;
 mod table;

@@ -15,8 +15,8 @@ pub const OUTCOMES: [&str; 11] = [
     "handed out",
 ];
 
-/// The header's names of the refusals 1 to 10, in words.
-pub const REFUSALS: [&str; 10] = [
+/// The header's names of the refusals 1 to 13, in words.
+pub const REFUSALS: [&str; 13] = [
     "bad settings",
     "bad buffers",
     "bad place",
@@ -27,6 +27,9 @@ pub const REFUSALS: [&str; 10] = [
     "no room",
     "held",
     "many tags",
+    "bad log",
+    "log full",
+    "not used",
 ];
 
 /// The name of an outcome.

@@ -69,6 +69,26 @@ pub const WALKED_REFUSAL: usize = 0;
 pub const WALKED_STARTS: usize = 1;
 pub const WALKED_OPEN: usize = 2;
 
+/// Numbers of the answer of a walk that keeps its readings.
+pub const KEPT: usize = 4;
+pub const KEPT_REFUSAL: usize = 0;
+pub const KEPT_END: usize = 1;
+pub const KEPT_NEXT: usize = 2;
+pub const KEPT_RECORDS: usize = 3;
+
+/// How it ended.
+pub const END_NONE: u64 = 1;
+pub const END_OPEN: u64 = 2;
+pub const END_FULL: u64 = 3;
+
+/// Octets of a record of a log, and the places in them.
+pub const RECORD: usize = 16;
+pub const RECORD_PLACE: usize = 0;
+pub const RECORD_OUTCOME: usize = 4;
+pub const RECORD_ZERO: usize = 5;
+pub const RECORD_DATA_LENGTH: usize = 6;
+pub const RECORD_STATUS: usize = 8;
+
 /// Numbers of a sending's answer.
 pub const SENT: usize = 2;
 pub const SENT_REFUSAL: usize = 0;
@@ -94,11 +114,19 @@ pub struct Settings(pub [u8; SETTINGS]);
 #[derive(Clone, Copy, Debug)]
 pub struct Client(pub [u8; CLIENT]);
 
+/// A record of a log, aligned as the header's struct is.
+#[repr(C, align(8))]
+#[derive(Clone, Copy, Debug, PartialEq, Eq)]
+pub struct Record(pub [u8; RECORD]);
+
 /// A state.
 pub type State = [u64; STATE];
 
 /// What stands in an answer before the call: every number of it is written.
 const UNWRITTEN: u64 = 0xA5A5_A5A5_A5A5_A5A5;
+/// What stands in a record and in a number before a call on a log, which a refusal leaves.
+pub const LEFT_RECORD: Record = Record([0xA5; RECORD]);
+pub const LEFT_NUMBER: usize = UNWRITTEN as usize;
 
 extern "C" {
     fn fenhamper_read(
@@ -120,6 +148,37 @@ extern "C" {
         marks_length: usize,
         walked: &mut [u64; WALKED],
     );
+    fn fenhamper_walk_log(
+        settings: &Settings,
+        state: &mut State,
+        octets: *const u8,
+        octets_length: usize,
+        marks: *const u8,
+        marks_length: usize,
+        place: usize,
+        log: *mut u8,
+        log_length: usize,
+        kept: &mut [u64; KEPT],
+    );
+    fn fenhamper_log_append(log: *mut u8, log_length: usize, record: &Record) -> u32;
+    fn fenhamper_log_append_reading(
+        log: *mut u8,
+        log_length: usize,
+        reading: &[u64; READING],
+    ) -> u32;
+    fn fenhamper_log_record(
+        log: *const u8,
+        log_length: usize,
+        number: usize,
+        record: &mut Record,
+    ) -> u32;
+    fn fenhamper_log_next(
+        log: *const u8,
+        log_length: usize,
+        at: &mut usize,
+        record: &mut Record,
+    ) -> u32;
+    fn fenhamper_log_used(log: *const u8, log_length: usize, used: &mut usize) -> u32;
     fn fenhamper_client_data(
         octets_length: usize,
         place: usize,
@@ -221,6 +280,67 @@ pub fn walk(settings: &Settings, state: &mut State, (octets, marks): Capture) ->
         );
     }
     walked
+}
+
+pub fn walk_log(
+    settings: &Settings,
+    state: &mut State,
+    (octets, marks): Capture,
+    place: usize,
+    log: &mut [u8],
+) -> [u64; KEPT] {
+    let mut kept = [UNWRITTEN; KEPT];
+    let (octets, octets_length) = (octets.as_ptr(), octets.len());
+    let (marks, marks_length) = (marks.as_ptr(), marks.len());
+    // SAFETY: each pointer and length is one slice's, and the log is lent alone.
+    unsafe {
+        fenhamper_walk_log(
+            settings,
+            state,
+            octets,
+            octets_length,
+            marks,
+            marks_length,
+            place,
+            log.as_mut_ptr(),
+            log.len(),
+            &mut kept,
+        );
+    }
+    kept
+}
+
+/// The refusal's number, or 0; so of all calls on a log.
+pub fn log_append(log: &mut [u8], record: &Record) -> u32 {
+    // SAFETY: the pointer and the length are one slice's, and it is lent alone.
+    unsafe { fenhamper_log_append(log.as_mut_ptr(), log.len(), record) }
+}
+
+pub fn log_append_reading(log: &mut [u8], reading: &[u64; READING]) -> u32 {
+    // SAFETY: the pointer and the length are one slice's, and it is lent alone.
+    unsafe { fenhamper_log_append_reading(log.as_mut_ptr(), log.len(), reading) }
+}
+
+pub fn log_record(log: &[u8], number: usize) -> (u32, Record) {
+    let mut record = LEFT_RECORD;
+    // SAFETY: the pointer and the length are one slice's.
+    let refusal = unsafe { fenhamper_log_record(log.as_ptr(), log.len(), number, &mut record) };
+    (refusal, record)
+}
+
+/// With the record number after it.
+pub fn log_next(log: &[u8], mut at: usize) -> (u32, usize, Record) {
+    let mut record = LEFT_RECORD;
+    // SAFETY: the pointer and the length are one slice's.
+    let refusal = unsafe { fenhamper_log_next(log.as_ptr(), log.len(), &mut at, &mut record) };
+    (refusal, at, record)
+}
+
+pub fn log_used(log: &[u8]) -> (u32, usize) {
+    let mut used = LEFT_NUMBER;
+    // SAFETY: the pointer and the length are one slice's.
+    let refusal = unsafe { fenhamper_log_used(log.as_ptr(), log.len(), &mut used) };
+    (refusal, used)
 }
 
 /// Place and length.

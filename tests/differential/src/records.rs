@@ -1,7 +1,8 @@
 //! What the records of the C face mean, by the header's words: of those that a call takes the
 //! reference's values, of those that it answers the numbers.
 use crate::raw;
-use reference::{Answer, Client, Flow, Form, Reading, Sent, Settings, State, Tag, TagKind, Walked};
+use reference::{Answer, Client, Flow, Form, LogEnd, Logged, Reading, Record};
+use reference::{Sent, Settings, State, Tag, TagKind, Walked};
 use std::array::from_fn;
 
 /// So many octets of a record.
@@ -106,6 +107,55 @@ pub fn walked(walked: Walked) -> [u64; raw::WALKED] {
             record[raw::WALKED_OPEN] = u64::from(open);
         }
     }
+    record
+}
+
+/// A record of a log: five fields, low octet first.
+pub fn record(record: &raw::Record) -> Record {
+    let octets = &record.0;
+    Record {
+        place: u32::from_le_bytes(part(octets, raw::RECORD_PLACE)),
+        outcome: octets[raw::RECORD_OUTCOME],
+        zero: octets[raw::RECORD_ZERO],
+        handed: u16::from_le_bytes(part(octets, raw::RECORD_DATA_LENGTH)),
+        status: u64::from_le_bytes(part(octets, raw::RECORD_STATUS)),
+    }
+}
+
+/// The octets of a record.
+pub fn record_written(record: &Record) -> raw::Record {
+    let mut octets = [0; raw::RECORD];
+    octets[raw::RECORD_PLACE..][..4].copy_from_slice(&record.place.to_le_bytes());
+    octets[raw::RECORD_OUTCOME] = record.outcome;
+    octets[raw::RECORD_ZERO] = record.zero;
+    octets[raw::RECORD_DATA_LENGTH..][..2].copy_from_slice(&record.handed.to_le_bytes());
+    octets[raw::RECORD_STATUS..][..8].copy_from_slice(&record.status.to_le_bytes());
+    raw::Record(octets)
+}
+
+/// The record of a reading's numbers, of each its low bits, as many as the field has; the other
+/// numbers mean nothing here.
+pub fn reading_record(reading: &[u64; raw::READING]) -> Record {
+    Record {
+        place: reading[raw::READING_START] as u32,
+        outcome: reading[raw::READING_OUTCOME] as u8,
+        zero: 0,
+        handed: reading[raw::READING_DATA_LENGTH] as u16,
+        status: reading[raw::READING_STATUS],
+    }
+}
+
+/// The numbers of a walk that keeps its readings; a refusal gives the call's place back.
+pub fn kept(logged: &Logged) -> [u64; raw::KEPT] {
+    let mut record = [0; raw::KEPT];
+    match logged.end {
+        LogEnd::Refused(number) => record[raw::KEPT_REFUSAL] = u64::from(number),
+        LogEnd::None => record[raw::KEPT_END] = raw::END_NONE,
+        LogEnd::Open => record[raw::KEPT_END] = raw::END_OPEN,
+        LogEnd::Full => record[raw::KEPT_END] = raw::END_FULL,
+    }
+    record[raw::KEPT_NEXT] = logged.next as u64;
+    record[raw::KEPT_RECORDS] = logged.appended as u64;
     record
 }
 

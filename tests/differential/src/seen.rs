@@ -2,6 +2,7 @@
 //! from the inputs themselves, not from what the generator meant to draw.
 use crate::generate::{Sending, PREAMBLE, RESERVED_GROUP, SYMBOLS};
 use crate::raw;
+use crate::seen_log::KeepSeen;
 use reference::{fcs, Answer, Check, Client, Flow, Form, Reading, Sent, Settings, State, Walked};
 
 /// The call that made a reading.
@@ -473,6 +474,8 @@ pub enum CCall<'a> {
     Read(ReadingSeen<'a>),
     /// A walk.
     Walk(WalkSeen<'a>),
+    /// A walk that keeps its readings.
+    Keep(KeepSeen<'a>),
     /// A sending.
     Send(SendingSeen<'a>),
 }
@@ -483,6 +486,7 @@ impl CSeen<'_> {
         match &self.call {
             CCall::Read(_) => "read",
             CCall::Walk(_) => "walk",
+            CCall::Keep(_) => "walk_log",
             CCall::Send(sending) => sending.call.name(),
         }
     }
@@ -492,6 +496,7 @@ impl CSeen<'_> {
         match &self.call {
             CCall::Read(reading) => reading.refusal,
             CCall::Walk(walk) => walk.refusal(),
+            CCall::Keep(walk) => walk.refusal(),
             CCall::Send(sending) => sending.refusal(),
         }
     }
@@ -524,11 +529,11 @@ pub struct FcsSeen<'a> {
 }
 
 /// Refusal 1.
-fn bad_settings(s: &Settings) -> bool {
+pub fn bad_settings(s: &Settings) -> bool {
     s.own[0] & 1 == 1 || s.count > 4 || s.limit < 1518 || s.limit > 9618
 }
 
 /// Refusal 2.
-fn bad_buffers(octets: usize, marks: usize) -> bool {
+pub fn bad_buffers(octets: usize, marks: usize) -> bool {
     octets != marks || octets > SYMBOLS
 }

@@ -36,11 +36,23 @@ fn pieces(symbols: impl Iterator<Item = (u8, u8)>, whole: bool) -> String {
         }
         pieces.push(piece);
     }
+    shortened(pieces, whole)
+}
+
+/// Both ends of a long list, or all of it.
+fn shortened(mut pieces: Vec<String>, whole: bool) -> String {
     let left_out = pieces.len().saturating_sub(2 * PIECES);
     if left_out > 0 && !whole {
         pieces.splice(PIECES..PIECES + left_out, ["...".to_string()]);
     }
     pieces.join(", ")
+}
+
+/// A log, a group of digits for each record and for what is left over.
+pub fn log(octets: &[u8], whole: bool) -> String {
+    let digits = |slot: &[u8]| slot.iter().map(|octet| format!("{octet:02X}")).collect();
+    let records: Vec<String> = octets.chunks(16).map(digits).collect();
+    format!("{} octets: {}", octets.len(), shortened(records, whole))
 }
 
 /// A sending call but for settings, state, buffers and place.

@@ -5,7 +5,7 @@ use fenhamper::{Outcome, Refusal};
 const HEADER: &str = include_str!("../../../include/fenhamper.h");
 
 /// In the order of their numbers.
-const ALL_REFUSALS: [Refusal; 10] = [
+const ALL_REFUSALS: [Refusal; 13] = [
     Refusal::BadSettings,
     Refusal::BadBuffers,
     Refusal::BadPlace,
@@ -16,6 +16,9 @@ const ALL_REFUSALS: [Refusal; 10] = [
     Refusal::NoRoom,
     Refusal::Held,
     Refusal::ManyTags,
+    Refusal::BadLog,
+    Refusal::LogFull,
+    Refusal::NotUsed,
 ];
 
 /// Whether the header gives this name this number, and says it in these words.

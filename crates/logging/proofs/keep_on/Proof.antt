@@ -2,92 +2,125 @@
 -- what is left of the capture. Assumes nothing.
 use Prim.Native.Nat.{ℕ, _+_, _-_, _*_, _/_, _≤_, _<_}
 use native.Mathlib.Omega.{arith}
-use mathlib.Core.Path.{_≡_, refl, sym, ap, ap₂, _∙_, subst}
+use native.Mathlib.Nat.{lt-of-not-le}
+use mathlib.Core.Path.{_≡_, refl, sym, ap, ap₂, _∙_}
 use mathlib.Core.List.{List}
-use lib.ListN.{length}
+use mathlib.Core.Logic.{⊎-elim}
+use lib.ListN.{length, getD}
 use denote.Ref.{now}
 use borrow.Author.Needs.{needs}
-use native.Mathlib.Nat.{lt-of-not-le}
-use Rattle.line.specs.Line.{overwrite}
+use Rattle.line.specs.declared.Found.the-variants.{At}
+use Rattle.line.specs.Line.{capture, findStart, findControl, overwrite}
+use Rattle.line.specs.Octets.{between}
 use Rattle.line.specs.Table.{first}
+use Rattle.line.proofs.Places.{start-found, control-found}
+use Rattle.station.specs.declared.Outcome.{Outcome}
+use Rattle.station.specs.declared.Slots.{Slots}
 use Rattle.station.specs.declared.Checked.the-variants.{Fine}
+use Rattle.station.specs.Station.{counted}
+use Rattle.flow.specs.Timers.{timersAfter}
+use Rattle.flow.proofs.Stays.{stays}
+use Rattle.outcome.specs.Outcomes.{outcome, frameOf}
 use Rattle.log.specs.declared.Record.{Record}
 use Rattle.log.specs.Log.{frontCount, octetsOfRecord}
 use Rattle.log.specs.Searched.{unusedFrom}
-use Rattle.log.specs.Claims.{IsMultiple, Fits}
+use Rattle.log.specs.Claims.{IsMultiple}
 use Rattle.log.proofs.Searches.{unused-start, count-le, length-written}
 use Rattle.log.proofs.Records.{length-record}
-use Rattle.receive.specs.declared.Reading.{Reading}
-use Rattle.receive.specs.Values.{isCounted}
-use Rattle.receive.specs.Reading.{readRefusals}
+use Rattle.receive.specs.Reading.{readRefusals, stateAfter}
 use Rattle.receive.proofs.Refusals.{passed, still-fine}
+use Rattle.receive.proofs.Sights.{at-state}
+use Rattle.logging.specs.Steps.{recordOfFrame}
 use Rattle.logging.specs.Walks.{keepFrom, walkLogged}
-use Rattle.logging.specs.Records.{recordOfReading}
-use Rattle.logging.proofs.Readings.{Sound, reading-sound, reading-fits}
+use Rattle.logging.proofs.Readings.{run-length}
 use Rattle.logging.proofs.Refusals.{keep-fine}
-use Rattle.logging.proofs.Turns.{turn-refused, turn-none, turn-open, turn-full, turn-kept, walk-fine, counted-some, next-unused}
+use Rattle.logging.proofs.Turns.{walk-fine}
+use Rattle.logging.proofs.Loops.{loop-none, loop-open, loop-full, loop-kept, loop-next}
 use Rattle.logging.proofs.keep_on.Statement.{statement}
 use Rattle.logging.proofs.keep_on.Tie as tie
 
 abbrev Inv-loop : tie.InvT-loop
-Inv-loop s octets marks place log₀ records st₀ at₀ n₀ k₀ log st at n k =
-    (keepFrom (length octets + 1 - n) s st octets marks at n log ≡ walkLogged s st₀ octets marks place log₀)
+Inv-loop t s octets marks place log₀ records counters₀ timers₀ n₀ at₀ k₀ log counters timers n at k =
+    (keepFrom (length octets + 1 - n) s (at-state counters timers) octets marks at n log
+    ≡ walkLogged s (at-state counters₀ timers₀) octets marks place log₀)
     × (n ≤ at)
     × (at ≤ length octets)
     × (length log ≡ length log₀)
     × (k ≡ frontCount log)
 
 abbrev μ-loop : tie.MeasureT-loop
-μ-loop s octets marks place log₀ records st₀ at₀ n₀ k₀ log st at n k = length octets - at
+μ-loop t s octets marks place log₀ records counters₀ timers₀ n₀ at₀ k₀ log counters timers n at k = length octets - at
 
--- the places that others look back to: the call, from a turn of the loop; the turn, from its reading; that, from where the reading counted a Start; and
--- that, from where its record is made
+-- the places that others look back to: the call, from a turn of the loop; the turn, from where its Start is found; that, from where the end of its run is
+-- found; where a record is unused, from where the outcome is known; that, from where the timers are; and that, from where the record is made
 abbrev call : tie.At-loop Inv-loop μ-loop → tie.Start Inv-loop μ-loop
-call c = c .before .before .before .before .before .before
+call c = c .before .before .before .before .before .before .before .before .before
 
-abbrev turn : tie.After-read Inv-loop μ-loop → tie.At-loop Inv-loop μ-loop
-turn c = c .before
+abbrev turning : tie.After-known-told Inv-loop μ-loop → tie.At-loop Inv-loop μ-loop
+turning c = c .before .before .before .before
 
-abbrev seen : tie.After-enum-told3 Inv-loop μ-loop → tie.After-read Inv-loop μ-loop
-seen c = c .before .before .before
+abbrev starting : tie.After-known-told2 Inv-loop μ-loop → tie.After-known-told Inv-loop μ-loop
+starting c = c .before .before .before .before
 
-abbrev made : tie.After-record-of Inv-loop μ-loop → tie.Else1 Inv-loop μ-loop
-made c = c .before .before
+abbrev unused : tie.After-outcome Inv-loop μ-loop → tie.Else1 Inv-loop μ-loop
+unused c = c .before .before .before
 
--- the octets, and the log at a turn
+abbrev settled : tie.Joined2 Inv-loop μ-loop → tie.After-outcome Inv-loop μ-loop
+settled c = c .before .before .before .before
+
+abbrev made : tie.After-record-of-run Inv-loop μ-loop → tie.Joined2 Inv-loop μ-loop
+made c = c .before .before .before
+
+-- the octets, the log at a turn, the Start's place and that of the end of its run
 abbrev octets : tie.At-loop Inv-loop μ-loop → List ℕ
 octets c = now (call c .args .octets)
 
 abbrev log : tie.At-loop Inv-loop μ-loop → List ℕ
 log c = c .loop .log
 
+abbrev start : tie.After-known-told Inv-loop μ-loop → ℕ
+start c = c .before .start .given .0 .0
+
+abbrev end : tie.After-known-told2 Inv-loop μ-loop → ℕ
+end c = c .before .end .given .0 .0
+
 -- what each turn knows: it is not refused, the log's length is a multiple of 16, and readings are left
 fine : (c : tie.At-loop Inv-loop μ-loop)
     → let a = call c .args in first (readRefusals (a .s) (now (a .octets)) (now (a .marks)) (c .loop .at)) ≡ Fine
-fine c = still-fine _ _ _ _ _ (keep-fine _ _ _ _ _ (call c .pre) .0) (c .loop .inv .2)
+fine c = still-fine _ _ _ _ _ (keep-fine _ _ _ _ _ (call c .pre .1) .0) (c .loop .inv .2)
 
 good : (c : tie.At-loop Inv-loop μ-loop) → IsMultiple (log c)
-good c = let g = keep-fine _ _ _ _ _ (call c .pre) .1 in let e = c .loop .inv .3 in omega arith
+good c = let g = keep-fine _ _ _ _ _ (call c .pre .1) .1 in let e = c .loop .inv .3 in omega arith
 
 more : (c : tie.At-loop Inv-loop μ-loop) → 0 < length (octets c) + 1 - c .loop .n
 more c = let a = c .loop .inv .1 in let b = c .loop .inv .2 in omega arith
 
--- its reading is one of the capture
-sound : (c : tie.After-read Inv-loop μ-loop) → Sound (octets (turn c)) (turn c .loop .at) (c .read .result)
-sound c = subst (Sound (octets (turn c)) (turn c .loop .at)) (sym (c .read .ensures)) (reading-sound _ _ _ _ _ (fine (turn c)))
+-- where the Start is, and where its run ends; both lie inside the buffers
+found-start : (c : tie.After-known-told Inv-loop μ-loop)
+    → let a = call (turning c) .args in findStart (capture (now (a .octets)) (now (a .marks))) (turning c .loop .at) ≡ At (start c)
+found-start c = sym (c .before .before .before .find-start .ensures) ∙ c .before .start .given .1
 
-fits : (c : tie.After-read Inv-loop μ-loop) → Fits (recordOfReading (c .read .result))
-fits c = subst (λ (r : Reading). Fits (recordOfReading r)) (sym (c .read .ensures)) (reading-fits _ _ _ _ _ (fine (turn c)))
+found-end : (c : tie.After-known-told2 Inv-loop μ-loop)
+    → let a = call (turning (starting c)) .args in findControl (capture (now (a .octets)) (now (a .marks))) (start (starting c) + 1) ≡ At (end c)
+found-end c = sym (c .before .before .before .find-control .ensures) ∙ c .before .end .given .1
 
--- one that counted a Start moves on inside the capture
-moves : (c : tie.After-enum-told3 Inv-loop μ-loop)
-    → (turn (seen c) .loop .at < seen c .read .result .next) × (seen c .read .result .next < length (octets (turn (seen c))))
-moves c = sound (seen c) .on (ap isCounted (c .enum-told3 .given .1))
+start-inside : (c : tie.After-known-told Inv-loop μ-loop)
+    → (turning c .loop .at ≤ start c) × (start c < length (octets (turning c))) × (length (octets (turning c)) ≤ 65536)
+start-inside c =
+    let k = passed _ _ _ _ (fine (turning c)) in
+    let f = start-found _ _ (k .even) _ _ (found-start c) in
+    (f .0, f .1, k .small)
 
--- and where it is kept the log has an unused record
-inside : (c : tie.Else1 Inv-loop μ-loop) → let l = turn (seen (c .before)) in l .loop .k < length (log l) / 16
+end-inside : (c : tie.After-known-told2 Inv-loop μ-loop)
+    → (start (starting c) + 1 ≤ end c) × (end c < length (octets (turning (starting c))))
+end-inside c =
+    let e = control-found _ _ (passed _ _ _ _ (fine (turning (starting c))) .even) _ _ (found-end c) in
+    (e .0, e .1)
+
+-- where the log is not full it has record k
+inside : (c : tie.Else1 Inv-loop μ-loop) → let l = turning (starting (c .before)) in l .loop .k < length (log l) / 16
 inside c =
-    let l = turn (seen (c .before)) in
+    let l = turning (starting (c .before)) in
     let e = l .loop .inv .4 in
     let g = count-le (log l) in
     let s = l .loop .inv .3 in
@@ -98,123 +131,234 @@ unused-from-requires c κs = search needs
 
 loop-holds : tie.Need-loop-holds Inv-loop μ-loop
 loop-holds c =
-    let k = c .before .before .before .before .before in
+    let k = c .before .before .before .before .before .before .before .before in
     let a = k .args in
     let os = now (a .octets) in
     let e : length os + 1 - 0 ≡ length os + 1 = omega arith in
-    let b = passed _ _ _ _ (keep-fine _ _ _ _ _ (k .pre) .0) .inside in (
-      ap (λ (m : ℕ). keepFrom m (a .s) (a .state) os (now (a .marks)) (a .place) 0 (now (a .log))) e ∙ sym (walk-fine _ _ _ _ _ _ (k .pre)),
+    let b = passed _ _ _ _ (keep-fine _ _ _ _ _ (k .pre .1) .0) .inside in (
+      ap (λ (m : ℕ). keepFrom m (a .s) (a .state) os (now (a .marks)) (a .place) 0 (now (a .log))) e ∙ sym (walk-fine _ _ _ _ _ _ (k .pre .1)),
       omega arith,
       omega arith,
       refl,
       c .unused-from .ensures ∙ unused-start _,
     )
 
-read-requires : tie.Need-read-requires Inv-loop μ-loop
-read-requires c κs = search needs
+find-start-requires : tie.Need-find-start-requires Inv-loop μ-loop
+find-start-requires c κs = search needs
 
-enum-known-a : tie.Need-enum-known-a Inv-loop μ-loop
-enum-known-a c = search needs
+enum-known-start : tie.Need-enum-known-start Inv-loop μ-loop
+enum-known-start c = search needs
+
+enum-told : tie.Need-enum-told Inv-loop μ-loop
+enum-told c = search needs
 
 same-length : tie.Need-same-length Inv-loop μ-loop
 same-length c = search needs
 
 returns : tie.Need-returns Inv-loop μ-loop
 returns c =
-    let r = c .before .before .before .before in
-    sym (turn-refused _ _ _ _ _ _ _ _ (more (turn r)) _ (r .read .ensures) _ (c .before .a .given .1)) ∙ turn r .loop .inv .0
+    let l = c .before .before .before in
+    let none = sym (c .before .before .find-start .ensures) ∙ c .enum-told .given .1 in
+    sym (loop-none _ _ _ _ (fine l) _ _ _ _ (more l) none) ∙ l .loop .inv .0
 
-enum-told : tie.Need-enum-told Inv-loop μ-loop
-enum-told c = search needs
+add-from : tie.Need-add-from Inv-loop μ-loop
+add-from c = let k = start-inside c in omega arith
+
+find-control-requires : tie.Need-find-control-requires Inv-loop μ-loop
+find-control-requires c κs = search needs
+
+enum-known-end : tie.Need-enum-known-end Inv-loop μ-loop
+enum-known-end c = search needs
+
+enum-told-2 : tie.Need-enum-told-2 Inv-loop μ-loop
+enum-told-2 c = search needs
 
 same-length-2 : tie.Need-same-length-2 Inv-loop μ-loop
 same-length-2 c = search needs
 
 returns-2 : tie.Need-returns-2 Inv-loop μ-loop
 returns-2 c =
-    let r = c .before .before .before in
-    sym (turn-none _ _ _ _ _ _ _ _ (more (turn r)) _ (r .read .ensures) (c .enum-told .given .1)) ∙ turn r .loop .inv .0
-
-enum-told-2 : tie.Need-enum-told-2 Inv-loop μ-loop
-enum-told-2 c = search needs
+    let k = c .before .before .before in
+    let l = turning k in
+    let unended = sym (c .before .before .find-control .ensures) ∙ c .enum-told2 .given .1 in
+    sym (loop-open _ _ _ _ (fine l) _ _ _ _ (more l) _ (found-start k) unended) ∙ l .loop .inv .0
 
 same-length-3 : tie.Need-same-length-3 Inv-loop μ-loop
 same-length-3 c = search needs
 
 returns-3 : tie.Need-returns-3 Inv-loop μ-loop
 returns-3 c =
-    let r = c .before .before .before in
-    sym (turn-open _ _ _ _ _ _ _ _ (more (turn r)) _ (r .read .ensures) (c .enum-told2 .given .1)) ∙ turn r .loop .inv .0
-
-enum-told-3 : tie.Need-enum-told-3 Inv-loop μ-loop
-enum-told-3 c = search needs
-
-same-length-4 : tie.Need-same-length-4 Inv-loop μ-loop
-same-length-4 c = search needs
-
-returns-4 : tie.Need-returns-4 Inv-loop μ-loop
-returns-4 c =
-    let r = seen (c .before) in
-    let i = turn r .loop .inv in
-    sym (turn-full _ _ _ _ _ _ _ _ (more (turn r)) _ (r .read .ensures) _ _ _ (c .before .enum-told3 .given .1) (good (turn r))
+    let k = c .before in
+    let l = turning (starting k) in
+    let i = l .loop .inv in
+    sym (loop-full _ _ _ _ (fine l) _ (found-start (starting k)) _ (found-end k) _ _ _ _ (more l) (good l)
     (sym (i .4) ∙ c .if1 .taken ∙ ap (λ (m : ℕ). m / 16) (sym (i .3))))
     ∙ i .0
 
-record-of-requires : tie.Need-record-of-requires Inv-loop μ-loop
-record-of-requires c κs = search needs
+sub-outcome : tie.Need-sub-outcome Inv-loop μ-loop
+sub-outcome c = let e = end-inside (c .before) in omega arith
+
+part-outcome-start : tie.Need-part-outcome-start Inv-loop μ-loop
+part-outcome-start c = let e = end-inside (c .before) in omega arith
+
+part-outcome-end : tie.Need-part-outcome-end Inv-loop μ-loop
+part-outcome-end c = let e = end-inside (c .before) in omega arith
+
+shared-slice-read-outcome : tie.Need-shared-slice-read-outcome Inv-loop μ-loop
+shared-slice-read-outcome c = let e = end-inside (c .before .before .before) in omega arith
+
+outcome-requires : tie.Need-outcome-requires Inv-loop μ-loop
+outcome-requires c κs = call (turning (starting (c .before .before .before))) .pre .0
+
+count-requires : tie.Need-count-requires Inv-loop μ-loop
+count-requires c κs = search needs
+
+sets-timers-requires : tie.Need-sets-timers-requires Inv-loop μ-loop
+sets-timers-requires c κs = search needs
+
+sub-frame-of : tie.Need-sub-frame-of Inv-loop μ-loop
+sub-frame-of c = let e = end-inside (unused (c .before .before .before .before) .before) in omega arith
+
+part-frame-of-start : tie.Need-part-frame-of-start Inv-loop μ-loop
+part-frame-of-start c = let e = end-inside (unused (c .before .before .before .before) .before) in omega arith
+
+part-frame-of-end : tie.Need-part-frame-of-end Inv-loop μ-loop
+part-frame-of-end c = let e = end-inside (unused (c .before .before .before .before) .before) in omega arith
+
+frame-of-requires : tie.Need-frame-of-requires Inv-loop μ-loop
+frame-of-requires c κs = search needs
+
+timers-after-requires : tie.Need-timers-after-requires Inv-loop μ-loop
+timers-after-requires c κs = search needs
+
+sub-record-of-run : tie.Need-sub-record-of-run Inv-loop μ-loop
+sub-record-of-run c = let e = end-inside (unused (settled (c .before)) .before) in omega arith
+
+part-record-of-run-start : tie.Need-part-record-of-run-start Inv-loop μ-loop
+part-record-of-run-start c = let e = end-inside (unused (settled (c .before)) .before) in omega arith
+
+part-record-of-run-end : tie.Need-part-record-of-run-end Inv-loop μ-loop
+part-record-of-run-end c = let e = end-inside (unused (settled (c .before)) .before) in omega arith
+
+record-of-run-requires : tie.Need-record-of-run-requires Inv-loop μ-loop
+unfolding between
+record-of-run-requires c κs =
+    let k = unused (settled (c .before .before)) .before in
+    let e = end-inside k in
+    let s = start-inside (starting k) in
+    let n = run-length (octets (turning (starting k))) (start (starting k) + 1) (end k) (omega arith) in
+    omega arith
 
 write-record-requires : tie.Need-write-record-requires Inv-loop μ-loop
-write-record-requires c κs = let h = inside (made c) in omega arith
+write-record-requires c κs = let h = inside (unused (settled (made c))) in omega arith
 
 add-unused-from : tie.Need-add-unused-from Inv-loop μ-loop
 add-unused-from c =
-    let e = made (c .before .before .before .before) in
-    let l = turn (seen (e .before)) in
-    let h = inside e in
+    let u = unused (settled (made (c .before .before .before .before))) in
+    let l = turning (starting (u .before)) in
+    let h = inside u in
     let i = l .loop .inv .3 in
-    let g = call l .good .1 .1 .1 .1 .1 .0 .0 in
+    let g = call l .good .1 .1 .1 .1 .1 .1 .0 .0 in
     omega arith
 
 unused-from-requires-2 : tie.Need-unused-from-requires-2 Inv-loop μ-loop
 unused-from-requires-2 c κs = search needs
 
+-- the place where the record was written, from the end of a turn; and that where the run's end was found, from there
+abbrev wrote : tie.After-unused-from2 Inv-loop μ-loop → tie.After-write-record Inv-loop μ-loop
+wrote c = c .before .before .before .before
+
+abbrev ending : tie.Joined2 Inv-loop μ-loop → tie.After-known-told2 Inv-loop μ-loop
+ending c = unused (settled c) .before
+
 add-n : tie.Need-add-n Inv-loop μ-loop
 add-n c =
-    let t = made (c .before .before .before .before .before) .before in
-    let h = moves t in
-    let b = passed _ _ _ _ (fine (turn (seen t))) .small in
-    let i = turn (seen t) .loop .inv .1 in
+    let k = ending (made (wrote c .before)) in
+    let e = end-inside k in
+    let s = start-inside (starting k) in
+    let i = turning (starting k) .loop .inv .1 in
     omega arith
 
 loop-less : tie.Need-loop-less Inv-loop μ-loop
-loop-less c = let h = moves (made (c .before .before .before .before .before) .before) in omega arith
+loop-less c = let k = ending (made (wrote c .before)) in let e = end-inside k in let s = start-inside (starting k) in omega arith
+
+-- the run, its outcome and the record of its frame
+abbrev run : tie.Joined2 Inv-loop μ-loop → List ℕ
+run c = let k = ending c in between (octets (turning (starting k))) (start (starting k) + 1) (end k)
+
+abbrev becomes : tie.Joined2 Inv-loop μ-loop → Outcome
+becomes c = let k = ending c in let l = turning (starting k) in outcome (call l .args .s) (run c) (getD (octets l) (end k) 0)
+
+abbrev recorded : tie.Joined2 Inv-loop μ-loop → Record
+recorded c = let k = starting (ending c) in recordOfFrame (call (turning k) .args .s) (start k) (frameOf (run c)) (becomes c)
+
+outcome-is : (c : tie.Joined2 Inv-loop μ-loop) → settled c .outcome .result ≡ becomes c
+unfolding between
+outcome-is c = settled c .outcome .ensures
+
+-- the counters and the timers after a turn, these set or left as they were
+counters-now : (c : tie.Joined2 Inv-loop μ-loop) → c .before .before .count .last .1 .0 ≡ counted (becomes c) (turning (starting (ending c)) .loop .counters)
+counters-now c = c .before .before .count .ensures ∙ ap (λ (x : Outcome). counted x (turning (starting (ending c)) .loop .counters)) (outcome-is c)
+
+abbrev Moved : tie.Joined2 Inv-loop μ-loop → Outcome → Type 0
+Moved c o = c .if2 .timers ≡ timersAfter o (frameOf (run c)) (turning (starting (ending c)) .loop .timers)
+
+timers-now : (c : tie.Joined2 Inv-loop μ-loop) → Moved c (becomes c)
+unfolding between
+timers-now c =
+    let o = settled c .outcome .result in
+    let was = turning (starting (ending c)) .loop .timers in
+    ⊎-elim {C = Moved c o}
+    (λ w. w .4 ∙ w .3 .ensures ∙ ap (λ (l : List ℕ). timersAfter o l was) (w .2 .ensures))
+    (λ w. w .1 ∙ stays _ _ _ (sym (c .before .sets-timers .ensures) ∙ w .0 .left))
+    (c .if2 .came)
+    ∙ ap (λ (x : Outcome). timersAfter x (frameOf (run c)) was) (outcome-is c)
+
+-- the log after a turn
+log-now : (c : tie.After-write-record Inv-loop μ-loop)
+    → let j = made (c .before) in let l = turning (starting (ending j)) in
+    c .write-record .last .0 ≡ overwrite (log l) (16 * l .loop .k) (octetsOfRecord (recorded j))
+unfolding between
+log-now c =
+    let j = made (c .before) in
+    let k = starting (ending j) in
+    let l = turning k in
+    c .write-record .ensures
+    ∙ ap (λ (x : Record). overwrite (log l) (16 * l .loop .k) (octetsOfRecord x))
+    (c .before .record-of-run .ensures ∙ ap (recordOfFrame (call l .args .s) (start k) (frameOf (run j))) (outcome-is j))
 
 loop-again : tie.Need-loop-again Inv-loop μ-loop
+unfolding stateAfter
 loop-again c =
-    let w = c .before .before .before .before in
-    let e = made (w .before) in
-    let r = seen (e .before) in
-    let l = turn r in
+    let j = made (wrote c .before) in
+    let k = ending j in
+    let l = turning (starting k) in
     let a = call l .args in
     let i = l .loop .inv in
-    let x = r .read .result in
-    let h = moves (e .before) in
-    let g = inside e in
-    let some = counted-some x _ _ _ (e .before .enum-told3 .given .1) in
-    let m : List ℕ = overwrite (log l) (16 * l .loop .k) (octetsOfRecord (recordOfReading x)) in
-    let kept : w .write-record .last .0 ≡ m
-    = w .write-record .ensures ∙ ap (λ (y : Record). overwrite (log l) (16 * l .loop .k) (octetsOfRecord y)) (w .before .record-of .ensures) in
+    let x = recorded j in
+    let s = start-inside (starting k) in
+    let e = end-inside k in
+    let g = inside (unused (settled j)) in
+    let m : List ℕ = overwrite (log l) (16 * l .loop .k) (octetsOfRecord x) in
+    let same = log-now (wrote c) in
+    let start-is = found-start (starting k) in
+    let end-is = found-end k in
     let fuel : length (octets l) + 1 - (l .loop .n + 1) ≡ length (octets l) + 1 - l .loop .n - 1 = omega arith in (
-      ap₂ (λ (k : ℕ) (y : List ℕ). keepFrom k (a .s) (x .state) (octets l) (now (a .marks)) (x .next) (l .loop .n + 1) y) fuel kept
-          ∙ sym (turn-kept _ _ _ _ _ _ _ _ (more l) _ (r .read .ensures) _ _ _ (e .before .enum-told3 .given .1) (good l) _ (i .4) g)
+      ap₂ (λ (b : ℕ) (y : List ℕ).
+          keepFrom b (a .s) (at-state (j .before .before .count .last .1 .0) (j .if2 .timers)) (octets l) (now (a .marks)) (end k) (l .loop .n + 1) y)
+          fuel same
+          ∙ ap₂ (λ (cs : List ℕ) (ts : List Slots).
+          keepFrom (length (octets l) + 1 - l .loop .n - 1) (a .s) (at-state cs ts) (octets l) (now (a .marks)) (end k) (l .loop .n + 1) m)
+          (counters-now j) (timers-now j)
+          ∙ sym (loop-kept _ _ _ _ (fine l) _ start-is _ end-is _ _ _ _ (more l) (good l) _ (i .4) g)
           ∙ i .0,
       omega arith,
       omega arith,
-      ap length kept ∙ length-written (log l) (l .loop .k) _ (length-record (recordOfReading x)) (omega arith) ∙ i .3,
+      ap length same ∙ length-written (log l) (l .loop .k) _ (length-record x) (omega arith) ∙ i .3,
       c .unused-from2 .ensures
-          ∙ ap (λ (y : List ℕ). unusedFrom y (l .loop .k + 1)) kept
-          ∙ next-unused (log l) (l .loop .k) (recordOfReading x) (fits r) some (omega arith) (i .4)
-          ∙ ap frontCount (sym kept),
+          ∙ ap (λ (y : List ℕ). unusedFrom y (l .loop .k + 1)) same
+          ∙ loop-next _ _ _ _ (fine l) _ start-is _ end-is (log l) (l .loop .k) (omega arith) (i .4)
+          ∙ ap frontCount (sym same),
     )
 
 pub keep-on-spec : {M : Type 1} → statement M
@@ -225,20 +369,35 @@ keep-on-spec =
     μ-loop
     unused-from-requires
     loop-holds
-    read-requires
-    enum-known-a
+    find-start-requires
+    enum-known-start
+    enum-told
     same-length
     returns
-    enum-told
+    add-from
+    find-control-requires
+    enum-known-end
+    enum-told-2
     same-length-2
     returns-2
-    enum-told-2
     same-length-3
     returns-3
-    enum-told-3
-    same-length-4
-    returns-4
-    record-of-requires
+    sub-outcome
+    part-outcome-start
+    part-outcome-end
+    shared-slice-read-outcome
+    outcome-requires
+    count-requires
+    sets-timers-requires
+    sub-frame-of
+    part-frame-of-start
+    part-frame-of-end
+    frame-of-requires
+    timers-after-requires
+    sub-record-of-run
+    part-record-of-run-start
+    part-record-of-run-end
+    record-of-run-requires
     write-record-requires
     add-unused-from
     unused-from-requires-2

@@ -254,6 +254,30 @@ pub fn capture(prng: &mut Prng, s: &Settings) -> Symbols {
     symbols
 }
 
+/// A capture as long as a walk makes tables for, or one symbol shorter.
+pub fn tabled_capture(prng: &mut Prng, s: &Settings) -> Symbols {
+    let odd = prng.one_in(4);
+    Pen { prng, odd }.tabled(s)
+}
+
+/// As many symbols as a call takes, or one more: Idles, and a few Starts.
+pub fn longest_capture(prng: &mut Prng) -> Symbols {
+    let n = prng.pick(&[SYMBOLS, SYMBOLS + 1]);
+    let mut symbols = Symbols::of(IDLE, 1, n);
+    for _ in 0..prng.below(6) {
+        symbols.octets[prng.below(n)] = START;
+    }
+    symbols
+}
+
+/// How many Starts stand in a capture.
+pub fn starts(symbols: &Symbols) -> usize {
+    let pairs = symbols.octets.iter().zip(&symbols.marks);
+    pairs
+        .filter(|(&octet, &mark)| octet == START && mark != 0)
+        .count()
+}
+
 /// One of the two a little or a lot shorter or longer.
 pub fn unequal(prng: &mut Prng, symbols: &mut Symbols) {
     let n = symbols.len();

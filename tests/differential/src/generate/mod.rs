@@ -2,12 +2,15 @@
 
 mod captures;
 mod frames;
+mod logs;
 mod records;
 mod sendings;
 mod settings;
 mod tags;
 
-pub use captures::{capture, place, Symbols};
+pub use captures::{capture, longest_capture, place, starts, tabled_capture, Symbols};
+pub use logs::{log, log_with_room, record, record_number, short_log};
+pub use logs::{reading_record, BEYOND_THE_LOG};
 pub use records::{client_record, settings_record, spoil, state_record};
 pub use sendings::{blank_line, sending, sending_place, timed, Sending};
 pub use settings::{settings, state, valid_settings, BROADCAST, HIGHEST_BIT, RESERVED_GROUP};

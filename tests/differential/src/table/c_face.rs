@@ -9,7 +9,7 @@ use reference::Form;
 const ON: [u8; 3] = [2, 128, 255];
 
 /// The calls that take a state.
-const CALLS: [&str; 6] = ["read", "walk", "client", "pause", "PFC", "idle"];
+const CALLS: [&str; 7] = ["read", "walk", "walk_log", "client", "pause", "PFC", "idle"];
 
 pub fn rows(t: &mut Table) {
     flags(t);
@@ -176,7 +176,7 @@ fn refused_states(t: &mut Table) {
             move |c| c.name() == call && c.refusal() > 0 && stays(c),
         );
     }
-    for refusal in 1..=10 {
+    for refusal in 1..=11 {
         t.c(
             format!("C: refusal {refusal}: every number stays"),
             move |c| c.refusal() == refusal && stays(c),

@@ -3,12 +3,15 @@
 mod c_face;
 mod control;
 mod frames;
+mod keeping;
+mod log;
 mod reading;
 mod sending;
 mod tags;
 
 use crate::coverage::{Row, When};
 use crate::seen::{CSeen, FcsSeen, ReadingSeen, SendingSeen, WalkSeen};
+use crate::seen_log::{GoingOnSeen, KeepSeen, LogSeen};
 use std::collections::BTreeSet;
 
 /// All rows, none hit yet.
@@ -19,6 +22,8 @@ pub(crate) fn rows() -> Vec<Row> {
     tags::rows(&mut table);
     control::rows(&mut table);
     sending::rows(&mut table);
+    log::rows(&mut table);
+    keeping::rows(&mut table);
     c_face::rows(&mut table);
     fcs_rows(&mut table);
     let names: BTreeSet<_> = table.0.iter().map(|row| &row.name).collect();
@@ -65,6 +70,18 @@ impl Table {
 
     fn sending(&mut self, name: impl Into<String>, test: impl Fn(&SendingSeen) -> bool + 'static) {
         self.row(name, When::Sending(Box::new(test)));
+    }
+
+    fn log(&mut self, name: impl Into<String>, test: impl Fn(&LogSeen) -> bool + 'static) {
+        self.row(name, When::Log(Box::new(test)));
+    }
+
+    fn keep(&mut self, name: impl Into<String>, test: impl Fn(&KeepSeen) -> bool + 'static) {
+        self.row(name, When::Keep(Box::new(test)));
+    }
+
+    fn going_on(&mut self, name: impl Into<String>, test: impl Fn(&GoingOnSeen) -> bool + 'static) {
+        self.row(name, When::GoingOn(Box::new(test)));
     }
 
     fn c(&mut self, name: impl Into<String>, test: impl Fn(&CSeen) -> bool + 'static) {

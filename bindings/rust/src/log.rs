@@ -1,0 +1,497 @@
+//! Keeping the readings of a run in a log.
+use crate::answers::{Outcome, Refusal, Status};
+use crate::receive::{Capture, Counted, Reading};
+use crate::settings::Settings;
+use crate::state::State;
+use crate::sys;
+use core::iter::FusedIterator;
+
+/// A record of a log: what is kept of a counted Start.
+///
+/// Any values make a record, and records are read as they stand. Those of readings have an outcome
+/// of 1 to 11 and a zero octet of 0.
+///
+/// ```
+/// use fenhamper::{Log, Outcome, Record, Status};
+///
+/// let record = Record {
+///     place: 12,
+///     outcome_number: 11,
+///     zero: 0,
+///     data_length: 16,
+///     status: Status::new(0x4000400010),
+/// };
+/// assert_eq!(record.outcome(), Some(Outcome::HandedOut));
+/// assert!(record.status.unicast());
+///
+/// let mut octets = [0; 16];
+/// Log::new(&mut octets)?.append(record)?;
+/// assert_eq!(octets, [12, 0, 0, 0, 11, 0, 16, 0, 0x10, 0, 0x40, 0, 0x40, 0, 0, 0]);
+/// # Ok::<(), fenhamper::Refusal>(())
+/// ```
+#[derive(Clone, Copy, Debug, Default, PartialEq, Eq, Hash)]
+pub struct Record {
+    /// The Start's place.
+    pub place: u32,
+    /// The outcome's number, which [`outcome`](Record::outcome) names. 0 stands for a reading that
+    /// counted no Start: such a record is not appended, and where it stands in a log it is unused.
+    pub outcome_number: u8,
+    /// 0 in the record of a reading.
+    pub zero: u8,
+    /// How many octets were handed out.
+    pub data_length: u16,
+    /// The status word.
+    pub status: Status,
+}
+
+impl Record {
+    /// The outcome, if its number is 1 to 11.
+    ///
+    /// ```
+    /// use fenhamper::{Outcome, Record};
+    ///
+    /// let numbers = [0, 1, 11, 12].map(|outcome_number| Record {
+    ///     outcome_number,
+    ///     ..Record::default()
+    /// });
+    /// let outcomes = [None, Some(Outcome::Cut), Some(Outcome::HandedOut), None];
+    /// assert_eq!(numbers.map(|record| record.outcome()), outcomes);
+    /// ```
+    #[must_use]
+    pub fn outcome(&self) -> Option<Outcome> {
+        Outcome::from_number(self.outcome_number)
+    }
+
+    // As the header lays it out.
+    const fn record(self) -> sys::Record {
+        sys::Record {
+            place: self.place,
+            outcome: self.outcome_number,
+            zero: self.zero,
+            data_length: self.data_length,
+            status: self.status.word(),
+        }
+    }
+
+    // The record that the header lays out so, unless the number of a refusal comes with it.
+    fn of((refusal, record): (u64, sys::Record)) -> Result<Record, Refusal> {
+        Refusal::check(refusal)?;
+        Ok(Record {
+            place: record.place,
+            outcome_number: record.outcome,
+            zero: record.zero,
+            data_length: record.data_length,
+            status: Status::new(record.status),
+        })
+    }
+}
+
+// Whether octets are a log. No log has so great a record number: that it is not used is said only
+// where the length is right.
+fn check(octets: &[u8]) -> Result<(), Refusal> {
+    match Record::of(sys::log_record(octets, usize::MAX)) {
+        Ok(_) | Err(Refusal::NotUsed) => Ok(()),
+        Err(refusal) => Err(refusal),
+    }
+}
+
+/// A log that is lent to be read: records of 16 octets side by side, with no header.
+///
+/// A record is used if its outcome is not 0. Reading back goes up to the first unused one.
+///
+/// ```
+/// use fenhamper::{LogView, Outcome, Refusal};
+///
+/// // a cut Start at place 7, and an unused record
+/// let mut octets = [0; 32];
+/// octets[..5].copy_from_slice(&[7, 0, 0, 0, 1]);
+/// let log = LogView::new(&octets)?;
+/// for record in log {
+///     println!("{:?} at {}", record.outcome(), record.place);
+/// }
+/// assert_eq!((log.used(), log.capacity()), (1, 2));
+/// assert_eq!(log.record(0)?.outcome(), Some(Outcome::Cut));
+/// assert_eq!(log.record(1), Err(Refusal::NotUsed));
+/// # Ok::<(), Refusal>(())
+/// ```
+#[derive(Clone, Copy, Debug, PartialEq, Eq, Hash)]
+#[must_use]
+pub struct LogView<'a> {
+    // a whole number of records
+    octets: &'a [u8],
+}
+
+impl<'a> LogView<'a> {
+    /// The log in these octets.
+    ///
+    /// ```
+    /// use fenhamper::{LogView, Refusal};
+    ///
+    /// // no octets are a log of no records; 17 are no log
+    /// assert_eq!(LogView::new(&[])?.capacity(), 0);
+    /// assert_eq!(LogView::new(&[0; 17]), Err(Refusal::BadLog));
+    /// # Ok::<(), Refusal>(())
+    /// ```
+    ///
+    /// # Errors
+    ///
+    /// Refusal 11 for a length that is no multiple of 16. So no call on a log gives it.
+    pub fn new(octets: &'a [u8]) -> Result<LogView<'a>, Refusal> {
+        check(octets)?;
+        Ok(LogView { octets })
+    }
+
+    /// Its octets, as they are written to a file.
+    #[must_use]
+    pub const fn octets(&self) -> &'a [u8] {
+        self.octets
+    }
+
+    /// How many records it has, used or not.
+    #[must_use]
+    pub const fn capacity(&self) -> usize {
+        self.octets.len() / sys::RECORD_SIZE
+    }
+
+    /// How many used records stand in front of the first unused one.
+    #[must_use]
+    pub fn used(&self) -> usize {
+        let (_, used) = sys::log_used(self.octets);
+        used
+    }
+
+    /// The record of a number, from 0 on, as it stands. One behind an unused record may be used.
+    ///
+    /// # Errors
+    ///
+    /// Refusal 13 for a record that is not used, or that the log does not have.
+    pub fn record(&self, number: usize) -> Result<Record, Refusal> {
+        Record::of(sys::log_record(self.octets, number))
+    }
+
+    /// Hands out record after record, from number 0 up to the first unused one.
+    ///
+    /// ```
+    /// use fenhamper::LogView;
+    ///
+    /// // of three records only the second is unused
+    /// let mut octets = [1; 48];
+    /// octets[16 + 4] = 0;
+    /// let log = LogView::new(&octets)?;
+    /// assert_eq!(log.records().count(), 1);
+    /// assert_eq!(log.records().at(2).count(), 1);
+    /// # Ok::<(), fenhamper::Refusal>(())
+    /// ```
+    pub const fn records(&self) -> LogRecords<'a> {
+        LogRecords {
+            log: *self,
+            number: 0,
+        }
+    }
+}
+
+impl<'a> IntoIterator for LogView<'a> {
+    type Item = Record;
+    type IntoIter = LogRecords<'a>;
+
+    fn into_iter(self) -> LogRecords<'a> {
+        self.records()
+    }
+}
+
+/// A log that is lent to be written into, and read. It begins as all zeros.
+///
+/// Appending takes the first unused record. A refused call leaves every octet.
+///
+/// ```
+/// use fenhamper::{Capture, End, Log, Outcome, Station};
+///
+/// // Start, Idle; Start, one data octet, Terminate
+/// let capture = Capture::new(&[0xFB, 0x07, 0xFB, 0x55, 0xFD], &[1, 1, 1, 0, 1]);
+/// let mut octets = [0; 10 * 16];
+/// let mut log = Log::new(&mut octets)?;
+/// let kept = Station::default().walk_log(capture, 0, &mut log)?;
+/// assert_eq!((kept.end, kept.records), (End::None, 2));
+/// for record in &log {
+///     println!("{:?} at {}: {}", record.outcome(), record.place, record.status);
+/// }
+/// assert_eq!(log.record(1)?.outcome(), Some(Outcome::BadPreamble));
+/// # Ok::<(), fenhamper::Refusal>(())
+/// ```
+#[derive(Debug)]
+pub struct Log<'a> {
+    // a whole number of records
+    octets: &'a mut [u8],
+}
+
+impl<'a> Log<'a> {
+    /// The log in these octets, with the records that they have.
+    ///
+    /// ```
+    /// use fenhamper::{Log, Refusal};
+    ///
+    /// // no octets are a log of no records; 17 are no log
+    /// assert_eq!(Log::new(&mut [])?.capacity(), 0);
+    /// assert_eq!(Log::new(&mut [0; 17]).unwrap_err(), Refusal::BadLog);
+    /// # Ok::<(), Refusal>(())
+    /// ```
+    ///
+    /// # Errors
+    ///
+    /// Refusal 11 for a length that is no multiple of 16. So no call on a log gives it.
+    pub fn new(octets: &'a mut [u8]) -> Result<Log<'a>, Refusal> {
+        check(octets)?;
+        Ok(Log { octets })
+    }
+
+    /// The log as it stands, to be read.
+    pub fn view(&self) -> LogView<'_> {
+        LogView {
+            octets: self.octets,
+        }
+    }
+
+    /// [`LogView::octets`]: its octets, as they are written to a file.
+    #[must_use]
+    pub fn octets(&self) -> &[u8] {
+        self.octets
+    }
+
+    /// [`LogView::capacity`]: how many records it has, used or not.
+    #[must_use]
+    pub fn capacity(&self) -> usize {
+        self.view().capacity()
+    }
+
+    /// [`LogView::used`]: how many used records stand in front of the first unused one.
+    #[must_use]
+    pub fn used(&self) -> usize {
+        self.view().used()
+    }
+
+    /// [`LogView::record`]: the record of a number, from 0 on, as it stands.
+    ///
+    /// # Errors
+    ///
+    /// Refusal 13.
+    pub fn record(&self, number: usize) -> Result<Record, Refusal> {
+        self.view().record(number)
+    }
+
+    /// [`LogView::records`]: record after record, up to the first unused one.
+    pub fn records(&self) -> LogRecords<'_> {
+        self.view().records()
+    }
+
+    /// Appends a record in the first unused one. A record of outcome 0 is not appended, and is never
+    /// refused.
+    ///
+    /// ```
+    /// use fenhamper::{Log, Record, Refusal};
+    ///
+    /// let record = Record { place: 7, outcome_number: 1, ..Record::default() };
+    /// let mut octets = [0; 32];
+    /// let mut log = Log::new(&mut octets)?;
+    /// log.append(record)?;
+    /// log.append(record)?;
+    /// assert!(log.records().eq([record; 2]));
+    /// assert_eq!(log.append(record), Err(Refusal::LogFull));
+    /// assert_eq!(log.append(Record::default()), Ok(()));
+    /// # Ok::<(), Refusal>(())
+    /// ```
+    ///
+    /// # Errors
+    ///
+    /// Refusal 12 for a log with no unused record.
+    pub fn append(&mut self, record: Record) -> Result<(), Refusal> {
+        Refusal::check(sys::log_append(self.octets, &record.record()))
+    }
+
+    /// Appends the record of a reading. One that counted no Start is not appended, and is never
+    /// refused.
+    ///
+    /// ```
+    /// use fenhamper::{Capture, Log, Reading, Station};
+    ///
+    /// let capture = Capture::new(&[0xFB, 0x07, 0xFB], &[1; 3]);
+    /// let mut station = Station::default();
+    /// let mut octets = [0; 16];
+    /// let mut log = Log::new(&mut octets)?;
+    /// let first = station.read(capture, 0)?;
+    /// log.append_reading(&first)?;
+    /// let open = station.read(capture, first.next())?;
+    /// assert_eq!(open, Reading::Open { start: 2 });
+    /// log.append_reading(&open)?;
+    /// assert_eq!(log.used(), 1);
+    /// # Ok::<(), fenhamper::Refusal>(())
+    /// ```
+    ///
+    /// # Errors
+    ///
+    /// Refusal 12 for a log with no unused record.
+    pub fn append_reading(&mut self, reading: &Reading<'_>) -> Result<(), Refusal> {
+        Refusal::check(sys::log_append_reading(self.octets, &reading.record()))
+    }
+
+    /// Appends the record of a counted reading.
+    ///
+    /// ```
+    /// use fenhamper::{Capture, Log, Station};
+    ///
+    /// let capture = Capture::new(&[0xFB, 0x07, 0xFB, 0xFD], &[1; 4]);
+    /// let mut octets = [0; 32];
+    /// let mut log = Log::new(&mut octets)?;
+    /// for counted in Station::default().readings(capture) {
+    ///     log.append_counted(&counted?)?;
+    /// }
+    /// assert!(log.records().map(|record| record.place).eq([0, 2]));
+    /// # Ok::<(), fenhamper::Refusal>(())
+    /// ```
+    ///
+    /// # Errors
+    ///
+    /// Refusal 12 for a log with no unused record.
+    pub fn append_counted(&mut self, counted: &Counted<'_>) -> Result<(), Refusal> {
+        Refusal::check(sys::log_append_reading(self.octets, &counted.record()))
+    }
+}
+
+// `records` is its `iter`.
+#[allow(clippy::into_iter_without_iter)]
+impl<'l> IntoIterator for &'l Log<'_> {
+    type Item = Record;
+    type IntoIter = LogRecords<'l>;
+
+    fn into_iter(self) -> LogRecords<'l> {
+        self.records()
+    }
+}
+
+/// The records of a log, in order, up to the first unused one, made by [`LogView::records`].
+#[derive(Clone, Debug)]
+#[must_use]
+pub struct LogRecords<'a> {
+    log: LogView<'a>,
+    number: usize,
+}
+
+impl LogRecords<'_> {
+    /// Begins at another record than that of number 0.
+    pub const fn at(mut self, number: usize) -> Self {
+        self.number = number;
+        self
+    }
+
+    /// The number of the record that comes next; after the end, of the one that is not used.
+    ///
+    /// ```
+    /// use fenhamper::LogView;
+    ///
+    /// let mut octets = [1; 48];
+    /// octets[32 + 4] = 0;
+    /// let log = LogView::new(&octets)?;
+    /// let mut records = log.records();
+    /// records.next();
+    /// assert_eq!(records.number(), 1);
+    /// assert_eq!(records.by_ref().count(), 1);
+    /// assert_eq!(records.number(), 2);
+    /// # Ok::<(), fenhamper::Refusal>(())
+    /// ```
+    #[must_use]
+    pub const fn number(&self) -> usize {
+        self.number
+    }
+}
+
+impl Iterator for LogRecords<'_> {
+    type Item = Record;
+
+    fn next(&mut self) -> Option<Record> {
+        // refused (13) at an unused record, which leaves the number
+        Record::of(sys::log_next(self.log.octets, &mut self.number)).ok()
+    }
+
+    fn size_hint(&self) -> (usize, Option<usize>) {
+        (0, Some(self.log.capacity().saturating_sub(self.number)))
+    }
+}
+
+impl FusedIterator for LogRecords<'_> {}
+
+/// How a walk that keeps its readings ended.
+#[derive(Clone, Copy, Debug, PartialEq, Eq, Hash)]
+pub enum End {
+    /// No further Start.
+    None,
+    /// A Start whose run has not ended inside the capture. It is read again when there is more.
+    Open,
+    /// A further Start would be counted, and no record is unused. It is not counted: the walk goes on
+    /// with another log.
+    Full,
+}
+
+/// What a walk that keeps its readings found; see [`Capture::walk_log`].
+#[derive(Clone, Copy, Debug, PartialEq, Eq, Hash)]
+#[must_use]
+pub struct Kept {
+    /// How it ended.
+    pub end: End,
+    /// Where to go on: for [`End::None`] the capture's length, for [`End::Open`] the open Start, for
+    /// [`End::Full`] where the last reading that was kept ended, or the place of the call.
+    pub next: usize,
+    /// How many records were appended: as many as Starts were counted.
+    pub records: usize,
+}
+
+impl Capture<'_> {
+    /// Reads Start after Start from `place` on, and appends the record of each to a log, until there
+    /// is none, the last is still open or the log is full, all in one call.
+    ///
+    /// A Start that finds no unused record is not counted, and sets no timer. So nothing is lost:
+    ///
+    /// ```
+    /// use fenhamper::{Capture, End, Log, Settings, State};
+    ///
+    /// let capture = Capture::new(&[0xFB; 6], &[1; 6]);
+    /// let (settings, mut state) = (Settings::default(), State::default());
+    /// let (mut place, mut kept_records) = (0, Vec::new());
+    /// loop {
+    ///     // room for two records
+    ///     let mut octets = [0; 32];
+    ///     let mut log = Log::new(&mut octets)?;
+    ///     let kept = capture.walk_log(&settings, &mut state, place, &mut log)?;
+    ///     kept_records.extend(&log);
+    ///     if kept.end != End::Full {
+    ///         break;
+    ///     }
+    ///     place = kept.next;
+    /// }
+    /// assert!(kept_records.iter().map(|record| record.place).eq(0..5));
+    /// # Ok::<(), fenhamper::Refusal>(())
+    /// ```
+    ///
+    /// # Errors
+    ///
+    /// Refusals 1 to 3, as a reading at that place has them. A full log is no refusal.
+    pub fn walk_log(
+        &self,
+        settings: &Settings,
+        state: &mut State,
+        place: usize,
+        log: &mut Log<'_>,
+    ) -> Result<Kept, Refusal> {
+        let (settings, state) = (settings.record(), state.record());
+        let k = sys::walk_log(settings, state, self.octets, self.marks, place, log.octets);
+        Refusal::check(k.refusal)?;
+        Ok(Kept {
+            end: match k.end {
+                sys::END_NONE => End::None,
+                sys::END_OPEN => End::Open,
+                sys::END_FULL => End::Full,
+                _ => return Err(Refusal::Unknown(0)),
+            },
+            next: k.next as usize,
+            records: k.records as usize,
+        })
+    }
+}

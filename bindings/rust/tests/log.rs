@@ -1,0 +1,432 @@
+//! Logs: records in octets, appending, reading back, and walks that keep their readings.
+use fenhamper::{
+    limits, Address, Capture, End, Flow, Frame, Kept, Log, LogView, Outcome, Reading, Record,
+    Refusal, Sender, Settings, State, Station, Status, SYMBOLS,
+};
+
+const OWN: Address = Address([0x02, 0, 0, 0, 0, 1]);
+const SIZE: usize = limits::RECORD_SIZE;
+
+// A record with an octet of its own in each place.
+const TOLD: Record = Record {
+    place: 0x0403_0201,
+    outcome_number: 5,
+    zero: 6,
+    data_length: 0x0807,
+    status: Status::new(0x100F_0E0D_0C0B_0A09),
+};
+
+const TOLD_OCTETS: [u8; SIZE] = [1, 2, 3, 4, 5, 6, 7, 8, 9, 10, 11, 12, 13, 14, 15, 16];
+
+// Octets that look random, from a fixed seed.
+fn noise(seed: u64, n: usize) -> Vec<u8> {
+    let mut x = seed;
+    let mut octet = || {
+        x ^= x << 13;
+        x ^= x >> 7;
+        x ^= x << 17;
+        x.to_le_bytes()[3]
+    };
+    (0..n).map(|_| octet()).collect()
+}
+
+// A log of so many records, of which those are used whose bit is set; the rest of each is anything.
+fn log_of(records: usize, used: u32) -> Vec<u8> {
+    let mut octets = noise(u64::from(used) + 1, SIZE * records);
+    for (k, record) in octets.chunks_exact_mut(SIZE).enumerate() {
+        record[4] = if used >> k & 1 == 1 { record[4] | 1 } else { 0 };
+    }
+    octets
+}
+
+#[test]
+fn a_record_is_16_octets_low_first() {
+    let mut octets = [0; 3 * SIZE];
+    let mut log = Log::new(&mut octets).unwrap();
+    log.append(TOLD).unwrap();
+    assert_eq!(log.octets()[..SIZE], TOLD_OCTETS);
+    assert_eq!(log.octets()[SIZE..], [0; 2 * SIZE]);
+    assert_eq!(log.record(0), Ok(TOLD));
+    assert_eq!(log.view().octets(), log.octets());
+}
+
+#[test]
+fn other_lengths_are_no_log() {
+    for n in 0..=100 {
+        let mut octets = noise(7, n);
+        let before = octets.clone();
+        let capacity = match n % SIZE {
+            0 => Ok(n / SIZE),
+            _ => Err(Refusal::BadLog),
+        };
+        let view = LogView::new(&octets);
+        assert_eq!(view.map(|log| log.capacity()), capacity, "{n}");
+        let log = Log::new(&mut octets);
+        assert_eq!(log.map(|log| log.capacity()), capacity, "{n}");
+        assert_eq!(octets, before);
+    }
+    assert_eq!(Refusal::BadLog.number(), 11);
+    assert_eq!(
+        Refusal::BadLog.to_string(),
+        "refusal 11, bad log: length of the log no multiple of 16"
+    );
+}
+
+#[test]
+fn appending_takes_the_first_unused_record() {
+    for records in 0..=4 {
+        for used in 0..1 << records {
+            let before = log_of(records, used);
+            let first = used.trailing_ones() as usize;
+            let mut octets = before.clone();
+            let mut log = Log::new(&mut octets).unwrap();
+            assert_eq!(log.used(), first);
+            let mut expected = before.clone();
+            let appended = if first < records {
+                let at = SIZE * first;
+                expected[at..at + SIZE].copy_from_slice(&TOLD_OCTETS);
+                Ok(())
+            } else {
+                Err(Refusal::LogFull)
+            };
+            assert_eq!(log.append(TOLD), appended);
+            assert_eq!(log.octets(), expected);
+            // outcome 0 appends nothing, and is not refused where the log is full
+            let uncounted = Record {
+                outcome_number: 0,
+                ..TOLD
+            };
+            assert_eq!(log.append(uncounted), Ok(()));
+            for reading in [Reading::Nothing { end: 9 }, Reading::Open { start: 9 }] {
+                assert_eq!(log.append_reading(&reading), Ok(()));
+            }
+            assert_eq!(log.octets(), expected);
+        }
+    }
+    assert_eq!(Refusal::LogFull.number(), 12);
+    assert_eq!(
+        Refusal::LogFull.to_string(),
+        "refusal 12, log full: no unused record"
+    );
+}
+
+#[test]
+fn records_are_read_up_to_the_first_unused_one() {
+    for records in 0..=4 {
+        for used in 0..1 << records {
+            let octets = log_of(records, used);
+            let log = LogView::new(&octets).unwrap();
+            let stands = |k: usize| {
+                let octets = &octets[SIZE * k..][..SIZE];
+                Record {
+                    place: u32::from_le_bytes(octets[..4].try_into().unwrap()),
+                    outcome_number: octets[4],
+                    zero: octets[5],
+                    data_length: u16::from_le_bytes(octets[6..8].try_into().unwrap()),
+                    status: Status::new(u64::from_le_bytes(octets[8..].try_into().unwrap())),
+                }
+            };
+            for k in 0..=records + 1 {
+                let is_used = used >> k & 1 == 1;
+                let record = if is_used {
+                    Ok(stands(k))
+                } else {
+                    Err(Refusal::NotUsed)
+                };
+                assert_eq!(log.record(k), record);
+                // a reader that begins there
+                let end = k + (used >> k).trailing_ones() as usize;
+                let mut reader = log.records().at(k);
+                assert_eq!(reader.size_hint(), (0, Some(records.saturating_sub(k))));
+                assert!(reader.by_ref().eq((k..end).map(stands)));
+                assert_eq!(reader.number(), end);
+                assert_eq!(reader.next(), None);
+                assert_eq!(reader.number(), end);
+            }
+            // numbers that lead back into the log if high bits of their places are lost
+            for number in [usize::MAX, 1 << 60, 1 << 32, 1 << 28] {
+                assert_eq!(log.record(number), Err(Refusal::NotUsed));
+                assert_eq!(log.records().at(number).next(), None);
+            }
+            assert!(log.into_iter().eq((0..log.used()).map(stands)));
+        }
+    }
+    assert_eq!(Refusal::NotUsed.number(), 13);
+    assert_eq!(
+        Refusal::NotUsed.to_string(),
+        "refusal 13, not used: record number not used"
+    );
+}
+
+// From a log of zeros: reading back gives what was appended, and writing that again the same octets.
+#[test]
+fn what_is_appended_is_read_back() {
+    for outcome_number in 0..=u8::MAX {
+        let record = |k: u32| Record {
+            place: u32::MAX >> (k % 32),
+            outcome_number: outcome_number.wrapping_add(k as u8),
+            zero: !outcome_number,
+            data_length: u16::MAX - k as u16,
+            status: Status::new(u64::MAX >> k),
+        };
+        assert_eq!(
+            record(0).outcome().map(Outcome::number),
+            (1..=11).contains(&outcome_number).then_some(outcome_number)
+        );
+        let appended: Vec<_> = (0..5).map(record).collect();
+        let mut octets = [0; 6 * SIZE];
+        let mut log = Log::new(&mut octets).unwrap();
+        for &record in &appended {
+            log.append(record).unwrap();
+        }
+        let counted: Vec<_> = appended
+            .into_iter()
+            .filter(|r| r.outcome_number != 0)
+            .collect();
+        assert!(log.records().eq(counted.iter().copied()));
+        assert_eq!(log.used(), counted.len());
+
+        let mut again = [0; 6 * SIZE];
+        let mut copy = Log::new(&mut again).unwrap();
+        for record in &log {
+            copy.append(record).unwrap();
+        }
+        assert_eq!(again, octets);
+    }
+}
+
+// Frames of several outcomes, among them a pause frame; the last Start is open if `open`.
+fn line(settings: &Settings, open: bool) -> (Vec<u8>, Vec<u8>) {
+    let (mut octets, mut marks) = ([0; 1000], [0; 1000]);
+    let mut sender = Sender::new(&mut octets, &mut marks);
+    let mut state = State::default();
+    let to_another = Frame::to(Address([0x02, 0, 0, 0, 0, 9]));
+    sender
+        .client(settings, &mut state, &Frame::to(OWN), b"one")
+        .unwrap();
+    sender.idle(&mut state, 3).unwrap();
+    sender
+        .client(settings, &mut state, &to_another, b"")
+        .unwrap();
+    let damaged = sender
+        .client(settings, &mut state, &Frame::to(OWN), b"two")
+        .unwrap();
+    sender.pause(settings, &mut state, 5).unwrap();
+    let long = Frame::to(Address::BROADCAST).by_type(0x0800);
+    let last = sender
+        .client(settings, &mut state, &long, &[7; 300])
+        .unwrap();
+    let end = sender
+        .client(settings, &mut state, &Frame::to(OWN), b"three")
+        .unwrap();
+    octets[damaged - 30] ^= 1;
+    // a Start right before a Start
+    octets[damaged - 1] = 0xFB;
+    let end = if open { last + 20 } else { end };
+    (octets[..end].to_vec(), marks[..end].to_vec())
+}
+
+// A walk by single readings, each appended.
+fn by_readings(station: &mut Station, capture: Capture, mut place: usize, log: &mut Log) -> Kept {
+    let mut records = 0;
+    loop {
+        let mut after = station.clone();
+        let reading = after.read(capture, place).unwrap();
+        let end = match reading {
+            Reading::Nothing { .. } => End::None,
+            Reading::Open { .. } => End::Open,
+            Reading::Counted(counted) => match log.append_reading(&reading) {
+                Ok(()) => {
+                    (*station, place) = (after, counted.next);
+                    records += 1;
+                    continue;
+                }
+                Err(refusal) => {
+                    assert_eq!(refusal, Refusal::LogFull);
+                    assert_eq!(log.append_counted(&counted), Err(refusal));
+                    let (end, next) = (End::Full, place);
+                    return Kept { end, next, records };
+                }
+            },
+        };
+        let next = reading.next();
+        return Kept { end, next, records };
+    }
+}
+
+#[test]
+fn a_walk_keeps_its_readings() {
+    let settings = Settings::new(OWN).flow(Flow::Pause);
+    let mut ends = Vec::new();
+    for open in [false, true] {
+        let (octets, marks) = line(&settings, open);
+        let capture = Capture::new(&octets, &marks);
+        let starts = Station::new(settings).walk(capture).unwrap().starts;
+        assert_eq!(starts, if open { 6 } else { 7 });
+        for place in 0..=octets.len() {
+            // every log of up to three records, and fresh ones about as long as the capture needs
+            let all = (0..=3).flat_map(|n| (0..1 << n).map(move |used| log_of(n, used)));
+            let fresh = (starts - 1..=starts + 1).map(|n| log_of(n, 0));
+            for mut log in all.chain(fresh) {
+                let mut expected = log.clone();
+                let (mut station, mut one_by_one) =
+                    (Station::new(settings), Station::new(settings));
+                let mut log = Log::new(&mut log).unwrap();
+                let kept = station.walk_log(capture, place, &mut log).unwrap();
+                let mut expected = Log::new(&mut expected).unwrap();
+                assert_eq!(
+                    kept,
+                    by_readings(&mut one_by_one, capture, place, &mut expected)
+                );
+                assert_eq!(log.octets(), expected.octets());
+                assert_eq!(station, one_by_one);
+                ends.push((kept.end, kept.records > 0));
+            }
+        }
+    }
+    for end in [End::None, End::Open, End::Full] {
+        assert!(
+            ends.contains(&(end, false)) && ends.contains(&(end, true)),
+            "{end:?}"
+        );
+    }
+}
+
+#[test]
+fn another_log_goes_on_where_one_was_full() {
+    let settings = Settings::new(OWN).flow(Flow::Pause);
+    for open in [false, true] {
+        let (octets, marks) = line(&settings, open);
+        let capture = Capture::new(&octets, &marks);
+        let mut large = [0; 10 * SIZE];
+        let mut large = Log::new(&mut large).unwrap();
+        let mut whole = Station::new(settings);
+        let kept = whole.walk_log(capture, 0, &mut large).unwrap();
+        assert_eq!(kept.end, if open { End::Open } else { End::None });
+        let readings: Vec<_> = Station::new(settings)
+            .readings(capture)
+            .map(Result::unwrap)
+            .collect();
+        assert!(large.records().eq(readings.iter().map(|r| Record {
+            place: r.start as u32,
+            outcome_number: r.outcome.number(),
+            zero: 0,
+            data_length: r.data.len() as u16,
+            status: r.status,
+        })));
+        for capacity in 1..=8 {
+            let mut station = Station::new(settings);
+            let (mut place, mut records) = (0, Vec::new());
+            let last = loop {
+                let mut octets = vec![0; capacity * SIZE];
+                let mut log = Log::new(&mut octets).unwrap();
+                let kept = station.walk_log(capture, place, &mut log).unwrap();
+                assert_eq!(log.used(), kept.records);
+                records.extend(&log);
+                place = kept.next;
+                if kept.end != End::Full {
+                    break kept;
+                }
+            };
+            assert!(large.records().eq(records));
+            assert_eq!((last.end, last.next), (kept.end, kept.next));
+            assert_eq!(station, whole);
+        }
+    }
+}
+
+// A Start that finds no record sets no timer and is not counted.
+#[test]
+fn a_full_log_counts_no_further_start() {
+    let settings = Settings::new(OWN).flow(Flow::Pause);
+    let (mut octets, mut marks) = ([0; 84], [0; 84]);
+    let mut sender = Sender::new(&mut octets, &mut marks);
+    sender.pause(&settings, &mut State::default(), 5).unwrap();
+    let capture = sender.capture();
+    for mut full in [vec![], vec![1; SIZE], vec![1; 3 * SIZE]] {
+        let mut station = Station::new(settings);
+        let mut log = Log::new(&mut full).unwrap();
+        let kept = station.walk_log(capture, 0, &mut log);
+        assert_eq!(
+            kept,
+            Ok(Kept {
+                end: End::Full,
+                next: 0,
+                records: 0
+            })
+        );
+        assert_eq!(station, Station::new(settings));
+        // where no Start would be counted, it is not full
+        let kept = station.walk_log(capture, 1, &mut log);
+        assert_eq!(
+            kept,
+            Ok(Kept {
+                end: End::None,
+                next: 84,
+                records: 0
+            })
+        );
+        let begun = Capture::new(&capture.octets[..9], &capture.marks[..9]);
+        let kept = station.walk_log(begun, 0, &mut log);
+        assert_eq!(
+            kept,
+            Ok(Kept {
+                end: End::Open,
+                next: 0,
+                records: 0
+            })
+        );
+        assert!(log.octets().iter().all(|&octet| octet == 1));
+    }
+}
+
+#[test]
+fn a_refused_walk_changes_nothing() {
+    let refused = |settings: Settings, octets: &[u8], marks: &[u8], place: usize, why: Refusal| {
+        let capture = Capture::new(octets, marks);
+        let old = State::with([u64::from(u32::MAX); 11], [7; 8]);
+        for used in 0..4 {
+            let before = log_of(2, used);
+            let mut after = before.clone();
+            let mut log = Log::new(&mut after).unwrap();
+            let mut state = old.clone();
+            let kept = capture.walk_log(&settings, &mut state, place, &mut log);
+            assert_eq!(kept, Err(why));
+            let mut station = Station { settings, state };
+            assert_eq!(station.walk_log(capture, place, &mut log), Err(why));
+            assert_eq!((station.state, after), (old.clone(), before));
+        }
+    };
+    let good = Settings::new(OWN);
+    let many = vec![0; SYMBOLS + 1];
+    // the lowest number comes first
+    refused(good.limit(0), &[0xFB], &[1, 1], 9, Refusal::BadSettings);
+    refused(good, &[0xFB], &[1, 1], 9, Refusal::BadBuffers);
+    refused(good, &many, &many, 0, Refusal::BadBuffers);
+    refused(good, &[0xFB, 0xFD], &[1, 1], 3, Refusal::BadPlace);
+    refused(good, &[0xFB, 0xFD], &[1; 2], usize::MAX, Refusal::BadPlace);
+}
+
+// 65,535 Starts and one that is open, in one log.
+#[test]
+fn every_start_of_the_longest_capture_is_kept() {
+    let (octets, marks) = (vec![0xFB; SYMBOLS], vec![1; SYMBOLS]);
+    let capture = Capture::new(&octets, &marks);
+    let mut log = vec![0; SYMBOLS * SIZE];
+    let mut log = Log::new(&mut log).unwrap();
+    let mut station = Station::default();
+    let kept = station.walk_log(capture, 0, &mut log).unwrap();
+    let (next, records) = (SYMBOLS - 1, SYMBOLS - 1);
+    assert_eq!(
+        kept,
+        Kept {
+            end: End::Open,
+            next,
+            records
+        }
+    );
+    assert_eq!(log.used(), records);
+    assert!(log.records().map(|r| r.place).eq(0..65535));
+    assert!(log.records().all(|r| r.outcome() == Some(Outcome::Cut)));
+    assert_eq!(station.state.counter(Outcome::Cut), 65535);
+}

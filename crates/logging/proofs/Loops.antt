@@ -1,0 +1,166 @@
+-- A walk that keeps its readings as its code goes: the record of a Start's frame, and one turn of the loop, by where it finds a Start and the end of its run.
+-- Assumes nothing.
+use Prim.Native.Nat.{ℕ, _+_, _-_, _*_, _/_, _≤_, _<_}
+use native.Mathlib.Omega.{arith}
+use mathlib.Core.Path.{_≡_, refl, sym, ap, ap₂, _∙_, subst}
+use mathlib.Core.Bool.{true, false, false≢true}
+use mathlib.Core.List.{List, [], _∷_}
+use lib.ListN.{length, getD}
+use denote.Enum.Declared.{tagOf}
+use types.Run.{OneOf, miss}
+use Rattle.line.specs.declared.Found.{Found}
+use Rattle.line.specs.declared.Found.the-variants.{At}
+use Rattle.line.specs.Line.{capture, findStart, findControl, overwrite}
+use Rattle.line.specs.Octets.{between}
+use Rattle.line.specs.Table.{first}
+use Rattle.line.proofs.Places.{control-found}
+use Rattle.station.specs.declared.Settings.{Settings}
+use Rattle.station.specs.declared.State.{State}
+use Rattle.station.specs.declared.Part.{Part}
+use Rattle.station.specs.declared.Outcome.{Outcome}
+use Rattle.station.specs.declared.Outcome.the-variants.{Cut, BadPreamble, Undersized, Oversized, WrongFcs, WrongLength, Filtered}
+use Rattle.station.specs.declared.Outcome.the-variants.{PauseTaken, PfcTaken, ControlDropped, HandedOut}
+use Rattle.station.specs.declared.Checked.the-variants.{Fine}
+use Rattle.station.specs.Numbers.{byOutcome, outcomeNumber}
+use Rattle.station.proofs.Outcome.{the-type}
+use Rattle.fields.specs.declared.Layout.{Layout}
+use Rattle.fields.specs.Places.{layoutOf}
+use Rattle.fields.proofs.Places.{layout-tags, layout-place}
+use Rattle.frame.specs.Frame.{dataFrom, frameData}
+use Rattle.outcome.specs.Outcomes.{outcome, frameOf}
+use Rattle.outcome.specs.Status.{status, statusOf}
+use Rattle.outcome.proofs.Words.{word-of}
+use Rattle.receive.specs.declared.Reading.{Reading}
+use Rattle.receive.specs.Reading.{readRefusals, reading, readRun, stateAfter, handedPart}
+use Rattle.receive.proofs.Cases.{read-none, read-open, read-ended}
+use Rattle.receive.proofs.Parts.{no-part, part-laid, part-told}
+use Rattle.receive.proofs.Refusals.{passed}
+use Rattle.log.specs.declared.Record.{Record}
+use Rattle.log.specs.Log.{octetsOfRecord, frontCount}
+use Rattle.log.specs.Searched.{unusedFrom}
+use Rattle.log.specs.Claims.{Fits, IsMultiple}
+use Rattle.logging.specs.declared.LogEnd.the-variants.{Nothing, Open, Full}
+use Rattle.logging.specs.Records.{recordAt, recordOfReading}
+use Rattle.logging.specs.Steps.{recordOfFrame}
+use Rattle.logging.specs.Walks.{stopped, keepFrom}
+use Rattle.logging.proofs.Readings.{run-length, reading-fits}
+use Rattle.logging.proofs.Turns.{number-some, next-unused, turn-none, turn-open, turn-full, turn-kept}
+
+-- ---- which outcomes say something of their frame
+
+abbrev oneToSeven : List ℕ
+oneToSeven = 0 ∷ 1 ∷ 2 ∷ 3 ∷ 4 ∷ 5 ∷ 6 ∷ []
+
+-- the match's last arm, by the places of its variants in the enum
+pub tells-none : (o : Outcome) → OneOf oneToSeven (tagOf the-type o) → false ≡ byOutcome o false true true true true
+tells-none Cut h = refl
+tells-none BadPreamble h = refl
+tells-none Undersized h = refl
+tells-none Oversized h = refl
+tells-none WrongFcs h = refl
+tells-none WrongLength h = refl
+tells-none Filtered h = refl
+tells-none PauseTaken h = absurd (miss oneToSeven 7 tt h)
+tells-none PfcTaken h = absurd (miss oneToSeven 8 tt h)
+tells-none ControlDropped h = absurd (miss oneToSeven 9 tt h)
+tells-none HandedOut h = absurd (miss oneToSeven 10 tt h)
+
+-- ---- the record of a frame
+
+module _ (s : Settings) (i : ℕ) (f : List ℕ) where
+  -- an outcome that says nothing: status word 0, and nothing handed out
+  pub untold : (o : Outcome) → byOutcome o false true true true true ≡ false → recordAt i (outcomeNumber o) 0 0 ≡ recordOfFrame s i f o
+  unfolding recordOfFrame handedPart status statusOf
+  untold Cut h = refl
+  untold BadPreamble h = refl
+  untold Undersized h = refl
+  untold Oversized h = refl
+  untold WrongFcs h = refl
+  untold WrongLength h = refl
+  untold Filtered h = refl
+  untold PauseTaken h = absurd (false≢true (sym h))
+  untold PfcTaken h = absurd (false≢true (sym h))
+  untold ControlDropped h = absurd (false≢true (sym h))
+  untold HandedOut h = absurd (false≢true (sym h))
+
+  abbrev oneToTen : List ℕ
+  oneToTen = 0 ∷ 1 ∷ 2 ∷ 3 ∷ 4 ∷ 5 ∷ 6 ∷ 7 ∷ 8 ∷ 9 ∷ []
+
+  -- any but the last hands out nothing
+  pub none-handed : (o : Outcome) → OneOf oneToTen (tagOf the-type o) → 0 ≡ handedPart s o (i + 8) f .len
+  none-handed o h = ap (λ (p : Part). p .len) (no-part (s .checking) o (i + 8) f (layoutOf f) h ∙ part-laid s (i + 8) f o)
+
+  -- by the frame's layout: so many octets handed out, and the word
+  pub laid-record : (o : Outcome) (l : Layout) (h w : ℕ) → l ≡ layoutOf f → h ≡ handedPart s o (i + 8) f .len
+      → w ≡ statusOf o f (l .tags) (length (dataFrom (l .place) f)) h → recordAt i (outcomeNumber o) h w ≡ recordOfFrame s i f o
+  unfolding recordOfFrame status frameData
+  laid-record o l h w e g t =
+      ap₂ (recordAt i (outcomeNumber o)) g
+      (word-of o t refl (layout-tags l f e) (ap (λ (p : ℕ). length (dataFrom p f)) (layout-place l f e)) g ∙ part-told s (i + 8) f o _ _)
+
+  -- it has an outcome
+  frame-some : (o : Outcome) → recordOfFrame s i f o .outcome ≡ 0 → ⊥
+  unfolding recordOfFrame
+  frame-some o = number-some o
+
+-- ---- one turn of the loop
+
+module _ (s : Settings) (os ms : List ℕ) (p : ℕ) (fine : first (readRefusals s os ms p) ≡ Fine) where
+  module _ (st : State) (n : ℕ) (l : List ℕ) (left : ℕ) (more : 0 < left) where
+    pub loop-none : findStart (capture os ms) p ≡ Found.Nothing → keepFrom left s st os ms p n l ≡ stopped Nothing st (length os) n l
+    loop-none h = turn-none s st os ms p n l left more _ (sym (read-none s st os ms p fine h)) refl
+
+    pub loop-open : (i : ℕ) → findStart (capture os ms) p ≡ At i → findControl (capture os ms) (i + 1) ≡ Found.Nothing
+        → keepFrom left s st os ms p n l ≡ stopped Open st i n l
+    loop-open i g h = turn-open s st os ms p n l left more _ (sym (read-open s st os ms p fine i g h)) refl
+
+  -- a Start at i whose run is ended at e
+  module _ (i : ℕ) (found : findStart (capture os ms) p ≡ At i) (e : ℕ) (end : findControl (capture os ms) (i + 1) ≡ At e) where
+    abbrev run : List ℕ
+    run = between os (i + 1) e
+
+    abbrev becomes : Outcome
+    becomes = outcome s run (getD os e 0)
+
+    abbrev kept : Record
+    kept = recordOfFrame s i (frameOf run) becomes
+
+    next-is : i + 1 + length run ≡ e
+    next-is =
+        let c = control-found os ms (passed s os ms p fine .even) (i + 1) e end in
+        let k = run-length os (i + 1) e (omega arith) in
+        omega arith
+
+    module _ (st : State) where
+      abbrev read : Reading
+      read = readRun s st i run becomes
+
+      is : read ≡ reading s st os ms p
+      is = sym (read-ended s st os ms p fine i found e end)
+
+      same : recordOfReading read ≡ kept
+      unfolding recordOfReading readRun recordOfFrame
+      same = refl
+
+      module _ (n : ℕ) (l : List ℕ) (left : ℕ) (more : 0 < left) (good : IsMultiple l) where
+        pub loop-full : frontCount l ≡ length l / 16 → keepFrom left s st os ms p n l ≡ stopped Full st p n l
+        unfolding readRun
+        loop-full h = turn-full s st os ms p n l left more read is becomes _ _ refl good h
+
+        pub loop-kept : (k : ℕ) → k ≡ frontCount l → k < length l / 16
+            → keepFrom left s st os ms p n l
+            ≡ keepFrom (left - 1) s (stateAfter becomes (frameOf run) st) os ms e (n + 1) (overwrite l (16 * k) (octetsOfRecord kept))
+        unfolding readRun
+        loop-kept k h lt =
+            turn-kept s st os ms p n l left more read is becomes _ _ refl good k h lt
+            ∙ ap₂ (λ (next : ℕ) (x : Record).
+            keepFrom (left - 1) s (stateAfter becomes (frameOf run) st) os ms next (n + 1) (overwrite l (16 * k) (octetsOfRecord x)))
+            next-is same
+
+    -- behind its record the search for the next unused one goes on
+    pub loop-next : (l : List ℕ) (k : ℕ) → 16 * k + 16 ≤ length l → k ≡ frontCount l
+        → let m : List ℕ = overwrite l (16 * k) (octetsOfRecord kept) in unusedFrom m (k + 1) ≡ frontCount m
+    loop-next l k h g =
+        let st : State = record { counters = []; timers = [] } in
+        let fits : Fits kept = subst Fits (sym (ap recordOfReading (is st)) ∙ same st) (reading-fits s st os ms p fine) in
+        next-unused l k kept fits (frame-some s i (frameOf run) becomes) h g

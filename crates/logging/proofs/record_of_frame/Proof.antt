@@ -1,0 +1,58 @@
+-- `logging::record_of_frame` meets its contract: outcome 11 by `handed_out`, and the others hand out nothing. Assumes nothing.
+use Prim.Native.Nat.{ℕ}
+use mathlib.Core.Path.{sym, ap, _∙_}
+use denote.Ref.{now}
+use borrow.Author.Needs.{needs}
+use Rattle.logging.specs.Records.{recordAt}
+use Rattle.logging.specs.Steps.{recordOfFrame}
+use Rattle.logging.proofs.Loops.{none-handed, laid-record}
+use Rattle.logging.proofs.record_of_frame.Statement.{statement}
+use Rattle.logging.proofs.record_of_frame.Tie as tie
+
+enum-told : tie.Need-enum-told
+enum-told c = search needs
+
+handed-out-requires : tie.Need-handed-out-requires
+handed-out-requires c κs = search needs
+
+layout-of-requires : tie.Need-layout-of-requires
+layout-of-requires c κs = search needs
+
+status-requires : tie.Need-status-requires
+status-requires c κs = search needs
+
+outcome-number-requires : tie.Need-outcome-number-requires
+outcome-number-requires c κs = search needs
+
+record-at-requires : tie.Need-record-at-requires
+record-at-requires c κs = search needs
+
+returns : tie.Need-returns
+returns c =
+    let t = c .before in
+    let a = t .before .before .before .args in
+    c .handed-out .ensures ∙ ap (recordOfFrame (a .s) (a .start) (now (a .f))) (sym (t .enum-told .given .1))
+
+returns-2 : tie.Need-returns-2
+returns-2 c =
+    let w = c .before .before in
+    let l = w .before in
+    let m = l .before in
+    let a = m .before .before .args in
+    c .record-at .ensures
+    ∙ ap (λ (n : ℕ). recordAt (a .start) n 0 (w .status .result)) (c .before .outcome-number .ensures)
+    ∙ laid-record (a .s) (a .start) (now (a .f)) (a .o) _ _ _ (l .layout-of .ensures) (none-handed (a .s) (a .start) (now (a .f)) (a .o) (m .match .keys2))
+    (w .status .ensures)
+
+pub record-of-frame-spec : {M : Type 1} → statement M
+record-of-frame-spec =
+    tie.close
+    (tie.spec
+    enum-told
+    handed-out-requires
+    layout-of-requires
+    status-requires
+    outcome-number-requires
+    record-at-requires
+    returns
+    returns-2)

@@ -1,0 +1,14 @@
+-- Internal: the record of a Start, as the walk's code makes it: of the frame of its run and its outcome. No promise to a caller needs it.
+use Prim.Native.Nat.{ℕ, _+_}
+use mathlib.Core.List.{List}
+use Rattle.station.specs.declared.Settings.{Settings}
+use Rattle.station.specs.declared.Outcome.{Outcome}
+use Rattle.station.specs.Numbers.{outcomeNumber}
+use Rattle.outcome.specs.Status.{status}
+use Rattle.receive.specs.Reading.{handedPart}
+use Rattle.log.specs.declared.Record.{Record}
+use Rattle.logging.specs.Records.{recordAt}
+
+-- of a Start at place i whose frame is f
+unfoldable pub recordOfFrame : Settings → ℕ → List ℕ → Outcome → Record
+recordOfFrame s i f o = recordAt i (outcomeNumber o) (handedPart s o (i + 8) f .len) (status s o f)

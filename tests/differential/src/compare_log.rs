@@ -1,0 +1,420 @@
+//! Calls on a log and walks that keep their readings, through both faces, compared with the
+//! reference's.
+use crate::compare::{first_other, inputs, Bench, Difference, Lent, AROUND};
+use crate::compare_c::after;
+use crate::prng::Prng;
+use crate::seen::{CCall, CSeen};
+use crate::seen_log::{appended, GoingOnSeen, KeepSeen, LogCall, LogOf, LogSeen};
+use crate::{face, generate, raw, records, show};
+use fenhamper::{Capture, Log, LogView, Refusal};
+use reference::{LogEnd, LogReader, Logged, Record, Settings, State};
+use std::mem::replace;
+
+/// A log to lend. It stands in the middle of other octets, which would be used records or not, so
+/// that a look or a step past the end shows; anywhere in memory, since a log may be.
+#[derive(Clone, PartialEq, Eq)]
+pub(crate) struct LentLog {
+    octets: Vec<u8>,
+    front: usize,
+    length: usize,
+}
+
+impl LentLog {
+    pub(crate) fn new(prng: &mut Prng, log: &[u8]) -> LentLog {
+        let front = AROUND + prng.below(AROUND);
+        let other = prng.pick(&[0, 1, 0xFF]);
+        LentLog {
+            octets: [&vec![other; front][..], log, &[other; AROUND]].concat(),
+            front,
+            length: log.len(),
+        }
+    }
+
+    pub(crate) fn octets(&self) -> &[u8] {
+        &self.octets[self.front..][..self.length]
+    }
+
+    fn lent(&mut self) -> &mut [u8] {
+        &mut self.octets[self.front..][..self.length]
+    }
+
+    /// What a call on a copy gives, and the copy after it.
+    fn after<T>(&self, call: impl FnOnce(&mut [u8]) -> T) -> (T, LentLog) {
+        let mut copy = self.clone();
+        let answer = call(copy.lent());
+        (answer, copy)
+    }
+}
+
+/// An appending by the reference and by both faces: what it gave, and the log after it.
+struct Sides {
+    expected: (u8, LentLog),
+    in_c: (u32, LentLog),
+    in_rust: Option<(Result<(), Refusal>, LentLog)>,
+}
+
+/// The answer's refusal, or 0.
+fn refusal<T>(answer: &Result<T, u8>) -> u8 {
+    *answer.as_ref().err().unwrap_or(&0)
+}
+
+/// Refused by this number, or not by 0.
+fn by_refusal(refusal: u8) -> Result<(), u8> {
+    match refusal {
+        0 => Ok(()),
+        _ => Err(refusal),
+    }
+}
+
+impl Bench {
+    /// Compares logs, each with what stands around it.
+    fn same_log(
+        &self,
+        call: &str,
+        (library, reference): (&LentLog, &LentLog),
+        inputs: impl Fn() -> String,
+    ) -> Result<(), Difference> {
+        if library == reference {
+            return Ok(());
+        }
+        let other = first_other(&library.octets, &reference.octets, library.front);
+        self.same((call, "log, first other"), (other, None), inputs)
+    }
+
+    /// Appends a record; the log goes on to that after it.
+    pub(crate) fn append(
+        &mut self,
+        log: &mut LentLog,
+        record: &raw::Record,
+    ) -> Result<(), Difference> {
+        let meant = records::record(record);
+        let sides = Sides {
+            expected: log.after(|log| refusal(&reference::append(log, &meant))),
+            in_c: log.after(|log| raw::log_append(log, record)),
+            in_rust: Some(log.after(|octets| {
+                let mut log = Log::new(octets)?;
+                log.append(face::record(&meant))
+            })),
+        };
+        let given = || format!("{record:02X?}");
+        self.appended(log, LogCall::Append(meant), sides, given)
+    }
+
+    /// Appends the record of the reading at a place, with the numbers that `c_read` holds C's to.
+    pub(crate) fn append_reading(
+        &mut self,
+        log: &mut LentLog,
+        lent: &Lent,
+        (s, state): (&Settings, &State),
+        place: usize,
+    ) -> Result<(), Difference> {
+        let (octets, marks) = (lent.octets(), lent.marks());
+        let reading = reference::read(self.check, s, &mut state.clone(), octets, marks, place);
+        let numbers = records::reading(reading);
+        let capture = Capture::new(octets, marks);
+        let in_rust = capture.read(&face::settings(s), &mut face::state(state), place);
+        let sides = Sides {
+            expected: log.after(|log| refusal(&reference::append_reading(log, &reading))),
+            in_c: log.after(|log| raw::log_append_reading(log, &numbers)),
+            // a refused reading is none to append
+            in_rust: in_rust.ok().map(|reading| {
+                log.after(|octets| {
+                    let mut log = Log::new(octets)?;
+                    match &reading {
+                        fenhamper::Reading::Counted(counted) => log.append_counted(counted),
+                        other => log.append_reading(other),
+                    }
+                })
+            }),
+        };
+        let call = LogCall::AppendReading(&numbers, Record::of(&reading));
+        self.appended(log, call, sides, || format!("{reading:?}"))
+    }
+
+    /// Appends the record of any numbers, which no reading need give.
+    pub(crate) fn append_numbers(
+        &mut self,
+        log: &mut LentLog,
+        numbers: &[u64; raw::READING],
+    ) -> Result<(), Difference> {
+        let meant = records::reading_record(numbers);
+        let sides = Sides {
+            expected: log.after(|log| refusal(&reference::append(log, &meant))),
+            in_c: log.after(|log| raw::log_append_reading(log, numbers)),
+            in_rust: None,
+        };
+        let call = LogCall::AppendReading(numbers, meant);
+        let given = || format!("{numbers:X?}\nmeant: {meant:?}");
+        self.appended(log, call, sides, given)
+    }
+
+    /// Compares what an appending gave, and the logs after it; the log goes on to that after it.
+    fn appended(
+        &mut self,
+        log: &mut LentLog,
+        call: LogCall,
+        sides: Sides,
+        given: impl Fn() -> String,
+    ) -> Result<(), Difference> {
+        self.calls += 1;
+        let (expected, after) = sides.expected;
+        let before = replace(log, after);
+        let whole = self.whole;
+        let inputs = || format!("{}\nlog: {}", given(), show::log(before.octets(), whole));
+        let (answer, in_c) = sides.in_c;
+        let answers = (answer, u32::from(expected));
+        self.same(("append in C", "refusal"), answers, inputs)?;
+        self.same_log("append in C", (&in_c, log), inputs)?;
+        if let Some((answer, in_rust)) = sides.in_rust {
+            let answers = (by_number(answer), by_refusal(expected));
+            self.same(("append", "refusal"), answers, inputs)?;
+            self.same_log("append", (&in_rust, log), inputs)?;
+            if let Err(refusal) = answer {
+                self.refused("append", refusal, inputs)?;
+            }
+        }
+        self.coverage.log(&LogSeen {
+            call,
+            before: LogOf::new(before.octets()),
+            after: LogOf::new(log.octets()),
+            refusal: expected,
+            given: None,
+            number: 0,
+        });
+        Ok(())
+    }
+
+    /// The record of a number.
+    pub(crate) fn log_record(&mut self, log: &LentLog, number: usize) -> Result<(), Difference> {
+        self.calls += 1;
+        let octets = log.octets();
+        let inputs = || format!("record {number}\nlog: {}", show::log(octets, self.whole));
+        let expected = reference::record(octets, number);
+        let written = written(&expected);
+        let (answer, record) = raw::log_record(octets, number);
+        let sides = ((answer, record), (refusal(&expected).into(), written));
+        self.same(("record in C", "answer"), sides, inputs)?;
+        let answer = LogView::new(octets).and_then(|log| log.record(number));
+        let sides = (
+            by_number(answer),
+            expected.map(|record| face::record(&record)),
+        );
+        self.same(("record", "answer"), sides, inputs)?;
+        if let Err(refusal) = answer {
+            self.refused("record", refusal, inputs)?;
+        }
+        self.coverage.log(&LogSeen {
+            call: LogCall::Record(number),
+            before: LogOf::new(octets),
+            after: LogOf::new(octets),
+            refusal: refusal(&expected),
+            given: expected.ok(),
+            number: 0,
+        });
+        Ok(())
+    }
+
+    /// A reader from a record number on, to its end; each record that it hands out is a call.
+    pub(crate) fn log_read_on(&mut self, log: &LentLog, from: usize) -> Result<(), Difference> {
+        let octets = log.octets();
+        let whole = self.whole;
+        let inputs = || format!("reader at {from}\nlog: {}", show::log(octets, whole));
+        let mut reader = LogReader {
+            log: octets,
+            place: from,
+        };
+        let view = LogView::new(octets);
+        let mut records = view.ok().map(|view| view.records().at(from));
+        loop {
+            self.calls += 1;
+            let at = reader.place;
+            let expected = reader.next_record();
+            let answer = raw::log_next(octets, at);
+            let refusal = refusal(&expected);
+            let sides = (answer, (refusal.into(), reader.place, written(&expected)));
+            self.same(("next in C", "answer"), sides, inputs)?;
+            if let Some(records) = &mut records {
+                let answer = (records.next(), records.number());
+                let expected = expected.ok().map(|record| face::record(&record));
+                let sides = (answer, (expected, reader.place));
+                self.same(("records", "item"), sides, inputs)?;
+            }
+            self.coverage.log(&LogSeen {
+                call: LogCall::Next(at),
+                before: LogOf::new(octets),
+                after: LogOf::new(octets),
+                refusal,
+                given: expected.ok(),
+                number: reader.place,
+            });
+            if refusal > 0 {
+                // the iterator is there unless that is 11
+                return self.same(
+                    ("records", "are there"),
+                    (records.is_some(), refusal != 11),
+                    inputs,
+                );
+            }
+        }
+    }
+
+    /// How many used records stand in front of the first unused one.
+    pub(crate) fn log_used(&mut self, log: &LentLog) -> Result<(), Difference> {
+        self.calls += 1;
+        let octets = log.octets();
+        let inputs = || format!("log: {}", show::log(octets, self.whole));
+        let expected = reference::used_in_front(octets);
+        let left = expected.unwrap_or(raw::LEFT_NUMBER);
+        let sides = (raw::log_used(octets), (refusal(&expected).into(), left));
+        self.same(("used in C", "answer"), sides, inputs)?;
+        let answer = LogView::new(octets).map(|log| log.used());
+        self.same(("used", "answer"), (by_number(answer), expected), inputs)?;
+        self.coverage.log(&LogSeen {
+            call: LogCall::Used,
+            before: LogOf::new(octets),
+            after: LogOf::new(octets),
+            refusal: refusal(&expected),
+            given: None,
+            number: expected.unwrap_or(0),
+        });
+        Ok(())
+    }
+
+    /// A walk that keeps its readings; state and log go on to those after it.
+    pub(crate) fn walk_log(
+        &mut self,
+        settings: &raw::Settings,
+        numbers: &mut raw::State,
+        lent: &Lent,
+        place: usize,
+        log: &mut LentLog,
+    ) -> Result<Logged, Difference> {
+        self.calls += 1;
+        let (s, before) = (records::settings(settings), *numbers);
+        let state_before = records::state(&before);
+        let mut state = state_before;
+        let log_before = log.clone();
+        let (octets, marks) = (lent.octets(), lent.marks());
+        let expected =
+            reference::walk_log(self.check, &s, &mut state, octets, marks, place, log.lent());
+        let inputs = || {
+            let meant = inputs(&s, &state_before, lent, place, self.whole);
+            let log = show::log(log_before.octets(), self.whole);
+            format!("{settings:?}\nstate {before:X?}\nmeant: {meant}\nlog: {log}")
+        };
+
+        let mut log_in_c = log_before.clone();
+        let symbols = (octets, marks);
+        let answer = raw::walk_log(settings, numbers, symbols, place, log_in_c.lent());
+        let answers = (answer, records::kept(&expected));
+        self.same(("walk_log in C", "answer"), answers, inputs)?;
+        let is_refused = matches!(expected.end, LogEnd::Refused(_));
+        let states = (*numbers, after(is_refused, &before, &state));
+        self.same(("walk_log in C", "state"), states, inputs)?;
+        self.same_log("walk_log in C", (&log_in_c, log), inputs)?;
+
+        let mut log_in_rust = log_before.clone();
+        let mut state_in_rust = face::state(&state_before);
+        // Rust refuses a bad length before there is a walk
+        if let Ok(mut lent_log) = Log::new(log_in_rust.lent()) {
+            let capture = Capture::new(octets, marks);
+            let settings = face::settings(&s);
+            let answer = capture.walk_log(&settings, &mut state_in_rust, place, &mut lent_log);
+            let answers = (face::kept(place, answer), expected);
+            self.same(("walk_log", "answer"), answers, inputs)?;
+            if let Err(refusal) = answer {
+                self.refused("walk_log", refusal, inputs)?;
+            }
+            let states = (state_in_rust, face::state(&state));
+            self.same(("walk_log", "state"), states, inputs)?;
+            self.same_log("walk_log", (&log_in_rust, log), inputs)?;
+        }
+        let seen = KeepSeen::new(
+            &s,
+            (octets, marks, place),
+            (&state_before, &state),
+            (log_before.octets(), log.octets()),
+            expected,
+        );
+        self.coverage.keep(&seen);
+        self.coverage.c(&CSeen {
+            settings,
+            client: None,
+            before: &before,
+            after: numbers,
+            call: CCall::Keep(seen),
+        });
+        Ok(expected)
+    }
+
+    /// Walks that go on, each with a log of about this capacity, from where the one before was full.
+    /// Together they keep what one walk keeps in one large log.
+    pub(crate) fn going_on(
+        &mut self,
+        prng: &mut Prng,
+        settings: &raw::Settings,
+        numbers: &raw::State,
+        lent: &Lent,
+        (place, capacity): (usize, usize),
+    ) -> Result<(), Difference> {
+        let (call, whole) = ("walk_log, going on", self.whole);
+        let inputs = |appended: &[usize]| {
+            let (s, state) = (records::settings(settings), records::state(numbers));
+            let meant = inputs(&s, &state, lent, place, whole);
+            format!("logs of {capacity} records, to which {appended:?} were appended\n{meant}")
+        };
+        let (mut state, mut at) = (*numbers, place);
+        let mut records: Vec<u8> = Vec::new();
+        let mut seen = GoingOnSeen {
+            appended: Vec::new(),
+            end: LogEnd::Full,
+            gaps: false,
+        };
+        while seen.end == LogEnd::Full {
+            let before = generate::log_with_room(prng, capacity);
+            let mut log = LentLog::new(prng, &before);
+            let logged = self.walk_log(settings, &mut state, lent, at, &mut log)?;
+            // or it would not end: a full log, which had room, took a Start
+            let on = (logged.end != LogEnd::Full || logged.next > at, true);
+            self.same((call, "goes on"), on, || inputs(&seen.appended))?;
+            let before = LogOf::new(&before);
+            let kept = appended(before, LogOf::new(log.octets()));
+            records.extend(kept.flatten());
+            seen.appended.push(logged.appended);
+            seen.gaps |= before.has_gap();
+            (seen.end, at) = (logged.end, logged.next);
+        }
+
+        let many: usize = seen.appended.iter().sum();
+        let mut large = LentLog::new(prng, &vec![0; raw::RECORD * (many + 1)]);
+        let mut at_once = *numbers;
+        let logged = self.walk_log(settings, &mut at_once, lent, place, &mut large)?;
+        let inputs = || inputs(&seen.appended);
+        let answers = (
+            (seen.end, at, many),
+            (logged.end, logged.next, logged.appended),
+        );
+        self.same((call, "answers"), answers, inputs)?;
+        self.same((call, "state"), (state, at_once), inputs)?;
+        let expected = &large.octets()[..raw::RECORD * logged.appended];
+        let other = first_other(&records, expected, 0);
+        self.same((call, "records, first other"), (other, None), inputs)?;
+        let lengths = (records.len(), expected.len());
+        self.same((call, "octets of records"), lengths, inputs)?;
+        self.coverage.going_on(&seen);
+        Ok(())
+    }
+}
+
+/// What stands in a record after a call that hands one out: a refusal leaves it.
+fn written(expected: &Result<Record, u8>) -> raw::Record {
+    match expected {
+        Ok(record) => records::record_written(record),
+        Err(_) => raw::LEFT_RECORD,
+    }
+}
+
+/// A face's answer, with the number of its refusal.
+fn by_number<T>(answer: Result<T, Refusal>) -> Result<T, u8> {
+    answer.map_err(Refusal::number)
+}

@@ -1,0 +1,342 @@
+//! Walks that keep their readings: ends, places, refusals, what is kept, and going on.
+use super::Table;
+use crate::generate::{BEYOND_32_BITS, SYMBOLS, TABLES_FROM};
+use crate::names::OUTCOMES;
+use crate::seen_log::{Further, GoingOnSeen, KeepSeen};
+use reference::LogEnd;
+
+/// Each way to end.
+const ENDS: [(&str, LogEnd); 3] = [
+    ("none", LogEnd::None),
+    ("open", LogEnd::Open),
+    ("full", LogEnd::Full),
+];
+
+pub fn rows(t: &mut Table) {
+    ends(t);
+    room(t);
+    fullness(t);
+    places(t);
+    refusals(t);
+    outcomes(t);
+    records(t);
+    going_on(t);
+}
+
+/// Each end, with records appended or none; a log with no unused record is full only if a further
+/// Start would be counted.
+fn ends(t: &mut Table) {
+    for (name, end) in ENDS {
+        t.keep(format!("walk_log: {name}, nothing appended"), move |k| {
+            k.logged.end == end && k.logged.appended == 0 && k.log.octets == k.log_after.octets
+        });
+        t.keep(format!("walk_log: {name}, a record appended"), move |k| {
+            k.logged.end == end && k.logged.appended == 1 && k.kept.len() == 1
+        });
+        t.keep(format!("walk_log: {name}, records appended"), move |k| {
+            let n = k.logged.appended;
+            k.logged.end == end && n > 1 && k.kept.len() == n
+        });
+        t.keep(format!("walk_log: a log of no record: {name}"), move |k| {
+            k.logged.end == end && k.log.octets.is_empty()
+        });
+        t.keep(format!("walk_log: every record used: {name}"), move |k| {
+            k.logged.end == end && k.log.full()
+        });
+    }
+}
+
+/// As many records as Starts, one fewer, one more; unused ones between used ones.
+fn room(t: &mut Table) {
+    for (name, end) in ENDS.into_iter().take(2) {
+        let name_of = |records: &str| format!("walk_log: {records}: {name}");
+        t.keep(name_of("as many unused records as Starts"), move |k| {
+            k.logged.end == end && k.log.unused > 1 && k.log.unused == k.logged.appended
+        });
+        t.keep(name_of("one unused record more than Starts"), move |k| {
+            k.logged.end == end && k.logged.appended > 1 && k.log.unused == k.logged.appended + 1
+        });
+    }
+    t.keep("walk_log: one unused record fewer than Starts: full", |k| {
+        let last = k.further.as_ref().is_some_and(|further| further.last);
+        k.log.unused > 1 && last
+    });
+    t.keep(
+        "walk_log: two unused records fewer than Starts, or more: full",
+        |k| {
+            let more = k.further.as_ref().is_some_and(|further| !further.last);
+            k.log.unused > 1 && more
+        },
+    );
+    for (name, end) in ENDS {
+        let name = format!("walk_log: used records between those appended: left, {name}");
+        t.keep(name, move |k| {
+            k.logged.end == end && k.logged.appended > 1 && between(k) && used_stay(k)
+        });
+    }
+    t.keep("walk_log: unused records left: as they were", |k| {
+        let left = |i: &usize| !k.log.used(*i) && !k.log_after.used(*i);
+        let mut left = (0..k.log.len()).filter(left);
+        let anything = |i: usize| {
+            let slot = k.log.slot(i);
+            slot == k.log_after.slot(i) && slot.is_some_and(|slot| slot.iter().any(|&o| o != 0))
+        };
+        k.logged.appended > 0 && left.any(anything)
+    });
+}
+
+/// A used record stands between two that were appended.
+fn between(k: &KeepSeen) -> bool {
+    let appended = |i: &usize| !k.log.used(*i) && k.log_after.used(*i);
+    let mut places = (0..k.log.len()).filter(appended);
+    let first = places.next().unwrap_or(0);
+    let last = places.next_back().unwrap_or(0);
+    (first..last).any(|i| k.log.used(i))
+}
+
+/// Each record that was used is as it was.
+fn used_stay(k: &KeepSeen) -> bool {
+    let stays = |i: usize| !k.log.used(i) || k.log.slot(i) == k.log_after.slot(i);
+    (0..k.log.len()).all(stays)
+}
+
+/// Where a full log stops: before the Start that it has no record for, which is not counted.
+fn fullness(t: &mut Table) {
+    t.keep(
+        "walk_log: full: next is where the last run kept ended",
+        |k| {
+            let last = k.kept.last().map(|slot| place_of(slot));
+            let run = |start: usize| (start + 1..k.logged.next).all(|i| !k.control_at(i));
+            k.further.is_some() && k.control_at(k.logged.next) && last.is_some_and(run)
+        },
+    );
+    t.keep(
+        "walk_log: full at once, before the Start: next is the place",
+        |k| {
+            let at_once = k.further.is_some() && k.logged.appended == 0;
+            at_once && !k.start_at(k.place) && k.logged.next == k.place
+        },
+    );
+    t.keep("walk_log: full: as many counted as appended", |k| {
+        let counted: u32 = (1..=11).map(|outcome| k.risen(outcome)).sum();
+        k.further.is_some() && counted > 0 && counted as usize == k.logged.appended
+    });
+    t.keep("walk_log: full at once: the state stays", |k| {
+        k.further.is_some() && k.logged.appended == 0 && k.before == k.after
+    });
+    for (outcome, name) in (1..).zip(OUTCOMES) {
+        let name = format!("walk_log: full before {outcome} {name}: not counted");
+        t.keep(name, move |k| {
+            let further = k.further.as_ref().is_some_and(|f| f.outcome == outcome);
+            further && k.logged.appended == 0 && k.risen(outcome) == 0
+        });
+    }
+    for (outcome, name) in [(8, "pause"), (9, "PFC")] {
+        t.keep(
+            format!("walk_log: full before {name}: no timer set"),
+            move |k| {
+                let sets = |f: &Further| f.outcome == outcome && f.sets_timers;
+                k.further.as_ref().is_some_and(sets)
+                    && k.logged.appended == 0
+                    && k.before.timers == k.after.timers
+            },
+        );
+    }
+}
+
+/// The place that stands in a record, low octet first.
+fn place_of(slot: &[u8]) -> usize {
+    slot[..4]
+        .iter()
+        .rev()
+        .fold(0, |n, &octet| n << 8 | usize::from(octet))
+}
+
+/// Where a walk begins and where it goes on.
+fn places(t: &mut Table) {
+    let first = |k: &KeepSeen| k.kept.first().map(|slot| place_of(slot));
+    t.keep("walk_log: place 0: kept from there", move |k| {
+        k.place == 0 && k.log.front == 0 && first(k).is_some()
+    });
+    t.keep("walk_log: place at a Start: it is kept first", move |k| {
+        k.place > 0 && k.start_at(k.place) && first(k) == Some(k.place)
+    });
+    t.keep(
+        "walk_log: place one past a Start: that one is passed",
+        move |k| {
+            let passed = k.place > 0 && k.start_at(k.place - 1);
+            passed && first(k).is_some_and(|start| start >= k.place)
+        },
+    );
+    t.keep(
+        "walk_log: place between two Starts: the next one is kept first",
+        move |k| {
+            let later = |start: usize| start > k.place;
+            k.place > 1 && !k.start_at(k.place - 1) && first(k).is_some_and(later)
+        },
+    );
+    t.keep("walk_log: place one before the length: taken", |k| {
+        k.refusal() == 0 && k.place + 1 == k.octets.len()
+    });
+    t.keep("walk_log: place is the length: none", |k| {
+        k.logged.end == LogEnd::None && k.place == k.octets.len()
+    });
+    t.keep("walk_log: none: next is the length", |k| {
+        k.logged.end == LogEnd::None && k.logged.appended > 0 && k.logged.next == k.octets.len()
+    });
+    t.keep("walk_log: open: next is that Start", |k| {
+        let open = k.logged.end == LogEnd::Open && k.logged.appended > 0;
+        open && k.start_at(k.logged.next)
+    });
+    t.keep("walk_log: place one beyond the length: refusal 3", |k| {
+        k.refusal() == 3 && k.place == k.octets.len() + 1
+    });
+    for (name, place) in [("2^32", BEYOND_32_BITS), ("the greatest", usize::MAX)] {
+        t.keep(format!("walk_log: place {name}: refusal 3"), move |k| {
+            k.refusal() == 3 && k.place == place
+        });
+    }
+}
+
+/// Refusals 1, 2, 3 and 11, and their order; 12 is none of a walk.
+fn refusals(t: &mut Table) {
+    for refusal in [1, 2, 3, 11] {
+        t.keep(format!("walk_log: refusal {refusal}"), move |k| {
+            let alone = |other| k.holds(other) == (other == refusal);
+            k.refusal() == refusal && [1, 2, 3, 11].into_iter().all(alone)
+        });
+        let name = format!("walk_log: refusal {refusal}: log and place stay");
+        t.keep(name, move |k| {
+            let unused = k.log.unused > 0 && k.log.octets == k.log_after.octets;
+            k.refusal() == refusal && unused && k.logged.next == k.place && k.place > 0
+        });
+    }
+    for (first, second) in [(1, 2), (1, 3), (1, 11), (2, 3), (2, 11), (3, 11)] {
+        let name = format!("walk_log: {first} and {second} hold: refusal {first}");
+        t.keep(name, move |k| {
+            k.refusal() == first && k.holds(first) && k.holds(second)
+        });
+    }
+    for n in [0, 1, 8, 15, 16, 17, 24, 31, 32, 33, 47, 48, 49] {
+        let taken = [0, 16, 32, 48].contains(&n);
+        let answer = if taken { "taken" } else { "refusal 11" };
+        t.keep(
+            format!("walk_log: a log of {n} octets: {answer}"),
+            move |k| {
+                let refusal = if taken { 0 } else { 11 };
+                k.log.octets.len() == n && k.refusal() == refusal
+            },
+        );
+    }
+    for (n, refusal) in [(SYMBOLS, 0), (SYMBOLS + 1, 2)] {
+        let answer = if refusal == 0 { "taken" } else { "refusal 2" };
+        t.keep(format!("walk_log: {n} symbols: {answer}"), move |k| {
+            k.octets.len() == n && k.marks.len() == n && k.refusal() == refusal
+        });
+    }
+}
+
+/// Each outcome and end on both sides of the length from which on a walk makes tables of the FCS.
+fn outcomes(t: &mut Table) {
+    for (symbols, lengths) in [
+        (format!("under {TABLES_FROM} symbols"), 0..TABLES_FROM),
+        (
+            format!("{} symbols", TABLES_FROM - 1),
+            TABLES_FROM - 1..TABLES_FROM,
+        ),
+        (
+            format!("{TABLES_FROM} symbols"),
+            TABLES_FROM..TABLES_FROM + 1,
+        ),
+    ] {
+        for (outcome, name) in (1..).zip(OUTCOMES) {
+            let lengths = lengths.clone();
+            let name = format!("walk_log, {symbols}: {outcome} {name}");
+            t.keep(name, move |k| {
+                let kept = k.kept.iter().filter(|slot| slot[4] == outcome).count();
+                lengths.contains(&k.octets.len()) && kept > 0 && kept == k.risen(outcome) as usize
+            });
+        }
+        for (end, at_end) in ENDS {
+            let lengths = lengths.clone();
+            t.keep(format!("walk_log, {symbols}: {end}"), move |k| {
+                let appended = k.logged.appended > 0;
+                lengths.contains(&k.octets.len()) && appended && k.logged.end == at_end
+            });
+        }
+    }
+}
+
+/// What is kept of a Start: its place, the octets handed out, the status word, and a zero.
+fn records(t: &mut Table) {
+    t.keep(
+        "walk_log: each record has the place of a Start, in their order",
+        |k| {
+            let places: Vec<_> = k.kept.iter().map(|slot| place_of(slot)).collect();
+            places.len() > 2
+                && places.iter().all(|&place| k.start_at(place))
+                && places.windows(2).all(|pair| pair[0] < pair[1])
+        },
+    );
+    t.keep("walk_log: a place beyond 255: low octet first", |k| {
+        let mut places = k.kept.iter().map(|slot| place_of(slot));
+        places.any(|place| place > 255 && k.start_at(place))
+    });
+    t.keep(
+        "walk_log: octets handed out, as the status word has them",
+        |k| {
+            k.kept
+                .iter()
+                .any(|slot| slot[4] == 11 && slot[6..8] != [0, 0] && slot[6..8] == slot[8..10])
+        },
+    );
+    t.keep(
+        "walk_log: outcomes 8 to 10: a status word, and nothing handed out",
+        |k| {
+            k.kept
+                .iter()
+                .any(|slot| (8..=10).contains(&slot[4]) && slot[6..8] == [0, 0] && slot[12] != 0)
+        },
+    );
+    t.keep(
+        "walk_log: outcomes 1 to 7: nothing handed out, no status word",
+        |k| {
+            k.kept
+                .iter()
+                .any(|slot| slot[4] < 8 && slot[6..] == [0; 10])
+        },
+    );
+    t.keep("walk_log: the zero octet: 0 over another", |k| {
+        let over = |i: usize| {
+            let zero = |slot: Option<&[u8]>| slot.map(|slot| slot[5]);
+            let fresh = !k.log.used(i) && k.log_after.used(i);
+            fresh && zero(k.log.slot(i)) > Some(0) && zero(k.log_after.slot(i)) == Some(0)
+        };
+        (0..k.log.len()).any(over)
+    });
+}
+
+/// Walks that go on with other logs.
+fn going_on(t: &mut Table) {
+    let many = |g: &GoingOnSeen| g.appended.len() > 1;
+    for n in [2, 3] {
+        t.going_on(
+            format!("going on: {n} logs keep what one keeps"),
+            move |g| g.appended.len() == n && g.appended.iter().all(|&appended| appended > 0),
+        );
+    }
+    t.going_on("going on: five logs or more keep what one keeps", |g| {
+        g.appended.len() >= 5
+    });
+    t.going_on("going on: a log of one record at a time", move |g| {
+        many(g) && g.appended.iter().all(|&appended| appended == 1)
+    });
+    t.going_on("going on: unused records in front of used ones", move |g| {
+        many(g) && g.gaps
+    });
+    for (name, end) in ENDS.into_iter().take(2) {
+        t.going_on(format!("going on: {name} in the end"), move |g| {
+            many(g) && g.end == end
+        });
+    }
+}

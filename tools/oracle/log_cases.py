@@ -1,0 +1,193 @@
+"""The calls on a log on the tape of crates/cases (tape.py): each refusal, each pair of them in its order, and both sides of each limit; walks that keep their
+readings with logs too short for them, just long enough and longer, and gone on with. What must come of each is the model's answer."""
+from model import (ERROR, IDLE, RESERVED_GROUP, START, TERMINATE, LogReader, Reading, Record, appending, handing_out, logged_walk, pause_symbols,
+                   reading, reading_appending, record_at, used_in_front, walks_on)
+from read_cases import FRESH, USED as WORN, frame, line, settings
+from tape import APPEND, APPEND_READING, KEEP, LOOK, ONES, TAPE, checksum
+
+ENDS = {"none": 1, "open": 2, "full": 3}
+NUMBERED = Record(0x04030201, 5, 6, 0x0807, 0x100F0E0D0C0B0A09)  # in the log the octets 1 to 16
+LEAST, MOST = Record(0, 1, 0, 0, 0), Record(2**32 - 1, 255, 255, 2**16 - 1, 2**64 - 1)
+BAD_LENGTHS = (1, 15, 17, 31, 33)
+BEFORE = list(range(0xF0, 0x100))  # what stands where a record is handed out
+
+
+def log(*outcomes):
+    """Records with these outcomes, all their other octets 0xA7."""
+    return [octet for outcome in outcomes for octet in [0xA7] * 4 + [outcome] + [0xA7] * 11]
+
+
+def told(refusal):
+    return f"refused {refusal}" if refusal else "fine"
+
+
+def tell(name, answer, log_after):
+    TAPE.lines.append(f"{name}: {answer} log {len(log_after)} {checksum(log_after)}")
+
+
+def words(octets):
+    text = bytes(octets).hex()
+    return " ".join(text[i:i + 8] for i in range(0, 32, 8))
+
+
+# ---- one call each
+
+
+def append(name, before, r):
+    TAPE.log_call(APPEND, name, before, record=r.octets())
+    answer = appending(before, r)
+    tell(name, told(answer.refusal), answer.log)
+
+
+def append_reading(name, before, r, above=0):
+    """`above` stands above the bits that a record has of each number of the reading, and in numbers that it has not: the C face does not look at them."""
+    kind = {"counted": 0, "none": 1, "open": 2, "refused": 0}[r.kind]
+    numbers = [r.refusal, kind, r.outcome + above * 2**8, r.start + above * 2**32, r.next, r.status, r.part[0], r.part[1] + above * 2**16]
+    TAPE.log_call(APPEND_READING, name, before, reading=numbers + [above] * 16)
+    answer = reading_appending(before, r)
+    tell(name, told(answer.refusal), answer.log)
+
+
+def look(name, of, number):
+    """Record `number`, the next record of a reader that stands there, and how many are used, where the number was told before."""
+    TAPE.log_call(LOOK, name, of, number, BEFORE)
+    record_refusal, r = record_at(of, number)
+    next_refusal, handed, reader = handing_out(LogReader(of, number))
+    used_refusal, used = used_in_front(of)
+    one, two = words(BEFORE if record_refusal else r.octets()), words(BEFORE if next_refusal else handed.octets())
+    tell(name, f"{told(record_refusal)} record {one} {told(next_refusal)} record {two} {told(used_refusal)} at {reader.place} "
+         f"used {number if used_refusal else used}", of)
+
+
+def keep(name, line, place, before, s=None, state=FRESH, worn=False, more_marks=0):
+    s = s or settings()
+    octets, marks = [octet for octet, _ in line], [mark for _, mark in line] + [0] * more_marks
+    TAPE.call(KEEP, name, s, state, place, 0, octets, marks, worn=worn, log=before)
+    w = logged_walk(s, state, octets, marks, place, before)
+    answer = f"refused {w.refusal} next {w.next}" if w.refusal else f"kept {w.appended} end {ENDS[w.end]} next {w.next}"
+    TAPE.tell(name, f"{answer} log {len(w.log)} {checksum(w.log)}", w.refusal, state, w.state, worn)
+    return w
+
+
+# ---- the cases
+
+
+def append_cases():
+    for name, r in [("all octets differ", NUMBERED), ("least of each", LEAST), ("most of each", MOST)]:
+        append(f"append, {name}", [0] * 32, r)
+    for name, before in [("one record", log(0)), ("none used", log(0, 0, 0)), ("the second", log(1, 0, 11)), ("the last", log(1, 255, 0)),
+                         ("the first of two holes", log(1, 0, 1, 0)), ("used by the outcome alone", [0] * 4 + [1] + [0] * 27)]:
+        append(f"append, {name}", before, NUMBERED)
+    none = NUMBERED._replace(outcome=0)
+    for name, before in [("no record", []), ("one used", log(1)), ("three used", log(1, 255, 11))]:
+        append(f"append, {name}", before, NUMBERED)
+        append(f"append outcome 0, {name}", before, none)
+    append("append outcome 0, one unused", log(1, 0), none)
+    for n in BAD_LENGTHS:
+        append(f"append, length {n}, used", log(1, 1, 1)[:n], NUMBERED)
+    for n in (15, 17):
+        append(f"append, length {n}, unused", [0] * n, NUMBERED)
+        append(f"append outcome 0, length {n}", log(1, 1, 1)[:n], none)
+    last = [0xA7] * 65524 + [0] + [0xA7] * 11
+    append("append, the last of 4,096", last, NUMBERED)
+    append("append, 4,096 used", [0xA7] * 65536, NUMBERED)
+    append("append, length 65,537", last + [0], NUMBERED)
+
+
+def reading_cases():
+    s = settings()
+    good, bad = line(frame(n=300)), line(frame(bad=1))
+    octets, marks = zip(*(good + bad + [(START, 1)]))
+    readings = [reading(s, FRESH, list(octets), list(marks), place) for place in (0, len(good), len(good + bad), len(octets), len(octets) + 1)]
+    assert [r.kind for r in readings] == ["counted", "counted", "open", "none", "refused"]
+    for name, r in zip(["handed out", "wrong FCS", "open", "none", "refused"], readings):
+        append_reading(f"reading, {name}", log(1, 0), r)
+        append_reading(f"reading, {name}, bits above", log(1, 0), r, above=3)
+        append_reading(f"reading, {name}, log used", log(1, 1), r)
+        append_reading(f"reading, {name}, length 31", log(1, 1)[:31], r)
+    most = Reading("counted", 2**32 - 1, 0, FRESH, outcome=255, status=2**64 - 1, part=(9, 65535), data=[0] * 65535)
+    append_reading("reading, most of each", [0] * 16, most)
+
+
+def look_cases():
+    three = log(1, 255, 11)
+    hole = NUMBERED.octets() + log(0) + MOST.octets()
+    for name, of, number in [("first", three, 0), ("last", three, 2), ("beyond", three, 3), ("far beyond", three, ONES), ("2^60", three, 2**60),
+                             ("before a hole", hole, 0), ("a hole", hole, 1), ("behind a hole", hole, 2), ("of none", [], 0), ("one", log(1), 0),
+                             ("one unused", log(0), 0), ("two used, the hole", log(1, 1, 0), 2), ("a hole in front", log(0, 1, 1), 0),
+                             ("the last of 4,096", [0xA7] * 65536, 4095), ("4,096 of 4,096", [0xA7] * 65536, 4096)]:
+        look(f"look, {name}", of, number)
+    for n, number in [(n, 0) for n in BAD_LENGTHS] + [(17, 9)]:
+        look(f"look {number}, length {n}", log(1, 1, 1)[:n], number)
+    back = NUMBERED.octets() + MOST.octets() + LEAST.octets() + log(0, 1)
+    for number in range(5):  # up to the hole, at it, and behind it
+        look(f"read back, {number}", back, number)
+
+
+IDLES, STARTS, TERMINATES = (IDLE, 1), (START, 1), (TERMINATE, 1)
+TWO = [IDLES, STARTS, STARTS, TERMINATES]  # a cut one at 1, a bad preamble at 2
+THREE = TWO + [IDLES, STARTS]  # and an open one at 5
+
+
+def walk_cases():
+    for name, line_, places in [("two", TWO, range(5)), ("three", THREE, (0, 2, 3, 5)), ("nothing", [], (0,)), ("Idle", [IDLES], (0,))]:
+        for place in places:
+            for size in (0, 1, 2, 3) if place == 0 else (0, 2):
+                keep(f"{name} from {place}, {size} records", line_, place, [0] * (16 * size), state=WORN)
+        keep(f"{name} from 0, one used", line_, 0, log(9), state=WORN)
+    for name, before in [("a hole", log(9, 0, 9)), ("two holes", log(9, 0, 9, 0)), ("holes around", log(0, 9, 0, 0)), ("32 records", log(*[9] * 31, 0))]:
+        keep(f"two, {name}", TWO, 0, before)
+    # gone on with: nothing is lost, and nothing comes twice
+    for sizes in ([1, 1], [0, 2], [1, 0, 1]):
+        state, place, kept = FRESH, 0, []
+        for n, size in enumerate(sizes):
+            w = keep(f"three, logs of {sizes}, {n}", THREE, place, [0] * (16 * size), state=state)
+            state, place, kept = w.state, w.next, kept + [w]
+        assert kept == walks_on(settings(), FRESH, [o for o, _ in THREE], [m for _, m in THREE], 0, sizes)
+
+
+def frame_cases():
+    """What is kept of frames: each outcome, octets handed out in one octet and in two, status words, the largest place."""
+    pausing = settings(flow="pause", pass_control=True)
+    pause = frame(RESERVED_GROUP, 0x8808, 42, [0, 1, 0, 5])
+    every = (line(frame(), by=ERROR) + [(START, 1), (0x55, 0), (TERMINATE, 1)] + line(frame(n=45)) + line(frame(n=1501)) + line(frame(bad=1))
+             + line(frame(field=45, n=47)) + line(frame(to=[2, 0, 0, 0, 0, 2])) + line(pause) + line(frame(n=300)) + line(frame(tagged=True))
+             + line(frame(field=10)) + line(frame(RESERVED_GROUP, 0x8808, 44, [0, 2])))
+    for size in (12, 13, 11):
+        keep(f"each outcome, {size} records", every, 0, [0] * (16 * size), s=pausing)
+    pfc = frame(RESERVED_GROUP, 0x8808, 26, [1, 1, 0, 0x81] + [0, 9] * 8)
+    keep("PFC taken, control dropped", line(pfc) + line(pause), 0, [0] * 32, s=settings(flow="PFC"))
+    keep("9,600 octets handed out", line(frame(n=9600)), 0, [0] * 16, s=settings(limit=9618))
+    keep("the last place", [(0, 0)] * 65534 + TWO[2:], 0, [0] * 16)
+    # a pause that finds no record sets no timer
+    two_pauses = pause_symbols(settings(), 3) + pause_symbols(settings(), 7)
+    for size in (0, 1, 2):
+        keep(f"two pauses, {size} records", two_pauses, 0, [0] * (16 * size), s=pausing, state=WORN)
+
+
+def refusal_cases():
+    bad = settings(limit=0)
+    keep("kept, 1 before all", TWO, 5, [0] * 15, s=bad, more_marks=1)
+    keep("kept, 2 before 3", TWO, 5, [0] * 15, more_marks=1)
+    keep("kept, 2 before 11", TWO, 0, [0] * 15, more_marks=1)
+    keep("kept, 3 before 11", TWO, 5, [0] * 15)
+    keep("kept, 3", TWO, 5, [0] * 16)
+    for n in (*BAD_LENGTHS, 16):
+        keep(f"kept from 0, length {n}", TWO, 0, [0] * n)
+    for n in (15, 16):
+        keep(f"kept from the end, length {n}", TWO, 4, [0] * n)
+    long = [(0, 0)] * 65537
+    keep("kept, 65,537 symbols", long, 0, [0] * 16)
+    keep("kept, 65,536 symbols", long[1:], 65536, [0] * 16)
+    for name, s, place, n in [("kept", settings(), 0, 16), ("refused 1", bad, 0, 16), ("refused 3", settings(), 5, 16), ("refused 11", settings(), 0, 15),
+                              ("full", settings(), 0, 0)]:
+        keep(f"worn state, {name}", TWO, place, [0] * n, s=s, state=WORN, worn=True)
+
+
+def cases():
+    append_cases()
+    reading_cases()
+    look_cases()
+    walk_cases()
+    frame_cases()
+    refusal_cases()
