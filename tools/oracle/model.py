@@ -1,4 +1,4 @@
-"""An independent model of document 01 with items 1 to 4 of document 02, written from their text alone and not from the definitions in crates/*/specs.
+"""An independent model of document 01 with items 1 to 5 of document 02, written from their text alone and not from the definitions in crates/*/specs.
 
 Each piece stands under the sentence of the documents that it renders. The check is zlib's crc32, not a loop of our own, and a log's record is laid
 out by struct.
@@ -52,9 +52,10 @@ class Settings:
 
 @dataclass(frozen=True)
 class State:
-    """"The state is these eleven counters and the eight timers below; a fresh state is all zeros." """
+    """"The state is these eleven counters and the eight timers below; a fresh state is all zeros."; item 5: "The count is part of the state" """
     counters: List[int] = field(default_factory=lambda: [0] * 11)
     timers: List[int] = field(default_factory=lambda: [0] * 8)
+    deficit: int = 0  # any number up to 255 can stand here
 
 
 def counted(state: State, outcome: int) -> State:
@@ -78,8 +79,8 @@ def bad_buffers(octets: List[int], marks: List[int]) -> bool:
 
 
 def order(refusal: int) -> float:
-    """"Lowest number first."; item 1: "new 10, …, tested after 6 and before 7" """
-    return 6.5 if refusal == 10 else refusal
+    """"Lowest number first."; item 1: "new 10, …, tested after 6 and before 7"; item 5: "3 …, then new 19" """
+    return {10: 6.5, 19: 3.5}.get(refusal, refusal)
 
 
 def first(*tests: Tuple[int, bool]) -> Optional[int]:
@@ -519,32 +520,36 @@ def high_first(n: int) -> List[int]:
     return list(n.to_bytes(2, "big"))
 
 
-def on_line(covered: List[int]) -> List[Tuple[int, int]]:
-    """"Start; six data octets 0x55; data 0xD5 …; the frame from destination to FCS; Terminate; Idle"; "one Terminate and eleven Idles" """
+# "one Terminate and eleven Idles"; item 5: "Its gaps, Terminate included, vary"
+GAP = 12
+
+
+def on_line(covered: List[int], gap: int = GAP) -> List[Tuple[int, int]]:
+    """"Start; six data octets 0x55; data 0xD5 …; the frame from destination to FCS; Terminate; Idle" """
     data = PREAMBLE + covered + fcs(covered)
     # "We write 0 for data and 1 for control."
-    return [(START, 1)] + [(o, 0) for o in data] + [(TERMINATE, 1)] + [(IDLE, 1)] * 11
+    return [(START, 1)] + [(o, 0) for o in data] + [(TERMINATE, 1)] + [(IDLE, 1)] * (gap - 1)
 
 
-def client_symbols(s: Settings, c: Client) -> List[Tuple[int, int]]:
+def client_symbols(s: Settings, c: Client, gap: int = GAP) -> List[Tuple[int, int]]:
     tags = [octet for kind, control in c.tags for octet in high_first(kind) + high_first(control)]
     # "In the length form the field is the data's length."
     number = len(c.data) if c.type is None else c.type
     # "Data under 46 octets is padded with zeros to 46, tagged or not."
     padded = c.data + [0] * max(0, 46 - len(c.data))
     # "Source is the own address."
-    return on_line(c.destination + s.own + tags + high_first(number) + padded)
+    return on_line(c.destination + s.own + tags + high_first(number) + padded, gap)
 
 
-def pause_symbols(s: Settings, quanta: int) -> List[Tuple[int, int]]:
+def pause_symbols(s: Settings, quanta: int, gap: int = GAP) -> List[Tuple[int, int]]:
     """"A pause frame: reserved group, own address, 0x8808, 0x0001, quanta, 42 zeros." """
-    return on_line(RESERVED_GROUP + s.own + high_first(CONTROL) + high_first(0x0001) + high_first(quanta) + [0] * 42)
+    return on_line(RESERVED_GROUP + s.own + high_first(CONTROL) + high_first(0x0001) + high_first(quanta) + [0] * 42, gap)
 
 
-def pfc_symbols(s: Settings, named: int, quanta: List[int]) -> List[Tuple[int, int]]:
+def pfc_symbols(s: Settings, named: int, quanta: List[int], gap: int = GAP) -> List[Tuple[int, int]]:
     """"A PFC frame: 0x0101, zero, class octet, eight quanta (zero for a class not named), 26 zeros." """
     eight = [octet for n in range(8) for octet in high_first(quanta[n] if named >> n & 1 else 0)]
-    return on_line(RESERVED_GROUP + s.own + high_first(CONTROL) + high_first(0x0101) + [0, named] + eight + [0] * 26)
+    return on_line(RESERVED_GROUP + s.own + high_first(CONTROL) + high_first(0x0101) + [0, named] + eight + [0] * 26, gap)
 
 
 def idle_symbols(n: int) -> List[Tuple[int, int]]:
@@ -552,15 +557,16 @@ def idle_symbols(n: int) -> List[Tuple[int, int]]:
     return [(IDLE, 1)] * n
 
 
-def sent(refusal: Optional[int], state, octets, marks, place, symbols) -> Sending:
+def sent(refusal: Optional[int], state, octets, marks, place, symbols, deficit: Optional[int] = None) -> Sending:
+    """What is written, if there is no refusal, and the deficit count behind it: the old one, unless a frame's gap gives one."""
     if refusal:  # "A refusal gives its number, …, the place it was called with …, the old state, and untouched buffers."
         return Sending(refusal, place, state, octets, marks)
     n = len(symbols)
     # "written into the line buffers from the place the caller names on; every other symbol stays"
     octets = octets[:place] + [o for o, _ in symbols] + octets[place + n:]
     marks = marks[:place] + [m for _, m in symbols] + marks[place + n:]
-    # "Every call that writes n symbols lowers each timer by n, not below zero."
-    state = replace(state, timers=[max(0, t - n) for t in state.timers])
+    # "Every call that writes n symbols lowers each timer by n, not below zero."; item 5: "those really written"
+    state = replace(state, timers=[max(0, t - n) for t in state.timers], deficit=state.deficit if deficit is None else deficit)
     # "gives its own place plus the number of symbols it wrote"
     return Sending(0, place + n, state, octets, marks)
 
@@ -570,12 +576,39 @@ def common(octets, marks, place, needed) -> List[Tuple[int, bool]]:
     return [(2, bad_buffers(octets, marks)), (3, place > len(octets)), (8, len(octets) - place < needed)]
 
 
-def client_refusals(s, state, octets, marks, place, c: Client) -> List[Tuple[int, bool]]:
-    """"client sending 1 to 3 and 5 to 9"; item 1: "Refusals: 6 also for type 0x88A8; new 10, more than eight tags" """
+# Item 5: "The new port board accepts Start only at places divisible by four." Each call that sends a frame names its port.
+PLAIN, FOUR_LANE = "plain", "four-lane"
+
+
+def port_refusals(state, place, port) -> List[Tuple[int, bool]]:
+    """"when sending a frame on this port only, 3 also for a place not divisible by four, then new 19, deficit count above 3" """
+    return [] if port == PLAIN else [(3, place % 4 != 0), (19, state.deficit > 3)]
+
+
+def gap_behind(port, state, place, symbols) -> Tuple[int, int]:
+    """The gap behind a frame whose symbols, with a gap of 12, are written at that place; and the deficit count behind it."""
+    if port == PLAIN:  # "only frames sent on this port change it"
+        return GAP, state.deficit
+    # "If a gap of 12 would end r past a multiple of four, shorten by r when count plus r is at most 3 and add r to the count;
+    # else lengthen by 4 - r and take 4 - r off the count."
+    r = (place + len(symbols)) % 4
+    missing = r if state.deficit + r <= 3 else r - 4
+    return GAP - missing, state.deficit + missing
+
+
+def frame_sending(refusals, state, octets, marks, place, port, symbols) -> Sending:
+    """A frame; symbols(gap) gives those to be written."""
+    gap, deficit = gap_behind(port, state, place, symbols(GAP))
+    return sent(first(*refusals), state, octets, marks, place, symbols(gap), deficit)
+
+
+def client_refusals(s, state, octets, marks, place, c: Client, port=PLAIN) -> List[Tuple[int, bool]]:
+    """"client sending 1 to 3 and 5 to 9"; item 1: "Refusals: 6 also for type 0x88A8; new 10, more than eight tags"; item 5: "8 counts the actual gap" """
+    gap, _ = gap_behind(port, state, place, client_symbols(s, c))
     most = 1500 if c.type is None else s.limit - 18
     # "type form under 1536, or 0x8100 or 0x8808"
     bad_type = c.type is not None and (c.type < 1536 or c.type == CONTROL or c.type in TAG_KINDS)
-    return common(octets, marks, place, len(client_symbols(s, c))) + [
+    return common(octets, marks, place, len(client_symbols(s, c, gap))) + port_refusals(state, place, port) + [
         (1, bad_settings(s)),
         (5, c.cls > 7),  # "class above 7"
         (6, bad_type),
@@ -585,9 +618,10 @@ def client_refusals(s, state, octets, marks, place, c: Client) -> List[Tuple[int
     ]
 
 
-def control_refusals(s, octets, marks, place, mode) -> List[Tuple[int, bool]]:
-    """"pause and PFC 1 to 4 and 8"; 4: "pause or PFC asked in another flow mode". Both frames are 64 octets: 84 symbols."""
-    return common(octets, marks, place, 84) + [(1, bad_settings(s)), (4, s.flow != mode)]
+def control_refusals(s, octets, marks, place, mode, state=State(), port=PLAIN) -> List[Tuple[int, bool]]:
+    """"pause and PFC 1 to 4 and 8"; 4: "pause or PFC asked in another flow mode". Both frames are 64 octets: 84 symbols, also on the four-lane port,
+    where a gap of 12 ends at a multiple of four."""
+    return common(octets, marks, place, 84) + port_refusals(state, place, port) + [(1, bad_settings(s)), (4, s.flow != mode)]
 
 
 def idle_refusals(octets, marks, place, n) -> List[Tuple[int, bool]]:
@@ -595,16 +629,19 @@ def idle_refusals(octets, marks, place, n) -> List[Tuple[int, bool]]:
     return common(octets, marks, place, n)
 
 
-def client_sending(s, state, octets, marks, place, c: Client) -> Sending:
-    return sent(first(*client_refusals(s, state, octets, marks, place, c)), state, octets, marks, place, client_symbols(s, c))
+def client_sending(s, state, octets, marks, place, c: Client, port=PLAIN) -> Sending:
+    refusals = client_refusals(s, state, octets, marks, place, c, port)
+    return frame_sending(refusals, state, octets, marks, place, port, lambda gap: client_symbols(s, c, gap))
 
 
-def pause_sending(s, state, octets, marks, place, quanta: int) -> Sending:
-    return sent(first(*control_refusals(s, octets, marks, place, "pause")), state, octets, marks, place, pause_symbols(s, quanta))
+def pause_sending(s, state, octets, marks, place, quanta: int, port=PLAIN) -> Sending:
+    refusals = control_refusals(s, octets, marks, place, "pause", state, port)
+    return frame_sending(refusals, state, octets, marks, place, port, lambda gap: pause_symbols(s, quanta, gap))
 
 
-def pfc_sending(s, state, octets, marks, place, named: int, quanta: List[int]) -> Sending:
-    return sent(first(*control_refusals(s, octets, marks, place, "PFC")), state, octets, marks, place, pfc_symbols(s, named, quanta))
+def pfc_sending(s, state, octets, marks, place, named: int, quanta: List[int], port=PLAIN) -> Sending:
+    refusals = control_refusals(s, octets, marks, place, "PFC", state, port)
+    return frame_sending(refusals, state, octets, marks, place, port, lambda gap: pfc_symbols(s, named, quanta, gap))
 
 
 def idle_sending(state, octets, marks, place, n: int) -> Sending:
@@ -697,3 +734,76 @@ def try_logged_walks():
 
 
 try_logged_walks()
+
+
+# ---- The four-lane port, tried on both sides of its limits
+
+
+def try_four_lanes():
+    length = 400
+    octets, marks, timers = [0xA7] * length, [0xC9] * length, [0, 1, 80, 84, 87, 90, 500, 2**32 - 1]
+    pausing, by_class = replace(PRINTING, flow="pause"), replace(PRINTING, flow="PFC")
+    client = Client([2, 0, 0, 0, 0, 9], [], 0x0800, 0, [7] * 46)
+
+    def tried(place, deficit, c=client, port=FOUR_LANE, room=length, s=PRINTING, held=0):
+        before = State([3] * 11, [held] + timers[1:], deficit)
+        return client_sending(s, before, octets[:room], marks[:room], place, c, port)
+
+    # Every count with every r: what is written is the plain port's but for the gap, and of all gaps that end at a multiple of four it is the only one
+    # that leaves a count of 0 to 3 if what it lacks of 12 is added to the count.
+    for count in range(4):
+        for r in range(4):
+            c = replace(client, data=[7] * (46 + r))
+            gap, = [g for g in range(9, 16) if (72 + r + g) % 4 == 0 and 0 <= count + 12 - g <= 3]
+            n = 72 + r + gap
+            for place in (0, 4, 100):
+                a = tried(place, count, c)
+                assert (a.refusal, a.place, a.state.deficit) == (0, place + n, count + 12 - gap)
+                assert a.state.timers == [max(0, t - n) for t in timers] and a.state.counters == [3] * 11
+                line = client_symbols(PRINTING, c)[:72 + r] + [(TERMINATE, 1)] + [(IDLE, 1)] * (gap - 1)
+                assert list(zip(a.octets, a.marks)) == [(0xA7, 0xC9)] * place + line + [(0xA7, 0xC9)] * (length - place - n)
+                # 8 counts the actual gap.
+                assert tried(place, count, c, room=place + n - 1).refusal == 8 and tried(place, count, c, room=place + n).refusal == 0
+    # Places and counts; the plain port knows neither and leaves the count.
+    for place in range(8):
+        for deficit in (0, 3, 4, 255):
+            a = tried(place, deficit)
+            assert a.refusal == (3 if place % 4 else 19 if deficit > 3 else 0)
+            before = State(timers=timers, deficit=deficit)
+            control = [pause_sending(pausing, before, octets, marks, place, 9, FOUR_LANE),
+                       pfc_sending(by_class, before, octets, marks, place, 9, [9] * 8, FOUR_LANE)]
+            for b in control:
+                assert b.refusal == a.refusal and b.state == (before if b.refusal else replace(before, timers=[max(0, t - 84) for t in timers]))
+            plain = [tried(place, deficit, port=PLAIN), tried(place, deficit, port=PLAIN, room=place + 84),
+                     pause_sending(pausing, before, octets, marks, place, 9), pfc_sending(by_class, before, octets, marks, place, 9, [9] * 8),
+                     idle_sending(before, octets, marks, place, 84)]
+            assert all((b.refusal, b.place, b.state.deficit) == (0, place + 84, deficit) for b in plain)
+            assert reading(PRINTING, before, octets, marks, place).state == before
+    # The refusals, one after the other; each leaves everything.
+    worse = replace(client, type=0x8808, cls=8, tags=[(CUSTOMER, 0)] * 9, data=[7] * 1501)
+    for number, answer in [
+            (1, tried(401, 4, worse, s=replace(PRINTING, limit=0))), (3, tried(401, 4, worse)), (3, tried(404, 4, worse)), (3, tried(399, 4, worse)),
+            (19, tried(396, 4, worse)), (5, tried(396, 3, worse)), (6, tried(396, 3, replace(worse, cls=7))),
+            (10, tried(396, 3, replace(worse, cls=7, type=1536))), (7, tried(396, 3, replace(worse, cls=7, type=1536, tags=[]))),
+            (8, tried(396, 3, held=1)), (9, tried(0, 3, held=1)), (4, pause_sending(by_class, State(deficit=3), octets, marks, 396, 9, FOUR_LANE)),
+            (19, pause_sending(by_class, State(deficit=4), octets, marks, 396, 9, FOUR_LANE)),
+            (8, pause_sending(pausing, State(deficit=3), octets, marks, 396, 9, FOUR_LANE)),
+            (2, client_sending(PRINTING, State(deficit=4), octets, marks[1:], 401, worse, FOUR_LANE))]:
+        assert answer.refusal == number and answer.octets == octets and answer.state.deficit in (3, 4)
+    # "From a count of 0, n gaps together lie between 12 × n - 3 and 12 × n, and the count is exactly what is missing."
+    for step in range(8):
+        state, gaps, n = State(), 0, 0
+        for k in range(40):
+            data = 46 + (step * k + k // 3) % 50
+            a = client_sending(PRINTING, state, octets, marks, 4 * k, replace(client, data=[7] * data), FOUR_LANE)
+            state, n, gaps = a.state, n + 1, gaps + a.place - 4 * k - data - 26
+            assert a.refusal == 0 and 12 * n - 3 <= gaps <= 12 * n and state.deficit == 12 * n - gaps
+    # "Frames handed to a receiver still come out as demand 3 says."
+    line, marks_of_line, place, state = octets, marks, 0, State()
+    for r in (3, 2, 1):
+        a = client_sending(PRINTING, state, line, marks_of_line, place, replace(client, destination=PRINTING.own, data=[r] * (46 + r)), FOUR_LANE)
+        line, marks_of_line, place, state = a.octets, a.marks, a.place, a.state
+    assert [r.data for r in walk(PRINTING, State(), line[:place], marks_of_line[:place])] == [[3] * 49, [2] * 48, [1] * 47, []]
+
+
+try_four_lanes()

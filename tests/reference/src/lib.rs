@@ -1,4 +1,4 @@
-//! A reference implementation of document 01, with items 1 to 4 of document 02: the
+//! A reference implementation of document 01, with items 1 to 5 of document 02: the
 //! work of an Ethernet MAC on line symbols kept in memory.
 //!
 //! Written from those documents alone, to be compared with the proved program.
@@ -11,6 +11,7 @@ mod check;
 mod frame;
 mod line;
 mod log;
+mod port;
 mod print;
 mod receive;
 mod refusal;
@@ -20,6 +21,7 @@ mod settings;
 pub use check::{fcs, fcs_update, Check};
 pub use log::{append, append_reading, first_unused, record, used_in_front, walk_log};
 pub use log::{LogEnd, LogReader, Logged, Record};
+pub use port::Port;
 pub use print::print;
 pub use receive::{read, walk, Answer, Reading, Walked};
 pub use send::{fill_idle, send_client, send_pause, send_pfc, Client, Form, Sent, Tag, TagKind};

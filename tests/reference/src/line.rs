@@ -15,9 +15,6 @@ pub(crate) const TERMINATE: u8 = 0xFD;
 /// The seven data octets between Start and frame.
 pub(crate) const PREAMBLE: [u8; 7] = [0x55, 0x55, 0x55, 0x55, 0x55, 0x55, 0xD5];
 
-/// Idles that follow Terminate on sending.
-pub(crate) const GAP: usize = 11;
-
 /// Octets of the FCS.
 pub(crate) const FCS_LEN: usize = 4;
 

@@ -1,9 +1,11 @@
 //! "Refusals and their order". Each check gives its number as the error, so a
 //! call that makes its checks in their order, with `?` between them, gives the
-//! first: the order is that of the numbers, but 10 stands between 6 and 7.
+//! first: the order is that of the numbers, but 10 stands between 6 and 7, and
+//! 19 right behind 3.
 
 use crate::line::{is_tag, CONTROL_FIELD, FIRST_TYPE, LAST_LENGTH, MAX_SYMBOLS, MAX_TAGS};
 use crate::log::RECORD_LEN;
+use crate::port::Port;
 use crate::send::{Form, Tag};
 use crate::settings::{Flow, Settings, State};
 
@@ -27,6 +29,12 @@ pub(crate) fn line(octets: &[u8], marks: &[u8], place: usize) -> Checked {
     let differ = octets.len() != marks.len();
     refuse(2, differ || octets.len() > MAX_SYMBOLS)?;
     refuse(3, place > octets.len())
+}
+
+/// Refusals 3 and 19 that only a frame on the four-lane port can meet.
+pub(crate) fn port(port: Port, state: &State, place: usize) -> Checked {
+    refuse(3, !port.accepts(place))?;
+    refuse(19, !port.allows(state.deficit))
 }
 
 /// Refusal 4.

@@ -1,9 +1,11 @@
-//! "Sending"; tags by "Stacked tags", item 1 of document 02.
+//! "Sending"; tags by "Stacked tags", item 1 of document 02, and gaps by "The
+//! four-lane port", item 5.
 
 use crate::check::{fcs, Check};
-use crate::line::{CONTROL, CONTROL_FIELD, CUSTOMER_TAG, DATA, FCS_LEN, GAP, IDLE, MIN_DATA};
+use crate::line::{CONTROL, CONTROL_FIELD, CUSTOMER_TAG, DATA, FCS_LEN, IDLE, MIN_DATA};
 use crate::line::{PAUSE_OPCODE, PFC_OPCODE, PREAMBLE, RESERVED_GROUP, SERVICE_TAG, START};
 use crate::line::{TAG_LEN, TERMINATE};
+use crate::port::{Gap, Port};
 use crate::refusal;
 use crate::settings::{is_named, Flow, Settings, State};
 
@@ -87,6 +89,12 @@ impl Line<'_> {
         refusal::line(self.octets, self.marks, self.place)
     }
 
+    /// Refusals 2, 3 and 19 of a frame on this port.
+    fn check_frame(&self, state: &State, port: Port) -> refusal::Checked {
+        self.check()?;
+        refusal::port(port, state, self.place)
+    }
+
     /// Refusal 8.
     fn has_room(&self, symbols: usize) -> refusal::Checked {
         refusal::room(self.octets, self.place, symbols)
@@ -95,8 +103,6 @@ impl Line<'_> {
 
 /// Octets before the frame: Start and preamble.
 const OPENING: usize = 1 + PREAMBLE.len();
-/// Octets after the frame: Terminate and gap.
-const CLOSING: usize = 1 + GAP;
 /// Zeros to pad with.
 const ZEROS: [u8; MIN_DATA] = [0; MIN_DATA];
 
@@ -131,16 +137,21 @@ impl<'a> Outgoing<'a> {
         self.parts().map(<[u8]>::len).sum()
     }
 
-    /// Symbols from Start to the last Idle.
+    /// Symbols from Start to the last octet of the FCS.
     fn symbols(&self) -> usize {
-        OPENING + self.covered() + FCS_LEN + CLOSING
+        OPENING + self.covered() + FCS_LEN
     }
 
-    /// Writes the frame where room was found for it, and gives the place
-    /// after it.
-    fn write(&self, kind: Check, state: &mut State, line: Line) -> usize {
+    /// The gap behind it: its Terminate stands right behind the FCS.
+    fn gap(&self, state: &State, port: Port, line: &Line) -> Gap {
+        port.gap(line.place + self.symbols(), state.deficit)
+    }
+
+    /// Writes the frame and its gap where room was found for them, and gives
+    /// the place after them.
+    fn write(&self, kind: Check, state: &mut State, line: Line, gap: Gap) -> usize {
         let covered = self.covered();
-        let symbols = self.symbols();
+        let symbols = self.symbols() + gap.symbols;
         let after = line.place + symbols;
 
         let octets = &mut line.octets[line.place..after];
@@ -161,9 +172,10 @@ impl<'a> Outgoing<'a> {
         let marks = &mut line.marks[line.place..after];
         marks.fill(DATA);
         marks[0] = CONTROL;
-        marks[symbols - CLOSING..].fill(CONTROL);
+        marks[self.symbols()..].fill(CONTROL);
 
         state.pass(symbols);
+        state.deficit = gap.deficit;
         after
     }
 }
@@ -174,6 +186,7 @@ pub fn send_client(
     kind: Check,
     s: &Settings,
     state: &mut State,
+    port: Port,
     octets: &mut [u8],
     marks: &mut [u8],
     place: usize,
@@ -185,19 +198,20 @@ pub fn send_client(
         marks,
         place,
     };
-    client_frame(kind, s, state, line, client, data).into()
+    client_frame(kind, s, state, port, line, client, data).into()
 }
 
 fn client_frame(
     kind: Check,
     s: &Settings,
     state: &mut State,
+    port: Port,
     line: Line,
     client: &Client,
     data: &[u8],
 ) -> Result<usize, u8> {
     refusal::settings(s)?;
-    line.check()?;
+    line.check_frame(state, port)?;
     refusal::class(client.class)?;
     refusal::form(client.form)?;
     refusal::tags(&client.tags)?;
@@ -212,16 +226,19 @@ fn client_frame(
     let tags: Vec<u8> = client.tags.iter().flat_map(Tag::octets).collect();
     let frame = Outgoing::new(&client.dest, s, &tags, &field, data);
 
-    line.has_room(frame.symbols())?;
+    let gap = frame.gap(state, port, &line);
+    line.has_room(frame.symbols() + gap.symbols)?;
     refusal::timer(state, client.class)?;
-    Ok(frame.write(kind, state, line))
+    Ok(frame.write(kind, state, line, gap))
 }
 
 /// Sends a pause frame, whatever the timers are.
+#[allow(clippy::too_many_arguments)] // The shape is that of the compared call.
 pub fn send_pause(
     kind: Check,
     s: &Settings,
     state: &mut State,
+    port: Port,
     octets: &mut [u8],
     marks: &mut [u8],
     place: usize,
@@ -235,7 +252,7 @@ pub fn send_pause(
     let mut data = [0; 4];
     data[..2].copy_from_slice(&PAUSE_OPCODE.to_be_bytes());
     data[2..].copy_from_slice(&quanta.to_be_bytes());
-    control_frame(kind, s, state, line, Flow::Pause, &data).into()
+    control_frame(kind, s, state, port, line, Flow::Pause, &data).into()
 }
 
 /// Sends a PFC frame, whatever the timers are. Bit n of `named` names class
@@ -245,6 +262,7 @@ pub fn send_pfc(
     kind: Check,
     s: &Settings,
     state: &mut State,
+    port: Port,
     octets: &mut [u8],
     marks: &mut [u8],
     place: usize,
@@ -265,7 +283,7 @@ pub fn send_pfc(
             field.copy_from_slice(&quanta.to_be_bytes());
         }
     }
-    control_frame(kind, s, state, line, Flow::Pfc, &data).into()
+    control_frame(kind, s, state, port, line, Flow::Pfc, &data).into()
 }
 
 /// A control frame: both kinds have 46 octets of data, the rest of which is
@@ -274,17 +292,19 @@ fn control_frame(
     kind: Check,
     s: &Settings,
     state: &mut State,
+    port: Port,
     line: Line,
     asked: Flow,
     data: &[u8],
 ) -> Result<usize, u8> {
     refusal::settings(s)?;
-    line.check()?;
+    line.check_frame(state, port)?;
     refusal::flow(s, asked)?;
     let field = CONTROL_FIELD.to_be_bytes();
     let frame = Outgoing::new(&RESERVED_GROUP, s, &[], &field, data);
-    line.has_room(frame.symbols())?;
-    Ok(frame.write(kind, state, line))
+    let gap = frame.gap(state, port, &line);
+    line.has_room(frame.symbols() + gap.symbols)?;
+    Ok(frame.write(kind, state, line, gap))
 }
 
 /// Writes `n` Idles.

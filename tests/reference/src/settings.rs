@@ -94,6 +94,9 @@ pub struct State {
     pub counters: [u32; 11],
     /// One timer for each class, in slots.
     pub timers: [u32; 8],
+    /// The deficit count of the four-lane port. Any value can stand here;
+    /// refusal 19 tells the wrong ones.
+    pub deficit: u8,
 }
 
 /// Slots in a count of quanta: a quantum is 512 bit times, which is 64 slots.

@@ -1,8 +1,9 @@
 //! Calls whose general promises are checked each time: a refusal changes
-//! nothing, sending changes only what it wrote and lowers every timer.
+//! nothing, sending changes only what it wrote and lowers every timer, and only
+//! a frame on the four-lane port changes the deficit count.
 
 use reference::{fill_idle, read, send_client, send_pause, send_pfc, walk};
-use reference::{Answer, Check, Client, Reading, Sent, Settings, State, Walked};
+use reference::{Answer, Check, Client, Port, Reading, Sent, Settings, State, Walked};
 
 use crate::hand::{KINDS, PLAIN};
 
@@ -10,6 +11,8 @@ use crate::hand::{KINDS, PLAIN};
 pub struct Bench {
     pub s: Settings,
     pub state: State,
+    /// What frames are sent on.
+    pub port: Port,
     pub octets: Vec<u8>,
     pub marks: Vec<u8>,
     pub place: usize,
@@ -21,6 +24,7 @@ impl Bench {
         Bench {
             s: PLAIN,
             state: State::default(),
+            port: Port::Plain,
             octets: vec![0xA7; len],
             marks: vec![0xC9; len],
             place: 0,
@@ -57,29 +61,54 @@ impl Bench {
         sent
     }
 
+    /// The same for a frame: on the four-lane port it begins and ends at a
+    /// multiple of four, on the plain port it leaves the deficit count.
+    fn send_frame(&mut self, call: impl Fn(Check, &mut Bench) -> Sent) -> Sent {
+        let before = (self.place, self.state.deficit);
+        let sent = self.send(call);
+        if let Sent::Wrote(after) = sent {
+            match self.port {
+                Port::Plain => assert_eq!(self.state.deficit, before.1),
+                Port::FourLane => {
+                    assert_eq!((before.0 % 4, after % 4), (0, 0));
+                    assert!(before.1 < 4 && self.state.deficit < 4);
+                }
+            }
+        }
+        sent
+    }
+
     pub fn client(&mut self, client: &Client, data: &[u8]) -> Sent {
-        self.send(|kind, b| {
+        self.send_frame(|kind, b| {
             let (state, octets, marks) = (&mut b.state, &mut b.octets, &mut b.marks);
-            send_client(kind, &b.s, state, octets, marks, b.place, client, data)
+            send_client(
+                kind, &b.s, state, b.port, octets, marks, b.place, client, data,
+            )
         })
     }
 
     pub fn pause(&mut self, quanta: u16) -> Sent {
-        self.send(|kind, b| {
+        self.send_frame(|kind, b| {
             let (state, octets, marks) = (&mut b.state, &mut b.octets, &mut b.marks);
-            send_pause(kind, &b.s, state, octets, marks, b.place, quanta)
+            send_pause(kind, &b.s, state, b.port, octets, marks, b.place, quanta)
         })
     }
 
     pub fn pfc(&mut self, named: u8, quanta: &[u16; 8]) -> Sent {
-        self.send(|kind, b| {
+        self.send_frame(|kind, b| {
             let (state, octets, marks) = (&mut b.state, &mut b.octets, &mut b.marks);
-            send_pfc(kind, &b.s, state, octets, marks, b.place, named, quanta)
+            send_pfc(
+                kind, &b.s, state, b.port, octets, marks, b.place, named, quanta,
+            )
         })
     }
 
     pub fn idle(&mut self, n: usize) -> Sent {
-        self.send(|_, b| fill_idle(&mut b.state, &mut b.octets, &mut b.marks, b.place, n))
+        let deficit = self.state.deficit;
+        let sent =
+            self.send(|_, b| fill_idle(&mut b.state, &mut b.octets, &mut b.marks, b.place, n));
+        assert_eq!(self.state.deficit, deficit);
+        sent
     }
 
     pub fn read(&mut self) -> Reading {
@@ -87,6 +116,7 @@ impl Bench {
         let kind = Check::ByteTable;
         let (octets, marks) = (&self.octets, &self.marks);
         let reading = read(kind, &self.s, &mut self.state, octets, marks, self.place);
+        assert_eq!(self.state.deficit, before.deficit);
         if let Answer::Refused(_) = reading.answer {
             assert_eq!((reading.start, reading.next), (self.place, self.place));
             assert_eq!(self.state, before);
@@ -98,6 +128,7 @@ impl Bench {
         let before = self.state;
         let kind = Check::ByteTable;
         let walked = walk(kind, &self.s, &mut self.state, &self.octets, &self.marks);
+        assert_eq!(self.state.deficit, before.deficit);
         if let Walked::Refused(_) = walked {
             assert_eq!(self.state, before);
         }

@@ -1,6 +1,6 @@
 //! "Both sides of the limits", every entry.
 
-use reference::{send_client, Check, Client, Form, Sent, Settings, State};
+use reference::{send_client, Check, Client, Form, Port, Sent, Settings, State};
 
 use crate::hand::{frame, outcome, ramp, see, see_with, tags, Capture, Seen, KINDS};
 use crate::hand::{OTHER, OWN, PAUSE, PFC, PLAIN, RESERVED, START, TERMINATE};
@@ -18,6 +18,7 @@ fn symbols(data: usize, n: usize) -> usize {
         Check::ByteTable,
         &PLAIN,
         &mut State::default(),
+        Port::Plain,
         &mut octets,
         &mut marks,
         3,

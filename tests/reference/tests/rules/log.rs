@@ -563,6 +563,7 @@ fn a_reading_as_wide_as_its_record() {
 const BEFORE: State = State {
     counters: [u32::MAX; 11],
     timers: [5; 8],
+    deficit: 9,
 };
 
 fn ended(end: LogEnd, next: usize, appended: usize) -> Logged {

@@ -1,8 +1,9 @@
-//! The rules of document 01 and of items 1 to 4 of document 02, one module for each
+//! The rules of document 01 and of items 1 to 5 of document 02, one module for each
 //! part.
 
 mod bench;
 mod fcs;
+mod four_lanes;
 mod hand;
 mod limits;
 mod log;

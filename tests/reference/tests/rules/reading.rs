@@ -342,6 +342,7 @@ fn none_and_open_change_nothing() {
     let before = State {
         counters: [7; 11],
         timers: [9; 8],
+        deficit: 5,
     };
     let mut state = before;
     let none = Capture::new().data(&[START; 9]).control(IDLE);

@@ -1,7 +1,8 @@
 //! Any input: no panic, the three checks agree, the counters rise by the
 //! number of Starts, and a walk takes linear time.
 
-use reference::{print, read, walk, Answer, Check, Client, Flow, Form, Settings, State, Walked};
+use reference::Walked;
+use reference::{print, read, walk, Answer, Check, Client, Flow, Form, Port, Settings, State};
 
 use crate::bench::Bench;
 use crate::hand::{frame, ramp, tagged, tags, Capture, BROADCAST, KINDS, MULTICAST, OTHER, OWN};
@@ -134,6 +135,7 @@ fn captures_of_all_sorts() {
         let before = State {
             counters: [u32::MAX - 1; 11],
             timers: [5; 8],
+            deficit: 200,
         };
         check_walk(&s, &capture, before);
         // A single reading at any place.
@@ -165,7 +167,7 @@ fn captures_of_all_sorts() {
 #[test]
 fn calls_of_all_sorts() {
     let mut dice = Dice::new(2);
-    let mut answers = [0; 11];
+    let mut answers = [0; 20];
     for _ in 0..4_000 {
         let mut bench = Bench::new(dice.pick(&[0, 83, 84, 88, 200, 1_538, 1_700]));
         bench.s = dice.settings();
@@ -176,6 +178,8 @@ fn calls_of_all_sorts() {
         for timer in &mut bench.state.timers {
             *timer = dice.pick(&[0, 0, 1, 84, u32::MAX]);
         }
+        bench.port = dice.pick(&[Port::Plain, Port::FourLane]);
+        bench.state.deficit = dice.pick(&[0, 1, 2, 3, 3, 4, 255]);
         let client = Client {
             dest: dice.address(),
             tags: tags(dice.pick(&[0, 0, 0, 1, 2, 8, 9])),
@@ -188,7 +192,7 @@ fn calls_of_all_sorts() {
             ]),
             class: dice.pick(&[0, 1, 7, 7, 8, 255]),
         };
-        let data = ramp(dice.pick(&[0, 0, 45, 46, 1_500, 1_501, 70_000]));
+        let data = ramp(dice.pick(&[0, 0, 45, 46, 47, 48, 49, 1_500, 1_501, 70_000]));
         let n = dice.pick(&[0, 1, 84, 65_536, usize::MAX]);
         let sent = [
             bench.clone().client(&client, &data),
@@ -205,7 +209,12 @@ fn calls_of_all_sorts() {
         bench.read();
         bench.walk();
     }
-    assert!(answers.iter().all(|&count| count > 0), "{answers:?}");
+    let given = (0..=10).chain([19]);
+    assert!(
+        given.clone().all(|number| answers[number] > 0),
+        "{answers:?}"
+    );
+    assert_eq!(given.map(|number| answers[number]).sum::<u32>(), 4 * 4_000);
 }
 
 #[test]

@@ -1,15 +1,18 @@
 //! What is sent is read again, also behind damage (demand 3).
 
-use reference::{read, Answer, Check, Client, Flow, Form, Sent, Settings, State, Walked};
+use reference::{read, Answer, Check, Client, Flow, Form, Port, Sent, Settings, State, Walked};
 
 use crate::bench::Bench;
 use crate::hand::{frame, ramp, tags, MULTICAST, OTHER, OWN, PAUSE, PFC, PLAIN};
 use crate::robust::Dice;
 
+const PORTS: [Port; 2] = [Port::Plain, Port::FourLane];
+
 /// The sender has another address than the receiver.
-fn sender(len: usize) -> Bench {
+fn sender(len: usize, port: Port) -> Bench {
     let mut bench = Bench::new(len);
     bench.s.own = OTHER;
+    bench.port = port;
     bench
 }
 
@@ -76,7 +79,11 @@ fn handed_out(bench: &Bench, s: &Settings, from: usize) -> Vec<Vec<u8>> {
 
 #[test]
 fn clients_back_to_back() {
-    let mut bench = sender(65_536);
+    PORTS.into_iter().for_each(clients_on);
+}
+
+fn clients_on(port: Port) {
+    let mut bench = sender(65_536, port);
     let mut expected = Vec::new();
     for (client, data) in clients() {
         match bench.client(&client, &data) {
@@ -124,8 +131,12 @@ fn frames_behind_damage() {
     for len in 0..200 {
         damages.push((0..len).map(|_| dice.symbol()).collect());
     }
-    for damage in damages {
-        let mut bench = sender(damage.len() + 3 * 84 + 4 * (1 + 2 + 8));
+    for (mut damage, port) in damages.into_iter().zip(PORTS.into_iter().cycle()) {
+        // The four-lane port needs a place that it accepts.
+        while port == Port::FourLane && damage.len() % 4 != 0 {
+            damage.push(dice.symbol());
+        }
+        let mut bench = sender(damage.len() + 400, port);
         for (at, &(mark, octet)) in damage.iter().enumerate() {
             bench.marks[at] = mark;
             bench.octets[at] = octet;
@@ -143,18 +154,23 @@ fn frames_behind_damage() {
                 form,
                 class: 1,
             };
-            let data = ramp(30 + expected.len());
+            let data = ramp(30 + 17 * expected.len());
             assert!(matches!(bench.client(&client, &data), Sent::Wrote(_)));
             expected.push(received(&client, &data));
         }
-        assert_eq!(bench.place, bench.octets.len());
+        bench.octets.truncate(bench.place);
+        bench.marks.truncate(bench.place);
         assert_eq!(handed_out(&bench, &PLAIN, damage.len()), expected);
     }
 }
 
 #[test]
 fn pause_and_pfc_are_taken() {
-    let mut bench = sender(168);
+    PORTS.into_iter().for_each(controls_on);
+}
+
+fn controls_on(port: Port) {
+    let mut bench = sender(168, port);
     bench.s.flow = Flow::Pause;
     bench.pause(0xABCD);
     bench.s.flow = Flow::Pfc;
