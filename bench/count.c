@@ -1,8 +1,8 @@
 /*
- * The driver of tools/count_instructions: `count walk|keep|read|send OCTETS FRAMES` has that many untagged frames of that size walked in one call, walked and
- * kept in a log, read or sent one by one. They are good ones of a type, to the own address; of 0 octets they are Starts alone, each of which cuts the one
- * before it. All that is done beside is the same for any number of frames, so that the difference between two numbers is what the frames took. Exits with 1
- * if an answer is not as expected.
+ * The driver of tools/count_instructions: `count walk|keep|read|send|lanes OCTETS FRAMES` has that many untagged frames of that size walked in one call,
+ * walked and kept in a log, read or sent one by one, or sent so on the four-lane port. They are good ones of a type, to the own address; of 0 octets they
+ * are Starts alone, each of which cuts the one before it. All that is done beside is the same for any number of frames, so that the difference between two
+ * numbers is what the frames took. Exits with 1 if an answer is not as expected.
  */
 #include <stdio.h>
 #include <stdlib.h>
@@ -23,6 +23,7 @@ static uint8_t data[FENHAMPER_MOST_LENGTH];
 static uint8_t octets[LINE], marks[LINE];
 static fenhamper_record kept_records[LINE];
 static fenhamper_outcome outcome; /* of each frame */
+static uint8_t port;
 
 static void expect(int holds, const char *what) {
   if (holds) return;
@@ -50,7 +51,7 @@ static void set_up(void) {
 /* Writes a frame; gives the place after it. */
 static size_t send_one(size_t place, size_t length) {
   fenhamper_sent sent;
-  fenhamper_send_client(&settings, &state, octets, LINE, marks, LINE, place, &client, data, length, &sent);
+  fenhamper_send_client(&settings, &state, port, octets, LINE, marks, LINE, place, &client, data, length, &sent);
   expect(sent.refusal == 0, "a frame is refused");
   return sent.place;
 }
@@ -108,11 +109,11 @@ static void keep_frames(size_t frames, size_t symbols) {
 
 int main(int words, char **word) {
   size_t size, frames, frame, symbols;
-  expect(words == 4, "count walk|keep|read|send OCTETS FRAMES");
+  expect(words == 4, "count walk|keep|read|send|lanes OCTETS FRAMES");
   size = number(word[2]);
   frames = number(word[3]);
   expect(size == 0 || (size >= FENHAMPER_LEAST_FRAME && size <= BESIDE_DATA + sizeof data), "a frame has 64 to 1518 octets");
-  expect(size > 0 || *word[1] != 's', "a Start alone is not sent");
+  expect(size > 0 || (*word[1] != 's' && *word[1] != 'l'), "a Start alone is not sent");
   set_up();
   frame = size == 0 ? fill_with_starts() : fill_line(size - BESIDE_DATA);
   symbols = frames * frame + (size == 0); /* the last Start is open */
@@ -121,6 +122,8 @@ int main(int words, char **word) {
     case 'w': walk_frames(frames, symbols); break;
     case 'k': keep_frames(frames, symbols); break;
     case 'r': read_frames(frames); break;
+    case 'l': port = FENHAMPER_PORT_FOUR_LANE; /* and as the next */
+    /* fall through */
     case 's': send_frames(frames, size - BESIDE_DATA); break;
     default: expect(0, "no such call");
   }

@@ -46,13 +46,13 @@ extern "C" {
  * The layout of the records below, which is part of a symbol's name in the archive. An object that includes this
  * header needs that symbol, so that one compiled for another layout does not link.
  */
-#define FENHAMPER_LAYOUT 2
-uint32_t fenhamper_layout_2(void); /* gives FENHAMPER_LAYOUT */
+#define FENHAMPER_LAYOUT 3
+uint32_t fenhamper_layout_3(void); /* gives FENHAMPER_LAYOUT */
 #ifdef __has_attribute
 #if __has_attribute(retain)
-static uint32_t (*const fenhamper_layout)(void) __attribute__((used, retain)) = fenhamper_layout_2;
+static uint32_t (*const fenhamper_layout)(void) __attribute__((used, retain)) = fenhamper_layout_3;
 #elif __has_attribute(used)
-static uint32_t (*const fenhamper_layout)(void) __attribute__((used)) = fenhamper_layout_2;
+static uint32_t (*const fenhamper_layout)(void) __attribute__((used)) = fenhamper_layout_3;
 #endif
 #endif
 
@@ -72,7 +72,7 @@ static uint32_t (*const fenhamper_layout)(void) __attribute__((used)) = fenhampe
 #define FENHAMPER_OUTCOMES 11        /* 1 to 11, a counter each */
 #define FENHAMPER_RECORD_SIZE 16     /* octets of a record of a log */
 #define FENHAMPER_STACK_READ 1024    /* octets of stack that a call takes at most: fenhamper_read, fenhamper_log_.. */
-#define FENHAMPER_STACK_SEND 512     /* the sending calls and Idle fill */
+#define FENHAMPER_STACK_SEND 640     /* the sending calls and Idle fill */
 #define FENHAMPER_STACK_WALK 18432   /* fenhamper_walk and fenhamper_walk_log */
 
 /* ---- settings */
@@ -115,18 +115,20 @@ FENHAMPER_HOLDS(offsetof(fenhamper_settings, spare) == 38);
 
 /*
  * What a station keeps from call to call, read and written by every call that takes it. A fresh state is all zeros.
- * Of each counter and timer the low 32 bits are read, and the rest is written as 0. A refused call leaves the whole
- * record as it was, to the bit.
+ * Of each counter and timer the low 32 bits are read, and the rest is written as 0; the deficit count is read whole.
+ * A refused call leaves the whole record as it was, to the bit.
  */
 typedef struct fenhamper_state {
   uint64_t counters[FENHAMPER_OUTCOMES]; /* of outcomes 1 to 11: fenhamper_counter takes the outcome's number */
   uint64_t timers[FENHAMPER_CLASSES];    /* of classes 0 to 7, in slots */
-  uint64_t spare[5];                     /* not looked at, and written as 0 */
+  uint64_t deficit;                      /* what the four-lane port's gaps are short of 12 each; above 3: refusal 19 */
+  uint64_t spare[4];                     /* not looked at, and written as 0 */
 } fenhamper_state;
 FENHAMPER_HOLDS(sizeof(fenhamper_state) == 192);
 FENHAMPER_HOLDS(offsetof(fenhamper_state, counters) == 0);
 FENHAMPER_HOLDS(offsetof(fenhamper_state, timers) == 88);
-FENHAMPER_HOLDS(offsetof(fenhamper_state, spare) == 152);
+FENHAMPER_HOLDS(offsetof(fenhamper_state, deficit) == 152);
+FENHAMPER_HOLDS(offsetof(fenhamper_state, spare) == 160);
 
 /* ---- answers */
 
@@ -147,12 +149,12 @@ typedef enum fenhamper_outcome {
 
 /*
  * Why a call was refused: the first that holds, in the order of their numbers, but that 10 is tested after 6
- * and before 7. A refused call leaves the state, every symbol and the log.
+ * and before 7, and 19 right after 3. A refused call leaves the state, every symbol and the log.
  */
 typedef enum fenhamper_refusal {
   FENHAMPER_BAD_SETTINGS = 1, /* own address is a group, listed count above 4, or M out of range */
   FENHAMPER_BAD_BUFFERS = 2,  /* octets and marks differ in length, or exceed FENHAMPER_MOST_SYMBOLS */
-  FENHAMPER_BAD_PLACE = 3,    /* place beyond the buffers' length */
+  FENHAMPER_BAD_PLACE = 3,    /* place beyond the buffers' length; on the four-lane port also one not divisible by 4 */
   FENHAMPER_OTHER_FLOW = 4,   /* pause or PFC asked in another flow mode */
   FENHAMPER_BAD_CLASS = 5,    /* class above 7 */
   FENHAMPER_BAD_TYPE = 6,     /* type under 1536, or 0x8100, 0x8808 or 0x88A8 */
@@ -162,7 +164,8 @@ typedef enum fenhamper_refusal {
   FENHAMPER_MANY_TAGS = 10,   /* more than eight tags */
   FENHAMPER_BAD_LOG = 11,     /* length of a log no multiple of FENHAMPER_RECORD_SIZE */
   FENHAMPER_LOG_FULL = 12,    /* no unused record */
-  FENHAMPER_NOT_USED = 13     /* record number not used */
+  FENHAMPER_NOT_USED = 13,    /* record number not used */
+  FENHAMPER_HIGH_DEFICIT = 19 /* a frame on the four-lane port, and the deficit count is above 3 */
 } fenhamper_refusal;
 
 /* Whether a reading found a Start whose run ends inside the capture. */
@@ -270,6 +273,14 @@ FENHAMPER_HOLDS(sizeof(fenhamper_part) == 16);
 FENHAMPER_HOLDS(offsetof(fenhamper_part, place) == 0);
 FENHAMPER_HOLDS(offsetof(fenhamper_part, length) == 8);
 
+/* ---- ports */
+
+/*
+ * Where a frame goes. The four-lane port takes a Start only at places divisible by four, and its gaps are of 9 to 15
+ * symbols: 12 on average, by the deficit count in the state. A plain port takes one anywhere, and its gaps are of 12.
+ */
+typedef enum fenhamper_port { FENHAMPER_PORT_PLAIN = 0, FENHAMPER_PORT_FOUR_LANE = 1 } fenhamper_port;
+
 /* ---- client frames */
 
 /* What a frame's field is: the length of its data, or a type. */
@@ -347,19 +358,19 @@ uint32_t fenhamper_log_used(const uint8_t *log, size_t log_length, size_t *used)
  */
 void fenhamper_client_data(size_t octets_length, size_t place, size_t length, fenhamper_part *part);
 
-/* Write a client frame and its gap from `place` on. */
-void fenhamper_send_client(const fenhamper_settings *settings, fenhamper_state *state, uint8_t *octets,
+/* Write a client frame and its gap from `place` on. Here and below port 0 is PLAIN, anything else FOUR_LANE. */
+void fenhamper_send_client(const fenhamper_settings *settings, fenhamper_state *state, uint8_t port, uint8_t *octets,
                            size_t octets_length, uint8_t *marks, size_t marks_length, size_t place,
                            const fenhamper_client *client, const uint8_t *data, size_t data_length,
                            fenhamper_sent *sent);
 
 /* Write a pause frame and its gap from `place` on, whatever the timers say. */
-void fenhamper_send_pause(const fenhamper_settings *settings, fenhamper_state *state, uint8_t *octets,
+void fenhamper_send_pause(const fenhamper_settings *settings, fenhamper_state *state, uint8_t port, uint8_t *octets,
                           size_t octets_length, uint8_t *marks, size_t marks_length, size_t place, uint16_t quanta,
                           fenhamper_sent *sent);
 
 /* Write a PFC frame and its gap: bit n of `named` names class n; quanta of a class not named go out as zero. */
-void fenhamper_send_pfc(const fenhamper_settings *settings, fenhamper_state *state, uint8_t *octets,
+void fenhamper_send_pfc(const fenhamper_settings *settings, fenhamper_state *state, uint8_t port, uint8_t *octets,
                         size_t octets_length, uint8_t *marks, size_t marks_length, size_t place, uint8_t named,
                         const uint16_t quanta[FENHAMPER_CLASSES], fenhamper_sent *sent);
 
@@ -466,27 +477,31 @@ static inline fenhamper_kept fenhamper_capture_keep(const fenhamper_settings *se
 
 /* Here data of no octets may be null. */
 static inline fenhamper_sent fenhamper_line_client(const fenhamper_settings *settings, fenhamper_state *state,
-                                                   fenhamper_line line, size_t place, const fenhamper_client *client,
-                                                   const uint8_t *data, size_t data_length) {
+                                                   fenhamper_port port, fenhamper_line line, size_t place,
+                                                   const fenhamper_client *client, const uint8_t *data,
+                                                   size_t data_length) {
   fenhamper_sent sent;
   if (data_length == 0) data = client->destination.octets;
-  fenhamper_send_client(settings, state, line.octets, line.length, line.marks, line.length, place, client, data,
-                        data_length, &sent);
+  fenhamper_send_client(settings, state, (uint8_t)port, line.octets, line.length, line.marks, line.length, place,
+                        client, data, data_length, &sent);
   return sent;
 }
 
 static inline fenhamper_sent fenhamper_line_pause(const fenhamper_settings *settings, fenhamper_state *state,
-                                                  fenhamper_line line, size_t place, uint16_t quanta) {
+                                                  fenhamper_port port, fenhamper_line line, size_t place,
+                                                  uint16_t quanta) {
   fenhamper_sent sent;
-  fenhamper_send_pause(settings, state, line.octets, line.length, line.marks, line.length, place, quanta, &sent);
+  fenhamper_send_pause(settings, state, (uint8_t)port, line.octets, line.length, line.marks, line.length, place, quanta,
+                       &sent);
   return sent;
 }
 
 static inline fenhamper_sent fenhamper_line_pfc(const fenhamper_settings *settings, fenhamper_state *state,
-                                                fenhamper_line line, size_t place, uint8_t named,
+                                                fenhamper_port port, fenhamper_line line, size_t place, uint8_t named,
                                                 const uint16_t quanta[FENHAMPER_CLASSES]) {
   fenhamper_sent sent;
-  fenhamper_send_pfc(settings, state, line.octets, line.length, line.marks, line.length, place, named, quanta, &sent);
+  fenhamper_send_pfc(settings, state, (uint8_t)port, line.octets, line.length, line.marks, line.length, place, named,
+                     quanta, &sent);
   return sent;
 }
 
@@ -560,6 +575,7 @@ static inline const char *fenhamper_refusal_name(uint64_t refusal) {
     case FENHAMPER_BAD_LOG: return "bad log";
     case FENHAMPER_LOG_FULL: return "log full";
     case FENHAMPER_NOT_USED: return "not used";
+    case FENHAMPER_HIGH_DEFICIT: return "high deficit";
     default: return "none";
   }
 }

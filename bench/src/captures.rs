@@ -1,6 +1,6 @@
 //! The captures that are read, and the frames that are sent. All are made from a fixed seed: every
 //! run measures the same symbols.
-use reference::{send_client, Check, Client, Form, Sent, State};
+use reference::{send_client, Check, Client, Form, Port, Sent, State};
 
 use crate::rivals::{reference_settings, OWN};
 
@@ -230,6 +230,7 @@ fn back_to_back(random: &mut Random, limit: u16, sizes: &[usize]) -> Line {
             Check::ByteTable,
             &settings,
             &mut state,
+            Port::Plain,
             &mut octets,
             &mut marks,
             place,

@@ -17,7 +17,7 @@ use std::time::Duration;
 use baseline::Reader;
 use captures::{Kind, Line, FRAMES, HOSTILE, SYMBOLS};
 use measure::{agree, Effort, Rivals};
-use reference::Check;
+use reference::{Check, Port};
 use report::{placed, Cell, Growth, Report, Row};
 use rivals::{By, InC, Independent, IndependentSender, Job, Proved, ProvedSender};
 
@@ -29,6 +29,10 @@ bench/run [--markdown FILE] [--rounds N] [--turn MILLISECONDS]
 
 /// 128 shows what a call costs by itself.
 const SIZES: [usize; 8] = [128, 1024, 2048, 4096, 8192, 16_384, 32_768, 65_536];
+
+/// What reads and what sends, in the order of the table.
+const READINGS: [&str; 4] = ["walk", "walk_log", "read", "readings"];
+const SENDINGS: [(&str, Port); 2] = [("send", Port::Plain), ("send, four lanes", Port::FourLane)];
 
 struct Bench {
     effort: Effort,
@@ -97,10 +101,11 @@ impl Bench {
         rows
     }
 
-    // Sending frames of one kind.
-    fn sending(&self, kind: &Kind) -> Row {
+    // Sending frames of one kind on a port.
+    fn sending(&self, kind: &Kind, (call, port): (&'static str, Port)) -> Row {
         let (sizes, data) = (kind.sizes(SYMBOLS), captures::data());
         let job = Job {
+            port,
             limit: kind.limit,
             sizes: &sizes,
             data: &data,
@@ -113,7 +118,7 @@ impl Bench {
         agree(kind.name, &mut rivals);
         let rates = self.rates(captures::symbols(&sizes), &mut rivals);
         Row {
-            call: "send",
+            call,
             capture: kind.name,
             hostile: false,
             rates: [Some(rates[0]), Some(rates[1]), Some(rates[2]), None, None],
@@ -166,14 +171,16 @@ impl Bench {
             }
         }
         for kind in &FRAMES {
-            eprintln!("sending: {}", kind.name);
-            rows.push(self.sending(kind));
+            for on in SENDINGS {
+                eprintln!("{}: {}", on.0, kind.name);
+                rows.push(self.sending(kind, on));
+            }
         }
         for kind in &kinds {
             eprintln!("by size: {}", kind.name);
             growth.push(self.growth(kind));
         }
-        let order = ["walk", "walk_log", "read", "readings", "send"];
+        let order = [&READINGS[..], &SENDINGS.map(|(call, _)| call)].concat();
         rows.sort_by_key(|row| order.iter().position(|call| *call == row.call));
         Report {
             machine,

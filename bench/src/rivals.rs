@@ -3,7 +3,7 @@ use std::hint::black_box;
 
 use fenhamper::limits::RECORD_SIZE;
 use fenhamper::{Address, Capture, End, Frame, Log, Reading, Sender, Settings, State};
-use reference::{Answer, Check, Client, Form, Sent, Walked};
+use reference::{Answer, Check, Client, Form, Port, Sent, Walked};
 
 use crate::baseline::Reader;
 use crate::captures::{data_length, Line, TYPE};
@@ -28,7 +28,7 @@ pub trait Rival {
 /// added up; of a sending the place after it.
 #[derive(Clone, Copy, Debug, Default, PartialEq, Eq)]
 pub struct Tally {
-    count: usize,
+    pub count: usize,
     open: bool,
     octets: usize,
     status: u64,
@@ -285,17 +285,19 @@ fn symbols(line: &Line) -> Vec<u32> {
         .collect()
 }
 
-/// What is sent: frames of these sizes, each with the first octets of `data`.
+/// What is sent: frames of these sizes, each with the first octets of `data`, on a port.
 #[derive(Clone, Copy)]
 pub struct Job<'a> {
+    pub port: Port,
     pub limit: u16,
     pub sizes: &'a [usize],
     pub data: &'a [u8],
 }
 
-// Buffers that hold what no sender writes.
+// Buffers that hold what no sender writes. Gaps of the four-lane port together have up to as many
+// symbols more than 12 each as the count is that a run before left.
 fn blank(job: Job) -> Line {
-    let size = crate::captures::symbols(job.sizes);
+    let size = crate::captures::symbols(job.sizes) + 3;
     Line {
         octets: vec![0xA7; size],
         marks: vec![0xC9; size],
@@ -325,7 +327,11 @@ impl Rival for ProvedSender<'_> {
     fn run(&mut self) -> Tally {
         let frame = Frame::to(Address(OWN)).by_type(TYPE);
         let line = black_box(&mut self.line);
-        let mut sender = Sender::new(&mut line.octets, &mut line.marks);
+        let port = match self.job.port {
+            Port::Plain => fenhamper::Port::Plain,
+            Port::FourLane => fenhamper::Port::FourLane,
+        };
+        let mut sender = Sender::new(&mut line.octets, &mut line.marks).on(port);
         for &size in self.job.sizes {
             let data = &self.job.data[..data_length(size)];
             // a refused one leaves the place, and the comparison shows it
@@ -378,6 +384,7 @@ impl Rival for IndependentSender<'_> {
                 self.check,
                 &self.settings,
                 &mut self.state,
+                self.job.port,
                 &mut line.octets,
                 &mut line.marks,
                 place,

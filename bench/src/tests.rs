@@ -1,11 +1,12 @@
 //! That the rivals do the same job: frames of every kind, good and damaged, with the same counters.
-use reference::{Check, State};
+use reference::{Check, Port, State};
 
 use crate::baseline::Reader;
-use crate::captures::{Kind, Line, Random, FRAMES, HOSTILE};
+use crate::captures::{data, symbols, Kind, Line, Random, FRAMES, HOSTILE};
 use crate::measure::{agree, Rivals};
 use crate::report::placed;
-use crate::rivals::{reference_settings, By, InC, Independent, Proved, Rival, OWN};
+use crate::rivals::{reference_settings, By, InC, Independent, IndependentSender, Job};
+use crate::rivals::{Proved, ProvedSender, Rival, OWN};
 
 const LIMIT: u16 = 1518;
 
@@ -139,6 +140,34 @@ fn all_readers_count_the_same() {
             "outcome {}",
             index + 1
         );
+    }
+}
+
+// On both ports, and run after run: what a run before left does not refuse a frame.
+#[test]
+fn all_senders_write_the_same() {
+    let mut odd = Random::new(3);
+    let odd: Vec<_> = (0..300).map(|_| 64 + odd.below(100)).collect();
+    let all = FRAMES.iter().map(|kind| kind.sizes(65_536)).chain([odd]);
+    for (sizes, data) in all.zip(std::iter::repeat(data())) {
+        for port in [Port::Plain, Port::FourLane] {
+            let job = Job {
+                port,
+                limit: 9618,
+                sizes: &sizes,
+                data: &data,
+            };
+            let mut senders: Rivals = vec![
+                Box::new(ProvedSender::new(job)),
+                Box::new(IndependentSender::new(Check::Slicing16, job)),
+            ];
+            for _ in 0..4 {
+                agree("senders", &mut senders);
+                let ends = senders.iter_mut().map(|sender| sender.run().count);
+                let most = symbols(&sizes);
+                assert!(ends.into_iter().all(|end| end.abs_diff(most) <= 3));
+            }
+        }
     }
 }
 

@@ -56,7 +56,8 @@ static size_t send_three_frames(fenhamper_line line) {
   fenhamper_fresh_state(&state);
   for (i = 0; i < FRAMES; i++) {
     fenhamper_client client = header_of(i);
-    fenhamper_sent sent = fenhamper_line_client(&settings, &state, line, place, &client, (const uint8_t *)frames[i].data, frames[i].length);
+    fenhamper_sent sent = fenhamper_line_client(&settings, &state, FENHAMPER_PORT_PLAIN, line, place, &client, (const uint8_t *)frames[i].data,
+                                                frames[i].length);
     expect(sent.refusal == 0, fenhamper_refusal_name(sent.refusal));
     printf("sent %u octets in symbols %u to %u\n", (unsigned)frames[i].length, (unsigned)place, (unsigned)sent.place - 1);
     expect(place == frames[i].start, "a frame went to another place");

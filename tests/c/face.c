@@ -54,7 +54,7 @@ static void types_and_tags_go_out_high_octet_first(void) {
   fenhamper_set_type(&client, 0x86DD);
   fenhamper_add_tag(&client, FENHAMPER_TAG_SERVICE, 0x1234);
   fenhamper_add_tag(&client, FENHAMPER_TAG_CUSTOMER, 7 << 13 | 5);
-  sent = fenhamper_line_client(&s, &state, line, 3, &client, (const uint8_t *)"data", 4);
+  sent = fenhamper_line_client(&s, &state, FENHAMPER_PORT_PLAIN, line, 3, &client, (const uint8_t *)"data", 4);
   CHECK(sent.refusal == 0 && sent.place == 3 + 92);
   CHECK(memcmp(octets + 3 + 8, other.octets, 6) == 0);
   CHECK(memcmp(octets + 3 + 14, own.octets, 6) == 0);
@@ -67,7 +67,7 @@ static void a_ninth_tag_is_refused(void) {
   fenhamper_line line = fresh_line();
   unsigned n;
   for (n = 0; n <= 300; n++) {
-    fenhamper_sent sent = fenhamper_line_client(&s, &state, line, 0, &client, NULL, 0);
+    fenhamper_sent sent = fenhamper_line_client(&s, &state, FENHAMPER_PORT_PLAIN, line, 0, &client, NULL, 0);
     CHECK(sent.refusal == (n > FENHAMPER_MOST_TAGS ? FENHAMPER_MANY_TAGS : 0));
     CHECK(sent.place == (n > FENHAMPER_MOST_TAGS ? 0 : 84 + 4 * n));
     fenhamper_add_tag(&client, FENHAMPER_TAG_CUSTOMER, 5);
@@ -88,12 +88,12 @@ static void lines_are_the_archives(void) {
   fenhamper_capture capture;
   fenhamper_fresh_state(&theirs);
   s.flow = FENHAMPER_FLOW_PAUSE;
-  sent = fenhamper_line_pause(&s, &state, line, 5, 0x1234);
-  fenhamper_send_pause(&s, &theirs, o, LINE, m, LINE, 5, 0x1234, &archives);
+  sent = fenhamper_line_pause(&s, &state, FENHAMPER_PORT_PLAIN, line, 5, 0x1234);
+  fenhamper_send_pause(&s, &theirs, FENHAMPER_PORT_PLAIN, o, LINE, m, LINE, 5, 0x1234, &archives);
   CHECK(sent.refusal == 0 && memcmp(&sent, &archives, sizeof sent) == 0);
   s.flow = FENHAMPER_FLOW_PFC;
-  sent = fenhamper_line_pfc(&s, &state, line, 100, 0x81, quanta);
-  fenhamper_send_pfc(&s, &theirs, o, LINE, m, LINE, 100, 0x81, quanta, &archives);
+  sent = fenhamper_line_pfc(&s, &state, FENHAMPER_PORT_PLAIN, line, 100, 0x81, quanta);
+  fenhamper_send_pfc(&s, &theirs, FENHAMPER_PORT_PLAIN, o, LINE, m, LINE, 100, 0x81, quanta, &archives);
   CHECK(sent.refusal == 0 && memcmp(&sent, &archives, sizeof sent) == 0);
   sent = fenhamper_line_idle(&state, line, 200, 9);
   fenhamper_fill_idle(&theirs, o, LINE, m, LINE, 200, 9, &archives);
@@ -125,7 +125,7 @@ static void a_reading_says_whose_frame_it_is(void) {
   fenhamper_capture capture;
   fenhamper_reading r;
   s.own = own;
-  CHECK(fenhamper_line_client(&s, &state, line, 10, &client, (const uint8_t *)"data", 4).refusal == 0);
+  CHECK(fenhamper_line_client(&s, &state, FENHAMPER_PORT_PLAIN, line, 10, &client, (const uint8_t *)"data", 4).refusal == 0);
   s.own = other;
   capture = fenhamper_captured(line, 94);
   r = fenhamper_capture_read(&s, &state, capture, 0);
@@ -161,10 +161,12 @@ static void a_refused_call_leaves_all(void) {
   memset(&worn, 0xFF, sizeof worn);
   memset(&state, 0xFF, sizeof state);
   CHECK(fenhamper_capture_read(&s, &state, fenhamper_captured(line, 9), 10).refusal == FENHAMPER_BAD_PLACE);
-  CHECK(fenhamper_line_client(&s, &state, line, 0, &client, NULL, 0).refusal == FENHAMPER_HELD);
-  CHECK(fenhamper_line_pause(&s, &state, line, 0, 1).refusal == FENHAMPER_OTHER_FLOW);
-  CHECK(fenhamper_line_pfc(&s, &state, line, 0, 1, quanta).refusal == FENHAMPER_OTHER_FLOW);
+  CHECK(fenhamper_line_client(&s, &state, FENHAMPER_PORT_PLAIN, line, 0, &client, NULL, 0).refusal == FENHAMPER_HELD);
+  CHECK(fenhamper_line_pause(&s, &state, FENHAMPER_PORT_PLAIN, line, 0, 1).refusal == FENHAMPER_OTHER_FLOW);
+  CHECK(fenhamper_line_pfc(&s, &state, FENHAMPER_PORT_PLAIN, line, 0, 1, quanta).refusal == FENHAMPER_OTHER_FLOW);
   CHECK(fenhamper_line_idle(&state, none, 0, 1).refusal == FENHAMPER_NO_ROOM);
+  CHECK(fenhamper_line_client(&s, &state, FENHAMPER_PORT_FOUR_LANE, line, 0, &client, NULL, 0).refusal == FENHAMPER_HIGH_DEFICIT);
+  CHECK(fenhamper_line_pause(&s, &state, FENHAMPER_PORT_FOUR_LANE, line, 2, 1).refusal == FENHAMPER_BAD_PLACE);
   s.limit = 0;
   CHECK(fenhamper_capture_walk(&s, &state, fenhamper_captured(line, 9)).refusal == FENHAMPER_BAD_SETTINGS);
   CHECK(memcmp(&state, &worn, sizeof state) == 0);
@@ -191,6 +193,110 @@ static void a_part_is_kept_inside(void) {
   CHECK(part.place == 4 && part.length == 6);
   fenhamper_client_data(10, 4, 7, &part);
   CHECK(part.place == 0 && part.length == 0);
+}
+
+/* ---- the four-lane port */
+
+/* Sends a client frame of 64 octets and r more on the four-lane port; `place` moves on unless it is refused. */
+static fenhamper_sent four_lanes(fenhamper_line line, size_t *place, size_t r) {
+  static const uint8_t data[49] = {0};
+  fenhamper_settings s = fenhamper_settings_for(own);
+  fenhamper_client client = fenhamper_client_to(other);
+  fenhamper_sent sent = fenhamper_line_client(&s, &state, FENHAMPER_PORT_FOUR_LANE, line, *place, &client, data, 46 + r);
+  *place = (size_t)sent.place;
+  return sent;
+}
+
+/* Frames of 64 to 67 octets from place 0 on: every Start at a multiple of four, and gaps by the count. */
+static void gaps_are_twelve_on_average(void) {
+  static const size_t gaps[] = {12, 11, 10, 13}, counts[] = {0, 1, 3, 2};
+  static uint8_t long_octets[400], long_marks[400];
+  fenhamper_line line = fresh_line();
+  size_t place = 0, sum = 0, r, i;
+  line.octets = long_octets;
+  line.marks = long_marks;
+  line.length = sizeof long_octets;
+  for (r = 0; r < 4; r++) {
+    size_t from = place, end = from + 72 + r;
+    CHECK(four_lanes(line, &place, r).refusal == 0 && place == end + gaps[r] && place % 4 == 0 && state.deficit == counts[r]);
+    CHECK(line.octets[from] == 0xFB && line.octets[end] == 0xFD && line.marks[end - 1] == 0);
+    for (i = end; i < place; i++) CHECK(line.marks[i] == 1 && (i == end || line.octets[i] == 0x07));
+    sum += gaps[r];
+    CHECK(sum + state.deficit == 12 * (r + 1));
+  }
+}
+
+/* Every count with every r, with room for the gap and with one symbol less; timers fall by the symbols written. */
+static void gaps_go_by_count_and_r(void) {
+  static const unsigned gaps[4][4] = {{12, 11, 10, 9}, {12, 11, 10, 13}, {12, 11, 14, 13}, {12, 15, 14, 13}};
+  size_t count, r;
+  for (count = 0; count < 4; count++) {
+    for (r = 0; r < 4; r++) {
+      fenhamper_line line = fresh_line();
+      size_t place = 8, needed = 72 + r + gaps[count][r];
+      state.deficit = count;
+      state.timers[1] = 72 + r + 13;
+      line.length = place + needed - 1;
+      CHECK(four_lanes(line, &place, r).refusal == FENHAMPER_NO_ROOM && place == 8 && state.deficit == count && octets[8] == 0);
+      line.length++;
+      CHECK(four_lanes(line, &place, r).refusal == 0 && place == 8 + needed);
+      CHECK(state.deficit == 12 + count - gaps[count][r]);
+      CHECK(state.timers[1] == (gaps[count][r] > 13 ? 0 : 13 - gaps[count][r]));
+    }
+  }
+}
+
+/* 3 for a place that is not divisible by four, then 19 for a count above 3, any bits of which count, then 4 and 5. */
+static void a_count_above_three_is_refused(void) {
+  static const uint64_t counts[] = {4, 5, 255, 256, 259, UINT64_C(1) << 32, UINT64_C(3) << 32, UINT64_C(1) << 63, UINT64_MAX};
+  static const uint16_t quanta[FENHAMPER_CLASSES] = {0};
+  fenhamper_settings s = fenhamper_settings_for(own);
+  fenhamper_client client = fenhamper_client_to(other);
+  size_t i, place;
+  client.traffic_class = 8;
+  for (i = 0; i < sizeof counts / sizeof *counts; i++) {
+    fenhamper_line line = fresh_line();
+    fenhamper_state before;
+    state.deficit = counts[i];
+    before = state;
+    for (place = 0; place <= LINE + 4; place++) {
+      uint64_t refusal = place % 4 != 0 || place > LINE ? FENHAMPER_BAD_PLACE : FENHAMPER_HIGH_DEFICIT;
+      CHECK(fenhamper_line_client(&s, &state, FENHAMPER_PORT_FOUR_LANE, line, place, &client, NULL, 0).refusal == refusal);
+      CHECK(fenhamper_line_pause(&s, &state, FENHAMPER_PORT_FOUR_LANE, line, place, 1).refusal == refusal);
+      CHECK(fenhamper_line_pfc(&s, &state, FENHAMPER_PORT_FOUR_LANE, line, place, 1, quanta).refusal == refusal);
+    }
+    CHECK(memcmp(&state, &before, sizeof state) == 0 && octets[0] == 0);
+    /* neither the plain port nor Idle fill nor a reading looks at it, at any place */
+    client.traffic_class = 0;
+    CHECK(fenhamper_line_client(&s, &state, FENHAMPER_PORT_PLAIN, line, 1, &client, NULL, 0).place == 85);
+    CHECK(fenhamper_line_idle(&state, line, 85, 2).place == 87);
+    CHECK(fenhamper_capture_walk(&s, &state, fenhamper_captured(line, 87)).starts == 1);
+    CHECK(state.deficit == counts[i]);
+    client.traffic_class = 8;
+  }
+  CHECK(strcmp(fenhamper_refusal_name(FENHAMPER_HIGH_DEFICIT), "high deficit") == 0);
+}
+
+/* Pause and PFC frames go by the same gaps: theirs is 12 at any count. Of a port only whether it is 0 matters. */
+static void control_frames_obey_the_port(void) {
+  static const uint16_t quanta[FENHAMPER_CLASSES] = {0};
+  fenhamper_settings s = fenhamper_settings_for(own);
+  unsigned port, count;
+  for (count = 0; count < 4; count++) {
+    fenhamper_line line = fresh_line();
+    state.deficit = count;
+    s.flow = FENHAMPER_FLOW_PAUSE;
+    CHECK(fenhamper_line_pause(&s, &state, FENHAMPER_PORT_FOUR_LANE, line, 4, 1).place == 88 && state.deficit == count);
+    s.flow = FENHAMPER_FLOW_PFC;
+    CHECK(fenhamper_line_pfc(&s, &state, FENHAMPER_PORT_FOUR_LANE, line, 88, 1, quanta).place == 172 && state.deficit == count);
+    CHECK(octets[76] == 0xFD && octets[88] == 0xFB && octets[160] == 0xFD);
+  }
+  for (port = 0; port < 256; port++) {
+    fenhamper_sent sent;
+    fresh_line();
+    fenhamper_send_pfc(&s, &state, (uint8_t)port, octets, LINE, marks, LINE, 1, 1, quanta, &sent);
+    CHECK(sent.refusal == (port == 0 ? 0 : FENHAMPER_BAD_PLACE));
+  }
 }
 
 /* ---- the log */
@@ -312,8 +418,8 @@ static fenhamper_capture traffic(void) {
   fenhamper_settings s = fenhamper_settings_for(other);
   fenhamper_client client = fenhamper_client_to(own);
   fenhamper_line line = fresh_line();
-  fenhamper_sent sent = fenhamper_line_client(&s, &state, line, 3, &client, (const uint8_t *)"data", 4);
-  CHECK(fenhamper_line_client(&s, &state, line, 87, &client, (const uint8_t *)"data", 4).place == 171 && sent.place == 87);
+  fenhamper_sent sent = fenhamper_line_client(&s, &state, FENHAMPER_PORT_PLAIN, line, 3, &client, (const uint8_t *)"data", 4);
+  CHECK(fenhamper_line_client(&s, &state, FENHAMPER_PORT_PLAIN, line, 87, &client, (const uint8_t *)"data", 4).place == 171 && sent.place == 87);
   octets[120] ^= 1;
   CHECK(fenhamper_line_idle(&state, line, 171, 89).place == 260);
   octets[200] = octets[201] = octets[260] = 0xFB;
@@ -434,7 +540,7 @@ static void a_walk_with_a_log_is_refused_in_order(void) {
 }
 
 int main(void) {
-  CHECK(fenhamper_layout_2() == FENHAMPER_LAYOUT);
+  CHECK(fenhamper_layout_3() == FENHAMPER_LAYOUT);
   settings_are_the_printing_programs();
   types_and_tags_go_out_high_octet_first();
   a_ninth_tag_is_refused();
@@ -445,6 +551,10 @@ int main(void) {
   counters_go_by_the_outcome();
   every_number_has_a_name();
   a_part_is_kept_inside();
+  gaps_are_twelve_on_average();
+  gaps_go_by_count_and_r();
+  a_count_above_three_is_refused();
+  control_frames_obey_the_port();
   a_record_stands_low_octet_first();
   appending_takes_the_first_unused_one();
   outcome_0_is_not_appended();

@@ -24,6 +24,7 @@ static fenhamper_client client;
 static uint16_t quanta[FENHAMPER_CLASSES];
 static size_t symbols;
 static fenhamper_record logged[2000];
+static uint8_t port;
 
 static void run(void) { what(); }
 
@@ -100,19 +101,19 @@ static void log_used(void) {
 
 static void send_client(void) {
   fenhamper_sent sent;
-  fenhamper_send_client(&settings, &state, octets, symbols, marks, symbols, 0, &client, data, sizeof data, &sent);
+  fenhamper_send_client(&settings, &state, port, octets, symbols, marks, symbols, 0, &client, data, sizeof data, &sent);
 }
 
 static void send_pause(void) {
   fenhamper_sent sent;
   settings.flow = FENHAMPER_FLOW_PAUSE;
-  fenhamper_send_pause(&settings, &state, octets, symbols, marks, symbols, 0, 5, &sent);
+  fenhamper_send_pause(&settings, &state, port, octets, symbols, marks, symbols, 0, 5, &sent);
 }
 
 static void send_pfc(void) {
   fenhamper_sent sent;
   settings.flow = FENHAMPER_FLOW_PFC;
-  fenhamper_send_pfc(&settings, &state, octets, symbols, marks, symbols, 0, 0x81, quanta, &sent);
+  fenhamper_send_pfc(&settings, &state, port, octets, symbols, marks, symbols, 0, 0x81, quanta, &sent);
 }
 
 static void fill_idle(void) {
@@ -138,7 +139,7 @@ int main(void) {
   for (i = 0; i < 8; i++) fenhamper_add_tag(&client, FENHAMPER_TAG_CUSTOMER, (uint16_t)i);
   /* a capture of frames, each with eight tags */
   for (sent.place = 0, sent.refusal = 0; sent.refusal == 0;)
-    fenhamper_send_client(&settings, &state, octets, symbols, marks, symbols, (size_t)sent.place, &client, data, 100, &sent);
+    fenhamper_send_client(&settings, &state, port, octets, symbols, marks, symbols, (size_t)sent.place, &client, data, 100, &sent);
   hold("read", read_one, FENHAMPER_STACK_READ);
   hold("walk, under 8,192 symbols", walk_short, FENHAMPER_STACK_WALK);
   hold("walk", walk_long, FENHAMPER_STACK_WALK);
@@ -152,6 +153,10 @@ int main(void) {
   hold("send_client", send_client, FENHAMPER_STACK_SEND);
   hold("send_pause", send_pause, FENHAMPER_STACK_SEND);
   hold("send_pfc", send_pfc, FENHAMPER_STACK_SEND);
+  port = FENHAMPER_PORT_FOUR_LANE;
+  hold("send_client, four lanes", send_client, FENHAMPER_STACK_SEND);
+  hold("send_pause, four lanes", send_pause, FENHAMPER_STACK_SEND);
+  hold("send_pfc, four lanes", send_pfc, FENHAMPER_STACK_SEND);
   hold("fill_idle", fill_idle, FENHAMPER_STACK_SEND);
   return over;
 }

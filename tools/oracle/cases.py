@@ -10,8 +10,8 @@ from typing import Any, List
 
 sys.dont_write_bytecode = True  # nothing is written into the repository
 import model
-from model import (BROADCAST, CONTROL, CUSTOMER, ERROR, IDLE, MOST_TAGS, PREAMBLE, RESERVED_GROUP, START, TAG_KINDS, TERMINATE, Client,
-                   Settings, State, high_first)
+from model import (BROADCAST, CONTROL, CUSTOMER, ERROR, IDLE, MOST_TAGS, PREAMBLE, RESERVED_GROUP, START, TAG_KINDS, TERMINATE, Client, LogReader,
+                   Record, Settings, State, high_first)
 
 KINDS = {"refused": 0, "none": 1, "open": 2, "counted": 3}
 
@@ -37,13 +37,14 @@ PUBLISHED = [
 
 @dataclass
 class Case:
-    call: str  # reading, walk, client, pause, pfc, idle, fcs
+    call: str  # reading, walk, client, pause, pfc, idle, fcs; of a log append, look, keep
     settings: Any = None
     state: Any = None
     octets: Any = None
     marks: Any = None
     place: int = 0
-    asked: Any = None  # a Client; quanta; (named, quanta); a number of Idles; the octets under a check and the published value
+    asked: Any = None  # a Client; quanta; (named, quanta); a number of Idles; the octets under a check and the published value; a Record; its number
+    log: Any = None
 
     def __post_init__(self):
         self.answer, self.hits = ANSWERS[self.call](self)
@@ -184,6 +185,54 @@ def answer_fcs(c):
     return [published] + list(published.to_bytes(4, "little")), {"fcs: published value"}
 
 
+def record_numbers(r):
+    return list(r or Record(0, 0, 0, 0, 0))
+
+
+def room_said(log):
+    """What a log has: how many records, and how many of them are unused."""
+    return f"{len(model.unused_numbers(log))} unused of {len(model.log_records(log))}"
+
+
+def answer_append(c):
+    a = model.appending(c.log, c.asked)
+    what = "a record" if c.asked.used() else "outcome 0"
+    hits = {f"append: {what}, {f'refused {a.refusal}' if a.refusal else 'not written' if a.number is None else 'written'}"}
+    if a.refusal != 11:
+        hits.add(f"append: {what}, {room_said(c.log)}")
+    if a.number is not None and any(r.used() for r in model.log_records(c.log)[a.number + 1:]):
+        hits.add("append: into a hole")
+    return [a.refusal] + a.log, hits
+
+
+def answer_look(c):
+    """Record, next record, used records and first unused record of a log at a record number."""
+    refusal, r = model.record_at(c.log, c.asked)
+    next_refusal, handed, reader = model.handing_out(LogReader(c.log, c.asked))
+    used, unused = model.used_in_front(c.log), model.first_unused(c.log)
+    numbers = [refusal] + record_numbers(r) + [reader.place, next_refusal] + record_numbers(handed) + [n or 0 for n in used + unused]
+    hits = {f"look: record {f'refused {refusal}' if refusal else 'read'}", f"look: first unused {f'refused {unused[0]}' if unused[0] else 'found'}"}
+    if not refusal and unused[1] is not None and unused[1] < c.asked:
+        hits.add("look: a used record behind an unused one")
+    if refusal == 13:
+        hits.add(f"look: {'an unused record' if c.asked < len(model.log_records(c.log)) else 'beyond the log'}")
+    return numbers, hits
+
+
+def answer_keep(c):
+    w = model.logged_walk(c.settings, c.state, c.octets, c.marks, c.place, c.log)
+    hits = {f"keep: {f'refused {w.refusal}' if w.refusal else f'ends {w.end}'}"}
+    tests = [(1, model.bad_settings(c.settings)), (2, model.bad_buffers(c.octets, c.marks)), (3, c.place > len(c.octets)), (11, model.bad_log(c.log))]
+    hits |= {x for x in refusal_hits("keep", tests) if "before" in x}
+    if not w.refusal:
+        hits.add(f"keep: {min(w.appended, 2)}{'+' if w.appended > 1 else ''} kept, ends {w.end}")
+        hits.add(f"keep: ends {w.end}, {'a record' if model.unused_numbers(w.log) else 'no record'} left")
+        hits |= {f"keep: outcome {r.outcome} kept" for r in model.log_records(w.log) if r not in model.log_records(c.log)}
+        if w.appended and model.unused_numbers(c.log) != list(range(len(model.log_records(c.log)))):
+            hits.add("keep: used records stay")
+    return [{"refused": 0, "none": 1, "open": 2, "full": 3}[w.end], w.refusal, w.next, w.appended] + state_numbers(w.state) + w.log, hits
+
+
 def reading_hits(c, r):
     s = c.settings
     n = r.refusal or r.outcome
@@ -284,7 +333,7 @@ def tag_hits(f, status):
 
 
 ANSWERS = {"reading": answer_reading, "walk": answer_walk, "client": answer_client, "pause": answer_pause, "pfc": answer_pfc, "idle": answer_idle,
-           "fcs": answer_fcs}
+           "fcs": answer_fcs, "append": answer_append, "look": answer_look, "keep": answer_keep}
 
 # ---- Drawing
 
@@ -406,8 +455,8 @@ def make_reading(r, given):
     return Case("reading", s, state, octets, marks, place)
 
 
-def make_walk(r, given):
-    """A capture of several short stretches, at most one or two of them whole frames."""
+def some_walk(r, given):
+    """Settings, state and a capture of several short stretches, at most one or two of them whole frames."""
     s = some_settings(r, **given.get("settings", {}))
     octets, marks = noise(r, r.randrange(3))
     for part in given["parts"]:
@@ -432,7 +481,11 @@ def make_walk(r, given):
         octets, marks = octets + o, marks + m
     if given.get("unequal"):
         marks = marks[:-1]
-    return Case("walk", s, some_state(r) if r.random() < 0.6 else State(), octets, marks)
+    return s, some_state(r) if r.random() < 0.6 else State(), octets, marks
+
+
+def make_walk(r, given):
+    return Case("walk", *some_walk(r, given))
 
 
 def buffers(r, n):
@@ -499,6 +552,32 @@ def make_idle(r, given):
     n = given.get("asked", r.choice([0, 1, 7, 64]))
     octets, marks, place = room_for(r, n, given)
     return Case("idle", None, state_for(r, given, n), octets, marks, place, n)
+
+
+def some_record(r, outcome):
+    """Of these fields the lowest and highest values are likely."""
+    return Record(r.choice([0, 65534, 2**32 - 1, r.randrange(2**32)]), outcome, r.choice([0, 0, 255]), r.choice([0, 46, 2**16 - 1, r.randrange(2**16)]),
+                  r.choice([0, 2**64 - 1, r.randrange(2**64)]))
+
+
+def some_log(r, outcomes, more=0):
+    """Records of these outcomes, and so many octets more, or fewer; an unused one is all zeros or has other octets."""
+    records = [octet for outcome in outcomes for octet in (some_record(r, outcome).octets() if outcome or r.random() < 0.5 else [0] * 16)]
+    return records + some(r, more) if more >= 0 else records[:more]
+
+
+def make_append(r, given):
+    return Case("append", log=some_log(r, given["log"], given.get("more", 0)), asked=some_record(r, given["outcome"]))
+
+
+def make_look(r, given):
+    return Case("look", log=some_log(r, given["log"], given.get("more", 0)), asked=given["number"])
+
+
+def make_keep(r, given):
+    s, state, octets, marks = some_walk(r, given)
+    place = {"end": len(octets), "beyond": len(octets) + 1}.get(given.get("place"), r.choice([0, 0, min(1, len(octets))]))
+    return Case("keep", s, state, octets, marks, place, log=some_log(r, given["log"], given.get("more", 0)))
 
 
 # ---- The recipes
@@ -629,6 +708,20 @@ FLOWS += [{"settings": {"flow": "none"}, "room": "short"}, {"settings": {"flow":
 IDLES = COMMON + [{"asked": n, "room": x} for n in (0, 1, 2, 84) for x in ("exact", "more", "short")] + [{"asked": 0, "room": "exact", "place": 0}, {"beyond": True, "asked": 0}]
 LARGE_IDLES = [{"n": 65537, "place": 65530, "asked": 7}, {"n": 65536, "place": 65530, "asked": 6}, {"n": 65536, "place": 65530, "asked": 7}]
 
+LOGS = ([], [0], [1], [0, 0], [1, 0], [0, 255], [11, 1], [1, 0, 7, 0], [9, 8, 0])
+APPENDS = [{"log": log, "outcome": n} for log in LOGS for n in (0, 1, 255)] + [{"log": [1, x], "more": n, "outcome": o} for x in (0, 1)
+           for n in (1, 15, -1) for o in (0, 11)]
+LOOKS = [{"log": log, "number": n} for log in LOGS for n in range(len(log) + 1)] + [{"log": [1, 1], "number": n} for n in (3, 2**32, 2**60, 2**64 - 1)]
+LOOKS += [{"log": [1, 1], "more": n, "number": k} for n in (1, -1, -15) for k in (0, 9)]
+KEEPS = [{"parts": p, "log": log} for p in ([], ["frame"], ["cut", "preamble"], ["cut", "open"], ["wrong", "pause"], ["small", "frame", "start", "preamble"])
+         for log in ([], [0], [0, 0], [1, 0], [1, 0, 1, 0, 0])]
+KEEPS += [{"parts": ["open"], "log": [0] * n} for n in (0, 1)] + [{"parts": ["cut"] * 3, "log": [0] * n} for n in (2, 3, 4)]
+KEEPS += [{"parts": ["cut", "cut"], "log": [0], "place": "end"}]
+KEEPS += [{"parts": ["cut"], "log": [0], **x} for x in ({"settings": {"count": 5}}, {"unequal": True}, {"place": "beyond"}, {"more": 1}, {"more": -1},
+          {"settings": {"limit": 1517}, "unequal": True}, {"unequal": True, "place": "beyond"}, {"place": "beyond", "more": 1},
+          {"settings": {"limit": 9619}, "more": 1})]
+LOG_RECIPES = [(make_append, x) for x in APPENDS] + [(make_look, x) for x in LOOKS] + [(make_keep, x) for x in KEEPS]
+
 READING_RECIPES = [(make_reading, x) for x in READINGS] + [(make_walk, x) for x in WALKS]
 SENDING_RECIPES = (
     [(make_client, x) for x in CLIENTS] + [(make_pause, x) for x in CONTROLS + FLOWS + [{"quanta": q} for q in (0, 255, 256, 65535)]]
@@ -647,13 +740,14 @@ def drawn(r, recipes, n):
 
 
 def generate(n, seed) -> List[Case]:
-    """n drawn cases, three readings or walks to two sendings, one in twenty large; and the published values of the check."""
+    """n drawn cases, three readings or walks to two sendings, one in twenty large; beside them the published values of the check, and a call on a log for
+    each four of them, each recipe once at most."""
     r = random.Random(seed)
     large = min(n // 20, len(LARGE))
     readings = (n - large) * 3 // 5
     chosen = drawn(r, READING_RECIPES, readings) + drawn(r, SENDING_RECIPES, n - large - readings) + drawn(r, LARGE, large)
-    cases = [make(r, given) for make, given in chosen]
-    return cases + [Case("fcs", asked=(list(text), value)) for text, value in PUBLISHED]
+    cases = [make(r, given) for make, given in chosen] + [Case("fcs", asked=(list(text), value)) for text, value in PUBLISHED]
+    return cases + [make(r, given) for make, given in drawn(r, LOG_RECIPES, min(n // 4, len(LOG_RECIPES)))]
 
 
 # ---- Coverage: what must be hit (every outcome, every refusal of every call, both sides of each limit), and what else was
@@ -695,6 +789,14 @@ MUST = (
     + [f"client: a timer at n{x} slots" for x in ("-1", "", "+1")] + ["client: written while another class is held", "pfc: class not named with quanta"]
     + [f"client: refusal {a} before {b}" for a, b in [(1, 2), (2, 3), (3, 5), (5, 6), (6, 10), (10, 7), (7, 8), (8, 9)]]
     + [f"{c}: refusal {a} before {b}" for c in ("pause", "pfc") for a, b in [(1, 2), (2, 3), (3, 4), (4, 8)]] + ["idle: refusal 2 before 3", "fcs: published value"]
+    + [f"append: {x}" for x in ("a record, written", "a record, refused 11", "a record, refused 12", "outcome 0, not written", "outcome 0, refused 11",
+       "a record, 0 unused of 0", "outcome 0, 0 unused of 0", "a record, 0 unused of 2", "outcome 0, 0 unused of 2", "into a hole")]
+    + [f"look: {x}" for x in ("record read", "record refused 11", "record refused 13", "an unused record", "beyond the log", "first unused found",
+       "first unused refused 11", "first unused refused 12", "a used record behind an unused one")]
+    + [f"keep: refused {n}" for n in (1, 2, 3, 11)] + [f"keep: refusal {a} before {b}" for a, b in [(1, 2), (2, 3), (3, 11)]]
+    + [f"keep: {x}" for x in ("0 kept, ends none", "0 kept, ends open", "0 kept, ends full", "2+ kept, ends none", "2+ kept, ends full", "used records stay")]
+    + [f"keep: ends {x} left" for x in ("none, a record", "none, no record", "open, a record", "full, no record")]
+    + [f"keep: outcome {n} kept" for n in (1, 2, 3, 11)]
 )
 
 
@@ -705,7 +807,7 @@ def coverage(cases) -> str:
         for hit in c.hits:
             counts[hit] = counts.get(hit, 0) + 1
     lines = []
-    for call in ("reading", "walk", "client", "pause", "pfc", "idle", "fcs"):
+    for call in ("reading", "walk", "client", "pause", "pfc", "idle", "fcs", "append", "look", "keep"):
         mine = {k.split(": ", 1)[1]: v for k, v in counts.items() if k.startswith(call + ": ")}
         lines.append(f"{call} ({sum(c.call == call for c in cases)} cases)")
         key = lambda k: [int(w) if w.isdigit() else w for w in k.split()]

@@ -5,7 +5,7 @@ The case names and their order are those of the program.
 """
 import zlib
 
-from model import ERROR, START, TERMINATE, Client, Settings, State, client_sending, idle_sending, walk
+from model import ERROR, FOUR_LANE, PLAIN, START, TERMINATE, Client, Settings, State, client_sending, idle_sending, walk
 
 N = 400
 
@@ -21,17 +21,17 @@ def settings(n):
 
 class Capture:
     def __init__(self, octet=0):
-        self.octets, self.marks, self.place = [octet] * N, [0] * N, 0
+        self.octets, self.marks, self.place, self.state = [octet] * N, [0] * N, 0, State()
 
     def take(self, r):
         assert not r.refusal
-        self.octets, self.marks, self.place = r.octets, r.marks, r.place
+        self.octets, self.marks, self.place, self.state = r.octets, r.marks, r.place, r.state
 
     def idles(self, n):
         self.take(idle_sending(State(), self.octets, self.marks, self.place, n))
 
-    def client(self, data, tag=None, kind=None):
-        self.take(client_sending(settings(1), State(), self.octets, self.marks, self.place, Client(station(2), tag, kind, 0, list(data))))
+    def client(self, data, tag=None, kind=None, port=PLAIN):
+        self.take(client_sending(settings(1), self.state, self.octets, self.marks, self.place, Client(station(2), tag, kind, 0, list(data)), port))
 
     def damage(self, at, octet, mark):
         self.octets, self.marks = list(self.octets), list(self.marks)
@@ -90,3 +90,12 @@ c = Capture()
 c.three()
 c.damage(c.place, START, 1)
 c.every("open behind")
+
+c = Capture()
+c.client(b"cut", port=FOUR_LANE)
+c.damage(40, ERROR, 1)
+c.client(b"forty-seven octets: behind them a gap of eleven", port=FOUR_LANE)
+c.client(b"forty-eight octets, and behind them a gap of ten", port=FOUR_LANE)
+c.client(b"forty-nine octets: behind them a gap of thirteen!", port=FOUR_LANE)
+assert c.place == 84 + 84 + 84 + 88 and c.state.deficit == 2
+c.every("four lanes")

@@ -1,7 +1,7 @@
 #!/usr/bin/env python3
 """tools/oracle/run.py N SEED: compare the definitions of crates/*/specs with model.py on N drawn cases.
 
-The definitions are copied to a temporary folder (nothing is written into the repository), where a crate `oracle` sees receive and send and all
+The definitions are copied to a temporary folder (nothing is written into the repository), where a crate `oracle` sees receive, send and logging and all
 that they list. Each case is a theorem there, which antt admits only if the definition computes to the model's answer.
 """
 import os
@@ -22,7 +22,7 @@ import model  # noqa: E402
 REPOSITORY = HERE.parent.parent
 BATCH, MOST = 50, 30000  # cases to a run of antt, and numbers in their buffers and answers, so that memory stays low
 EXPLAINED = 5  # of how many cases that do not agree the fields are told
-WANTED = ["receive", "send"]
+WANTED = ["receive", "send", "logging"]
 
 
 # ---- The copy
@@ -35,7 +35,7 @@ def listed_crates(repository):
 
 
 def needed_crates(listed):
-    """receive and send, and whatever stands below them, in the order of crates.txt."""
+    """The wanted ones, and whatever stands below them, in the order of crates.txt."""
     seen, todo = set(), list(WANTED)
     while todo:
         name = todo.pop()
@@ -150,6 +150,10 @@ def call(c):
     """The definition's answer to a case."""
     if c.call == "fcs":
         return f"giveFcs {numbers(c.asked[0])}"
+    if c.call == "append":
+        return f"giveAppend {numbers(c.log)} (recordMade {' '.join(map(str, c.asked))})"
+    if c.call == "look":
+        return f"giveLook {numbers(c.log)} {c.asked}"
     line = f"{state(c.state)}\n    {numbers(c.octets)}\n    {numbers(c.marks)}"
     if c.call == "idle":
         return f"giveIdle {line}\n    {c.place} {c.asked}"
@@ -158,6 +162,8 @@ def call(c):
         return f"giveReading {line}\n    {c.place}"
     if c.call == "walk":
         return f"giveWalk {line}"
+    if c.call == "keep":
+        return f"giveKeep {line}\n    {c.place} {numbers(c.log)}"
     if c.call == "pause":
         return f"givePause {line}\n    {c.place} {c.asked}"
     if c.call == "pfc":
@@ -171,13 +177,17 @@ def call(c):
 STATE = [("counters", 11), ("timers", 8)]
 READING = [("kind", 1), ("outcome or refusal", 1), ("status word", 1), ("part", 2), ("start", 1), ("next", 1)] + STATE + [("octets of the part", None)]
 WALK = [("kind", 1), ("refusal", 1), ("Starts counted", 1), ("open", 1)] + STATE + [("octets handed out", None)]
+LOOK = [("record's refusal", 1), ("record", 5), ("reader's place", 1), ("its refusal", 1), ("its record", 5), ("used records", 2), ("first unused", None)]
+KEEP = [("end", 1), ("refusal", 1), ("next", 1), ("kept", 1)] + STATE + [("log", None)]
 
 
 def fields(c):
     """Each field's name, where it begins, how many numbers it has."""
     sent = [("kind", 1), ("refusal", 1), ("place", 1)] + STATE + [("octets", len(c.octets or [])), ("marks", None)]
     place = 0
-    for name, n in {"reading": READING, "walk": WALK, "fcs": [("check", 1), ("its octets", None)]}.get(c.call, sent):
+    known = {"reading": READING, "walk": WALK, "fcs": [("check", 1), ("its octets", None)], "append": [("refusal", 1), ("log", None)], "look": LOOK,
+             "keep": KEEP}
+    for name, n in known.get(c.call, sent):
         n = len(c.answer) - place if n is None else n
         yield name, place, n
         place += n

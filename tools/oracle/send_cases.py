@@ -1,7 +1,7 @@
 """The sendings on the tape of crates/cases (tape.py): each refusal, each pair of neighbours in their order, and both sides of each limit."""
 from dataclasses import dataclass, replace
 
-from model import BROADCAST, RESERVED_GROUP, Client, Settings, State, client_sending, idle_sending, pause_sending, pfc_sending
+from model import BROADCAST, FOUR_LANE, PLAIN, RESERVED_GROUP, Client, Settings, State, client_sending, gap_behind, idle_sending, pause_sending, pfc_sending
 from tape import CLIENT, IDLE, PAUSE, PFC, TAPE, checksum, client_octets
 
 FAR = 2**64 - 1
@@ -21,7 +21,7 @@ def settings(flow, **changes):
 
 @dataclass(frozen=True)
 class Call:
-    """Where a call writes: the length of each buffer, and a place."""
+    """Where a call writes: the length of each buffer, a place, and a port's number. The deficit count is one of the state's numbers, any of 64 bits."""
     place: int
     flow: str = "none"
     octets: int = 1700
@@ -29,6 +29,15 @@ class Call:
     changes: tuple = ()
     state: State = State()
     worn: bool = False
+    port: int = 0
+    deficit: int = 0
+
+    def before(self):
+        """The state as the model has it: its greatest count stands for all that are above."""
+        return replace(self.state, deficit=min(self.deficit, 255))
+
+    def model_port(self):
+        return FOUR_LANE if self.port else PLAIN
 
     def buffers(self):
         return [0xA5] * self.octets, [0x5A] * self.marks
@@ -44,29 +53,34 @@ def of(n, place, flow="none", **changes):
 def report(name, call, r):
     answer = f"refused {r.refusal}" if r.refusal else "wrote"
     octets, marks = [f"{len(buffer)} {checksum(buffer)}" for buffer in (r.octets, r.marks)]
-    TAPE.tell(name, f"{answer} place {r.place} octets {octets} marks {marks}", r.refusal, call.state, r.state, call.worn)
+    TAPE.tell(name, f"{answer} place {r.place} octets {octets} marks {marks}", r.refusal, call.before(), r.state, call.worn, call.deficit)
+
+
+def on(call):
+    """What of a call stands on the tape beside its buffers."""
+    return {"worn": call.worn, "deficit": call.deficit, "port": call.port}
 
 
 def client(name, call, n, kind=None, cls=0, tag=None, to=station(2)):
     data = LONGEST[:n]
     c = Client(to, tag, kind, cls, data)
-    TAPE.call(CLIENT, name, call.settings(), call.state, call.place, 0, *call.buffers(), client=client_octets(c), data=data, worn=call.worn)
-    report(name, call, client_sending(call.settings(), call.state, *call.buffers(), call.place, c))
+    TAPE.call(CLIENT, name, call.settings(), call.state, call.place, 0, *call.buffers(), client=client_octets(c), data=data, **on(call))
+    report(name, call, client_sending(call.settings(), call.before(), *call.buffers(), call.place, c, call.model_port()))
 
 
 def pause(name, call, quanta=9):
-    TAPE.call(PAUSE, name, call.settings(), call.state, call.place, quanta, *call.buffers(), worn=call.worn)
-    report(name, call, pause_sending(call.settings(), call.state, *call.buffers(), call.place, quanta))
+    TAPE.call(PAUSE, name, call.settings(), call.state, call.place, quanta, *call.buffers(), **on(call))
+    report(name, call, pause_sending(call.settings(), call.before(), *call.buffers(), call.place, quanta, call.model_port()))
 
 
 def pfc(name, call, named=9):
-    TAPE.call(PFC, name, call.settings(), call.state, call.place, named, *call.buffers(), quanta=QUANTA, worn=call.worn)
-    report(name, call, pfc_sending(call.settings(), call.state, *call.buffers(), call.place, named, QUANTA))
+    TAPE.call(PFC, name, call.settings(), call.state, call.place, named, *call.buffers(), quanta=QUANTA, **on(call))
+    report(name, call, pfc_sending(call.settings(), call.before(), *call.buffers(), call.place, named, QUANTA, call.model_port()))
 
 
 def idle(name, call, n):
-    TAPE.call(IDLE, name, None, call.state, call.place, n, *call.buffers(), worn=call.worn)
-    report(name, call, idle_sending(call.state, *call.buffers(), call.place, n))
+    TAPE.call(IDLE, name, None, call.state, call.place, n, *call.buffers(), worn=call.worn, deficit=call.deficit)
+    report(name, call, idle_sending(call.before(), *call.buffers(), call.place, n))
 
 
 def wide(limit):
@@ -246,10 +260,75 @@ def order_cases():
     idle("Idle, 2 before 3", bad("none", 501), 1)
     idle("Idle, 2 before 8", bad("none", 500), 9)
     idle("Idle, 3 before 8", Call(1701), 9)
-    worn = of(9, 3, state=State([2**32 - 1] * 11, [1000] * 8), worn=True)
+    worn = of(9, 3, state=State([2**32 - 1] * 11, [1000] * 8), worn=True, deficit=FAR)
     client("worn state, client refused", worn, 46)
     idle("worn state, Idle refused", worn, 9)
     idle("worn state, Idle", worn, 5)
+
+
+# The state of sendings on the four-lane port: class 0 runs not, the others run out about when a frame of 46 to 49 octets and its gap have ended.
+LANES = State([5] * 11, [0, 81, 83, 84, 85, 86, 87, 4194240])
+# The calls that send a frame; each writes 84 symbols with a gap of 12, and takes a place not divisible by four alone as bad.
+FRAMES = [("client", lambda name, call: client(name, call, 46), "none"), ("pause", pause, "pause"), ("PFC", pfc, "PFC")]
+
+
+def lanes(place, deficit, flow="none", n=400, port=1, **changes):
+    return of(n, place, flow, **{"state": LANES, "port": port, "deficit": deficit, **changes})
+
+
+def gap_cases():
+    """Every count with every r: the gap has just enough room, and one symbol less."""
+    for count in range(4):
+        for r in range(4):
+            gap, _ = gap_behind(FOUR_LANE, State(deficit=count), 8, [0] * (84 + r))
+            name = f"four lanes, count {count}, r {r}, gap {gap}"
+            client(name, lanes(8, count, n=80 + r + gap), 46 + r)
+            client(name + ", one short", lanes(8, count, n=79 + r + gap), 46 + r)
+    client("four lanes, room of 12 for a gap of 9", lanes(0, 0, n=87), 49)
+    client("four lanes, 1500", lanes(100, 1, n=1700), 1500)
+    client("four lanes, 1499", lanes(100, 3, n=1700), 1499)
+    client("four lanes, eight tags", lanes(4, 3), 47, 0x0800, tag=[(0x88A8, 0x2007), (0x8100, 0x2005)] * 4)
+    client("four lanes, up to 65,536", lanes(65452, 2, n=65536), 46)
+    for count in range(4):
+        for word, send, flow in FRAMES[1:]:
+            send(f"{word} on four lanes, count {count}", lanes(4, count, flow, n=88))
+            send(f"{word} on four lanes, count {count}, one short", lanes(4, count, flow, n=87))
+    for octet in (2, 128, 255):
+        client(f"port {octet}", lanes(0, 2, port=octet), 48)
+
+
+def count_cases():
+    """Counts on both sides of 3, by their high bits too: the plain port and Idle fill leave them."""
+    for deficit in [4, 5, 255, 256, 259, 2**32, 2**32 + 3, 2**63, FAR]:
+        for word, send, flow in FRAMES:
+            send(f"{word} on four lanes, count {deficit}", lanes(8, deficit, flow))
+    for deficit in [0, 1, 2, 3, 4, 5, 2**32, FAR]:
+        for word, send, flow in FRAMES:
+            send(f"{word} on the plain port, count {deficit}", lanes(9, deficit, flow, port=0))
+        idle(f"Idle, count {deficit}", lanes(9, deficit), 81)
+    client("the plain port, r 3, count 0", lanes(0, 0, port=0), 49)
+
+
+def lane_place_cases():
+    for word, send, flow in FRAMES:
+        for place in [1, 2, 3, 5, 399, 400, 401, 404, FAR - 3, FAR]:
+            send(f"{word} on four lanes at {place}", lanes(place, 0, flow))
+        send(f"{word} on four lanes, 1 before 2", replace(bad(flow, 3), port=1, deficit=4))
+        send(f"{word} on four lanes, 2 before 3", Call(3, flow, 500, 499, port=1, deficit=4))
+        send(f"{word} on four lanes, 3 before 19", lanes(2, 4, flow))
+        send(f"{word} on four lanes, 19 before 8", lanes(396, 4, flow))
+    client("four lanes, 19 before 5", lanes(8, 4), 46, cls=8)
+    client("four lanes, 19 before 9", lanes(8, 4), 46, cls=7)
+    client("four lanes, 5 before 8", lanes(396, 3), 46, cls=8)
+    client("four lanes, 8 before 9", lanes(396, 3), 46, cls=7)
+    client("four lanes, 9", lanes(8, 3), 47, cls=7)
+    pause("pause on four lanes, 19 before 4", lanes(8, 4))
+    pfc("PFC on four lanes, 19 before 4", lanes(8, 4))
+    pause("pause on four lanes, 4 before 8", lanes(396, 3))
+    pfc("PFC on four lanes, 4 before 8", lanes(396, 3))
+    worn = lanes(8, 3, worn=True)
+    client("worn state, four lanes", worn, 47)
+    client("worn state, four lanes, refused", replace(worn, place=9), 47)
 
 
 def cases():
@@ -261,3 +340,6 @@ def cases():
     buffer_cases()
     timer_cases()
     order_cases()
+    gap_cases()
+    count_cases()
+    lane_place_cases()

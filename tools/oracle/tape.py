@@ -5,7 +5,8 @@ end in it no call is made. Every number is eight octets, high octet first. A cal
 numbers: kind (0 readings, 1 client, 2 pause, 3 PFC, 4 Idle fill); name; settings; state; client frame; quanta; place; a number (how many readings at most, and
 a walk after them if that is more than one; quanta; class octet; Idles); octets; marks; data; log. What lies elsewhere on the tape is named by its place, and
 where its length is not known, by its place times 2^32 plus its length. A state and quanta are numbers; a name and data are octets; settings, a client frame,
-the two buffers and a log are runs: how many octets, the first, and what is added from one to the next.
+the two buffers and a log are runs: how many octets, the first, and what is added from one to the next. In a sending of a frame the port stands in place of
+the log: 0 plain, anything else the four-lane one.
 
 Calls on a log: kinds 5 append, 6 append a reading, 7 look (record, next record and used records), 8 the walk that keeps its readings. In that walk the log is
 the last number. In the others it stands in place of the octets, a record of 16 octets in place of the client frame, the numbers of a reading in place of the
@@ -51,11 +52,13 @@ def client_octets(c):
     return (head + run).ljust(44, b"\0")
 
 
-def state_numbers(state, worn=False):
-    """Counters, timers and what is kept for later. A worn state has ones above the 32 bits of each number, and in what is kept: no call looks at them, and a
-    refused one leaves them."""
+def state_numbers(state, worn=False, deficit=None):
+    """Counters, timers, the deficit count and what is kept for later. A worn state has ones above the 32 bits of each counter and timer, in the count and in
+    what is kept: but for the count no call looks at them, and a refused one leaves them. A count that is given stands in place of the state's."""
     above = ONES - 0xFFFFFFFF if worn else 0
-    return [above + n for n in list(state.counters) + list(state.timers)] + [ONES if worn else 0] * 5
+    if deficit is None:
+        deficit = ONES if worn else state.deficit
+    return [above + n for n in list(state.counters) + list(state.timers)] + [deficit] + [ONES if worn else 0] * 4
 
 
 class Tape:
@@ -73,8 +76,11 @@ class Tape:
     def part(self, octets, coded=None):
         return self.place(octets if coded is None else coded) << 32 | len(octets)
 
-    def call(self, kind, name, s, state, place, n, octets, marks, client=bytes(44), quanta=(0,) * 8, data=b"", worn=False, log=b""):
-        self.add(kind, name, settings_octets(s) if s else bytes(48), state_numbers(state, worn), client, quanta, place, n, octets, marks, data, log)
+    def call(self, kind, name, s, state, place, n, octets, marks, client=bytes(44), quanta=(0,) * 8, data=b"", worn=False, log=b"", deficit=None,
+             port=None):
+        self.add(kind, name, settings_octets(s) if s else bytes(48), state_numbers(state, worn, deficit), client, quanta, place, n, octets, marks, data, log)
+        if port is not None:
+            self.calls[-1][11] = port
 
     def log_call(self, kind, name, log, place=0, record=bytes(16), reading=(0,) * 24):
         self.add(kind, name, bytes(48), reading, record, (0,) * 8, place, 0, log, b"", b"", b"")
@@ -93,10 +99,10 @@ class Tape:
     def text(self):
         return "".join(line + "\n" for line in self.lines).encode()
 
-    def tell(self, name, what, refused, before, after, worn=False):
-        """A line that the program must print: what was answered, and what changed of the state's numbers."""
-        was = state_numbers(before, worn)
-        now = was if refused else state_numbers(after)
+    def tell(self, name, what, refused, before, after, worn=False, deficit=None):
+        """A line that the program must print: what was answered, and what changed of the state's numbers. A count that the model cannot say stays."""
+        was = state_numbers(before, worn, deficit)
+        now = was if refused else state_numbers(after, deficit=was[19] if was[19] > 255 else None)
         self.lines.append(f"{name}: {what} counters" + changed(was[:11], now[:11], 1) + " timers" + changed(was[11:19], now[11:19], 0) + changed(was[19:], now[19:], 19))
 
 

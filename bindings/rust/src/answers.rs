@@ -129,7 +129,8 @@ impl fmt::Display for Outcome {
 /// assert_eq!(refusal.number(), 3);
 /// assert_eq!(
 ///     refusal.to_string(),
-///     "refusal 3, bad place: place beyond the buffers' length"
+///     "refusal 3, bad place: place beyond the buffers' length, \
+///      or not divisible by four on the four-lane port"
 /// );
 /// ```
 #[derive(Clone, Copy, Debug, PartialEq, Eq, PartialOrd, Ord, Hash)]
@@ -139,7 +140,8 @@ pub enum Refusal {
     BadSettings,
     /// 2: octets and marks differ in length, or exceed [`SYMBOLS`](crate::SYMBOLS).
     BadBuffers,
-    /// 3: place beyond the buffers' length.
+    /// 3: place beyond the buffers' length; for a frame on the four-lane port also one not divisible
+    /// by four.
     BadPlace,
     /// 4: pause or PFC asked in another flow mode.
     OtherFlow,
@@ -161,6 +163,9 @@ pub enum Refusal {
     LogFull,
     /// 13: record number not used.
     NotUsed,
+    /// 19: a frame on the four-lane port, and the deficit count is above 3. It is tested right after
+    /// 3.
+    HighDeficit,
     /// A number that has no name here, or 0 for an answer that has no meaning here: the archive is
     /// of another version than this face.
     Unknown(u8),
@@ -184,6 +189,7 @@ impl Refusal {
             Refusal::BadLog => 11,
             Refusal::LogFull => 12,
             Refusal::NotUsed => 13,
+            Refusal::HighDeficit => 19,
             Refusal::Unknown(number) => number,
         }
     }
@@ -205,6 +211,7 @@ impl Refusal {
             Refusal::BadLog => "bad log",
             Refusal::LogFull => "log full",
             Refusal::NotUsed => "not used",
+            Refusal::HighDeficit => "high deficit",
             Refusal::Unknown(_) => "unknown",
         }
     }
@@ -215,7 +222,9 @@ impl Refusal {
                 "own address is a group, listed count above 4, or M outside 1518 to 9618"
             }
             Refusal::BadBuffers => "octets and marks differ in length, or exceed 65536",
-            Refusal::BadPlace => "place beyond the buffers' length",
+            Refusal::BadPlace => {
+                "place beyond the buffers' length, or not divisible by four on the four-lane port"
+            }
             Refusal::OtherFlow => "pause or PFC asked in another flow mode",
             Refusal::BadClass => "class above 7",
             Refusal::BadType => "type under 1536, or 0x8100, 0x8808 or 0x88A8",
@@ -228,6 +237,7 @@ impl Refusal {
             Refusal::BadLog => "length of the log no multiple of 16",
             Refusal::LogFull => "no unused record",
             Refusal::NotUsed => "record number not used",
+            Refusal::HighDeficit => "deficit count above 3",
             Refusal::Unknown(_) => "the archive is of another version",
         }
     }
@@ -249,6 +259,7 @@ impl Refusal {
             11 => Refusal::BadLog,
             12 => Refusal::LogFull,
             13 => Refusal::NotUsed,
+            19 => Refusal::HighDeficit,
             other => Refusal::Unknown(u8::try_from(other).unwrap_or(u8::MAX)),
         })
     }

@@ -1,6 +1,7 @@
 //! Sending frames.
 use crate::address::Address;
 use crate::answers::Refusal;
+use crate::port::Port;
 use crate::receive::Capture;
 use crate::settings::Settings;
 use crate::state::State;
@@ -207,7 +208,8 @@ impl fmt::Debug for Frame {
     }
 }
 
-/// Line buffers that are lent for writing, and the place where the next symbols go.
+/// Line buffers that are lent for writing, the place where the next symbols go, and the port that
+/// frames go to.
 ///
 /// Each call that writes moves the place on and gives it, and lowers every timer by the symbols
 /// written. A refused one leaves the place, the state and every symbol.
@@ -233,10 +235,11 @@ pub struct Sender<'b> {
     octets: &'b mut [u8],
     marks: &'b mut [u8],
     place: usize,
+    port: Port,
 }
 
 impl<'b> Sender<'b> {
-    /// A sender into these octets and marks, from place 0 on.
+    /// A sender into these octets and marks, from place 0 on, on the plain port.
     ///
     /// Any two slices will do; if they differ in length or exceed [`SYMBOLS`](crate::SYMBOLS),
     /// every sending is refused (2).
@@ -246,6 +249,7 @@ impl<'b> Sender<'b> {
             octets,
             marks,
             place: 0,
+            port: Port::Plain,
         }
     }
 
@@ -265,6 +269,44 @@ impl<'b> Sender<'b> {
     pub fn at(mut self, place: usize) -> Sender<'b> {
         self.place = place;
         self
+    }
+
+    /// The same buffers, with the next frames going to this port: on the four-lane one a place not
+    /// divisible by four (3) and a deficit count above 3 (19) are refused, and gaps vary. Idle fill
+    /// takes any place on either.
+    ///
+    /// A sender stays on its port until it is told otherwise; frames of both can stand on one line.
+    ///
+    /// ```
+    /// use fenhamper::{Address, Frame, Port, Refusal, Sender, Settings, State};
+    ///
+    /// let (settings, mut state) = (Settings::default(), State::default());
+    /// let frame = Frame::to(Address::BROADCAST);
+    /// let (mut octets, mut marks) = ([0; 300], [0; 300]);
+    /// let mut sender = Sender::new(&mut octets, &mut marks);
+    /// // 47 octets of data: a gap of 12 ends at 85, one past a multiple of four
+    /// assert_eq!(sender.client(&settings, &mut state, &frame, &[7; 47]), Ok(85));
+    /// let mut sender = sender.on(Port::FourLane);
+    /// assert_eq!(
+    ///     sender.client(&settings, &mut state, &frame, &[7; 47]),
+    ///     Err(Refusal::BadPlace)
+    /// );
+    /// sender.idle(&mut state, 3)?;
+    /// // from 88 on a gap of 12 would end at 173, and one of 11 ends at 172
+    /// assert_eq!(sender.client(&settings, &mut state, &frame, &[7; 47]), Ok(172));
+    /// assert_eq!((sender.port(), state.deficit()), (Port::FourLane, 1));
+    /// # Ok::<(), Refusal>(())
+    /// ```
+    #[must_use]
+    pub fn on(mut self, port: Port) -> Sender<'b> {
+        self.port = port;
+        self
+    }
+
+    /// The port that the next frames go to.
+    #[must_use]
+    pub fn port(&self) -> Port {
+        self.port
     }
 
     /// Where the next symbols go.
@@ -332,7 +374,8 @@ impl<'b> Sender<'b> {
     ///
     /// # Errors
     ///
-    /// Refusals 1 to 3 and 5 to 10, the lowest number first, but that 10 comes after 6 and before 7.
+    /// Refusals 1 to 3, 5 to 10 and 19, the lowest number first, but that 10 comes after 6 and
+    /// before 7, and 19 right after 3.
     pub fn client(
         &mut self,
         settings: &Settings,
@@ -343,6 +386,7 @@ impl<'b> Sender<'b> {
         let sent = sys::send_client(
             settings.record(),
             state.record(),
+            self.port.number(),
             self.octets,
             self.marks,
             self.place,
@@ -371,7 +415,7 @@ impl<'b> Sender<'b> {
     ///
     /// # Errors
     ///
-    /// Refusals 1 to 4 and 8, the lowest number first.
+    /// Refusals 1 to 4, 8 and 19, the lowest number first, but that 19 comes right after 3.
     pub fn pause(
         &mut self,
         settings: &Settings,
@@ -381,6 +425,7 @@ impl<'b> Sender<'b> {
         let sent = sys::send_pause(
             settings.record(),
             state.record(),
+            self.port.number(),
             self.octets,
             self.marks,
             self.place,
@@ -413,7 +458,7 @@ impl<'b> Sender<'b> {
     ///
     /// # Errors
     ///
-    /// Refusals 1 to 4 and 8, the lowest number first.
+    /// Refusals 1 to 4, 8 and 19, the lowest number first, but that 19 comes right after 3.
     pub fn pfc(
         &mut self,
         settings: &Settings,
@@ -424,6 +469,7 @@ impl<'b> Sender<'b> {
         let sent = sys::send_pfc(
             settings.record(),
             state.record(),
+            self.port.number(),
             self.octets,
             self.marks,
             self.place,
@@ -455,12 +501,27 @@ impl<'b> Sender<'b> {
 mod tests {
     use super::*;
 
+    // Of a port only whether it is 0.
+    #[test]
+    fn a_port_is_0_or_not() {
+        let settings = *Settings::default().record();
+        let client = Frame::to(Address::BROADCAST).record;
+        for port in 0..=255 {
+            let (mut octets, mut marks) = ([0; 100], [0; 100]);
+            let mut state = State::default();
+            let (s, o, m) = (state.record(), &mut octets, &mut marks);
+            let sent = sys::send_client(&settings, s, port, o, m, 0, &client, &[5; 47]);
+            let expected = if port == 0 { (85, 0) } else { (84, 1) };
+            assert_eq!((sent.place, state.deficit()), expected, "{port}");
+        }
+    }
+
     // What a record sends, and the answer, with settings changed as well.
     fn sent_by(client: sys::Client, settings: sys::Settings) -> (sys::Sent, [u8; 200]) {
         let (mut octets, mut marks) = ([0; 200], [0; 200]);
         let mut state = State::default();
         let (o, m) = (&mut octets, &mut marks);
-        let sent = sys::send_client(&settings, state.record(), o, m, 0, &client, b"data");
+        let sent = sys::send_client(&settings, state.record(), 0, o, m, 0, &client, b"data");
         (sent, octets)
     }
 
@@ -517,7 +578,8 @@ mod tests {
         let worn = || sys::State {
             counters: [u64::MAX; 11],
             timers: [u64::MAX; 8],
-            spare: [u64::MAX; 5],
+            deficit: u64::MAX,
+            spare: [u64::MAX; 4],
         };
         let (mut octets, mut marks) = ([0; 8], [0; 8]);
         let (settings, client) = (*Settings::default().record(), Frame::to(Address::BROADCAST));
@@ -530,20 +592,25 @@ mod tests {
         assert_eq!(sys::walk_log(&settings, s, o, m, 9, &mut log).refusal, 3);
         assert_eq!(sys::walk_log(&settings, s, o, m, 8, &mut log).refusal, 11);
         assert_eq!(log, [0xFF; 17]);
-        let data = b"data";
-        assert_eq!(
-            sys::send_client(&settings, s, o, m, 0, &client.record, data).refusal,
-            8
-        );
-        assert_eq!(sys::send_pause(&settings, s, o, m, 0, 1).refusal, 4);
-        assert_eq!(sys::send_pfc(&settings, s, o, m, 0, 1, &[1; 8]).refusal, 4);
+        // on each port: 19 is told before 4 and 8, and the plain one does not look at the count
+        for (port, of_client, of_control) in [(0, 8, 4), (1, 19, 19), (255, 19, 19)] {
+            let (c, data) = (&client.record, b"data");
+            let sent = sys::send_client(&settings, s, port, o, m, 0, c, data);
+            assert_eq!(sent.refusal, of_client);
+            let sent = sys::send_pause(&settings, s, port, o, m, 0, 1);
+            assert_eq!(sent.refusal, of_control);
+            let sent = sys::send_pfc(&settings, s, port, o, m, 0, 1, &[1; 8]);
+            assert_eq!(sent.refusal, of_control);
+        }
         assert_eq!(sys::fill_idle(s, o, m, 0, 9).refusal, 8);
         assert!(state == worn());
         // one that is not refused leaves it in the header's form
         assert_eq!(sys::fill_idle(&mut state, o, m, 0, 1).refusal, 0);
         let low = u64::from(u32::MAX);
         assert!(
-            state.counters == [low; 11] && state.timers == [low - 1; 8] && state.spare == [0; 5]
+            state.counters == [low; 11] && state.timers == [low - 1; 8] && state.spare == [0; 4]
         );
+        // but for the deficit count, which is kept whole
+        assert_eq!(state.deficit, u64::MAX);
     }
 }

@@ -1,11 +1,11 @@
-//! What a station counts and times.
+//! What a station counts and times, and what its gaps are short of.
 use crate::answers::Outcome;
 use crate::limits::{CLASSES, OUTCOMES};
 use crate::sys;
 use core::fmt;
 
-/// What a station keeps from call to call: a counter for each outcome and a timer for each class. A
-/// fresh one is all zeros.
+/// What a station keeps from call to call: a counter for each outcome, a timer for each class, and
+/// the four-lane port's deficit count. A fresh one is all zeros.
 ///
 /// A state is cloned, never copied by accident: two copies that are both used on would each miss
 /// what the other counted.
@@ -49,6 +49,30 @@ impl State {
         State { record }
     }
 
+    /// The same state with this deficit count. Any number can stand there; above 3 it has every
+    /// frame on the four-lane port refused (19), and no other call looks at it.
+    ///
+    /// ```
+    /// use fenhamper::{Flow, Port, Refusal, Sender, Settings, State};
+    ///
+    /// let settings = Settings::default().flow(Flow::Pause);
+    /// let (mut octets, mut marks) = ([0; 84], [0; 84]);
+    /// let mut sender = Sender::new(&mut octets, &mut marks).on(Port::FourLane);
+    /// let mut state = State::default().with_deficit(4);
+    /// assert_eq!(
+    ///     sender.pause(&settings, &mut state, 1),
+    ///     Err(Refusal::HighDeficit)
+    /// );
+    /// assert_eq!(state.deficit(), 4);
+    /// let mut state = state.with_deficit(3);
+    /// assert_eq!(sender.pause(&settings, &mut state, 1), Ok(84));
+    /// ```
+    #[must_use]
+    pub fn with_deficit(mut self, deficit: u64) -> State {
+        self.record.deficit = deficit;
+        self
+    }
+
     /// How many Starts had this outcome, modulo 2^32.
     #[must_use]
     pub fn counter(&self, outcome: Outcome) -> u64 {
@@ -82,6 +106,13 @@ impl State {
         self.record.timers
     }
 
+    /// The deficit count: how many symbols the gaps of the four-lane port are short of 12 each.
+    /// Only frames sent on that [port](crate::Port) change it, and from 0 on it stays at 3 or less.
+    #[must_use]
+    pub fn deficit(&self) -> u64 {
+        self.record.deficit
+    }
+
     pub(crate) fn record(&mut self) -> &mut sys::State {
         &mut self.record
     }
@@ -101,6 +132,7 @@ impl fmt::Debug for State {
         f.debug_struct("State")
             .field("counters", &self.counters())
             .field("timers", &self.timers())
+            .field("deficit", &self.deficit())
             .finish()
     }
 }

@@ -6,7 +6,7 @@ use crate::send::{Frame, Sender};
 use crate::settings::Settings;
 use crate::state::State;
 
-/// A station: what it is set to, and what it counts and times. Each call goes to that of
+/// A station: what it is set to, and what it keeps from call to call. Each call goes to that of
 /// [`Capture`] or [`Sender`] with both.
 ///
 /// ```
@@ -31,7 +31,7 @@ use crate::state::State;
 pub struct Station {
     /// What it is set to.
     pub settings: Settings,
-    /// Its counters and timers.
+    /// Its counters and timers, and its deficit count.
     pub state: State,
 }
 
@@ -124,7 +124,7 @@ impl Station {
     ///
     /// # Errors
     ///
-    /// Refusals 1 to 3 and 5 to 10.
+    /// Refusals 1 to 3, 5 to 10 and 19.
     pub fn send_client(
         &mut self,
         sender: &mut Sender<'_>,
@@ -151,7 +151,7 @@ impl Station {
     ///
     /// # Errors
     ///
-    /// Refusals 1 to 4 and 8.
+    /// Refusals 1 to 4, 8 and 19.
     pub fn send_pause(&mut self, sender: &mut Sender<'_>, quanta: u16) -> Result<usize, Refusal> {
         sender.pause(&self.settings, &mut self.state, quanta)
     }
@@ -160,7 +160,7 @@ impl Station {
     ///
     /// # Errors
     ///
-    /// Refusals 1 to 4 and 8.
+    /// Refusals 1 to 4, 8 and 19.
     pub fn send_pfc(
         &mut self,
         sender: &mut Sender<'_>,

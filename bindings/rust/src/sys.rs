@@ -5,6 +5,8 @@
 //! from a reference or from a slice of the length passed beside it, so it is not null, and what a
 //! call writes is lent to it alone.
 #![allow(unsafe_code)]
+// arguments are those of the header
+#![allow(clippy::too_many_arguments)]
 
 use core::mem::size_of;
 
@@ -39,6 +41,9 @@ pub const STATUS_CONTROL: u64 = 1 << 34;
 pub const STATUS_TAGGED: u64 = 1 << 33;
 pub const STATUS_STACKED: u64 = 1 << 32;
 
+pub const PORT_PLAIN: u8 = 0;
+pub const PORT_FOUR_LANE: u8 = 1;
+
 pub const FORM_LENGTH: u8 = 0;
 pub const FORM_TYPE: u8 = 1;
 
@@ -71,7 +76,8 @@ pub struct Settings {
 pub struct State {
     pub counters: [u64; OUTCOMES],
     pub timers: [u64; CLASSES],
-    pub spare: [u64; 5],
+    pub deficit: u64,
+    pub spare: [u64; 4],
 }
 
 #[repr(C)]
@@ -158,7 +164,7 @@ const _: () = assert!(size_of::<Sent>() == 16 && size_of::<Part>() == 16);
 const _: () = assert!(size_of::<Tag>() == 4 && size_of::<Client>() == 44);
 
 extern "C" {
-    fn fenhamper_layout_2() -> u32;
+    fn fenhamper_layout_3() -> u32;
     fn fenhamper_read(
         settings: &Settings,
         state: &mut State,
@@ -209,6 +215,7 @@ extern "C" {
     fn fenhamper_send_client(
         settings: &Settings,
         state: &mut State,
+        port: u8,
         octets: *mut u8,
         octets_length: usize,
         marks: *mut u8,
@@ -222,6 +229,7 @@ extern "C" {
     fn fenhamper_send_pause(
         settings: &Settings,
         state: &mut State,
+        port: u8,
         octets: *mut u8,
         octets_length: usize,
         marks: *mut u8,
@@ -233,6 +241,7 @@ extern "C" {
     fn fenhamper_send_pfc(
         settings: &Settings,
         state: &mut State,
+        port: u8,
         octets: *mut u8,
         octets_length: usize,
         marks: *mut u8,
@@ -259,12 +268,12 @@ extern "C" {
 
 // An archive of another layout has no such symbol, and does not link.
 #[used]
-static THE_LAYOUT: unsafe extern "C" fn() -> u32 = fenhamper_layout_2;
+static THE_LAYOUT: unsafe extern "C" fn() -> u32 = fenhamper_layout_3;
 
 #[cfg(test)]
 pub fn layout() -> u32 {
     // SAFETY: nothing passes.
-    unsafe { fenhamper_layout_2() }
+    unsafe { fenhamper_layout_3() }
 }
 
 pub fn read(
@@ -378,6 +387,7 @@ pub fn log_used(log: &[u8]) -> (u64, usize) {
 pub fn send_client(
     settings: &Settings,
     state: &mut State,
+    port: u8,
     octets: &mut [u8],
     marks: &mut [u8],
     place: usize,
@@ -390,6 +400,7 @@ pub fn send_client(
         fenhamper_send_client(
             settings,
             state,
+            port,
             octets.as_mut_ptr(),
             octets.len(),
             marks.as_mut_ptr(),
@@ -407,6 +418,7 @@ pub fn send_client(
 pub fn send_pause(
     settings: &Settings,
     state: &mut State,
+    port: u8,
     octets: &mut [u8],
     marks: &mut [u8],
     place: usize,
@@ -418,6 +430,7 @@ pub fn send_pause(
         fenhamper_send_pause(
             settings,
             state,
+            port,
             octets.as_mut_ptr(),
             octets.len(),
             marks.as_mut_ptr(),
@@ -433,6 +446,7 @@ pub fn send_pause(
 pub fn send_pfc(
     settings: &Settings,
     state: &mut State,
+    port: u8,
     octets: &mut [u8],
     marks: &mut [u8],
     place: usize,
@@ -445,6 +459,7 @@ pub fn send_pfc(
         fenhamper_send_pfc(
             settings,
             state,
+            port,
             octets.as_mut_ptr(),
             octets.len(),
             marks.as_mut_ptr(),
@@ -496,7 +511,8 @@ pub fn fresh_state() -> State {
     let mut state = State {
         counters: [0; OUTCOMES],
         timers: [0; CLASSES],
-        spare: [0; 5],
+        deficit: 0,
+        spare: [0; 4],
     };
     // SAFETY: only the state passes, and it is lent alone.
     unsafe { fenhamper_fresh_state(&mut state) };

@@ -163,7 +163,7 @@ fn changes(before: &[u64; 24], after: &[u64; 24]) {
     changed(before, after, 0, 11, 1);
     io::write_all(1, b" timers");
     changed(before, after, 11, 8, 0);
-    // what is kept for later, by its place among the numbers
+    // the deficit count and what is kept for later, by their places among the numbers
     changed(before, after, 19, 5, 19);
     io::write_all(1, b"\n");
 }
@@ -174,6 +174,7 @@ struct Call {
     kind: u64,
     place: usize,
     n: u64,
+    port: u8,
     settings: [u8; 48],
     state: [u64; 24],
     client: [u8; 44],
@@ -193,6 +194,7 @@ fn call_at(t: &[u8], r: usize) -> Call {
         kind: number(t, r, 0),
         place: number(t, r, 6) as usize,
         n: number(t, r, 7),
+        port: (number(t, r, 11) % 256) as u8,
         settings,
         state,
         client,
@@ -285,7 +287,7 @@ fn client(c: Call, d: &[u8], o: &mut [u8], m: &mut [u8]) -> Sent {
     let f = c.client;
     let mut state = c.state;
     let mut answer = [0u64; 2];
-    fenhamper::fenhamper_send_client(&s, &mut state, o, m, c.place, &f, d, &mut answer);
+    fenhamper::fenhamper_send_client(&s, &mut state, c.port, o, m, c.place, &f, d, &mut answer);
     Sent { state, answer }
 }
 
@@ -296,6 +298,7 @@ fn pause(c: Call, o: &mut [u8], m: &mut [u8]) -> Sent {
     fenhamper::fenhamper_send_pause(
         &s,
         &mut state,
+        c.port,
         o,
         m,
         c.place,
@@ -313,6 +316,7 @@ fn pfc(c: Call, o: &mut [u8], m: &mut [u8]) -> Sent {
     fenhamper::fenhamper_send_pfc(
         &s,
         &mut state,
+        c.port,
         o,
         m,
         c.place,

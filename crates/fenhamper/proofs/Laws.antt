@@ -56,7 +56,7 @@ each-all d (x ∷ xs) =
     ∙ each-same (λ (i : ℕ). getD (x ∷ xs) (i + 1) d) (λ (i : ℕ). getD xs i d) (λ (i : ℕ). rw add-one) 0 (length xs)
     ∙ each-all d xs)
 
--- ---- a state that crosses back: numbers of 32 bits are their own low 32 bits
+-- ---- a state that crosses back: numbers of 32 bits are their own low 32 bits, and the deficit count is read whole
 
 pub state-crosses : (st : State) → length (st .counters) ≡ 11 → length (st .timers) ≡ 8 → ((i : ℕ) → getD (st .counters) i 0 % 4294967296 ≡ getD (st .counters) i 0)
     → ((i : ℕ) → timer (st .timers) i .0 % 4294967296 ≡ timer (st .timers) i .0) → stateOf (stateNumbers st) ≡ st
@@ -70,7 +70,12 @@ state-crosses st eleven eight counters timers =
     each-same (λ (i : ℕ). record { 0 = timer (st .timers) i .0 % 4294967296 }) (timer (st .timers)) (λ (i : ℕ). ap (λ (n : ℕ). record { 0 = n }) (timers i)) 0 8
     ∙ rw eight at (each-all (record { 0 = 0 }) (st .timers))
     in
-    ap₂ (λ (c : List ℕ) (t : List Slots). record { counters = c; timers = t }) cs ts
+    ap₂ (λ (c : List ℕ) (t : List Slots). record { counters = c; timers = t; deficit = st .deficit }) cs ts
+
+-- the deficit count crosses whole, to the module and back
+pub deficit-crosses : (l : List ℕ) (st : State) → (stateOf l .deficit ≡ getD l 19 0) × (getD (stateNumbers st) 19 0 ≡ st .deficit)
+unfolding stateOf stateNumbers each
+deficit-crosses l st = (refl, refl)
 
 -- ---- records of a log
 

@@ -9,6 +9,8 @@ use Rattle.line.specs.Octets.{lowFirst}
 use Rattle.station.specs.declared.Address.{Address}
 use Rattle.station.specs.declared.Flow.{Flow}
 use Rattle.station.specs.declared.Flow.the-variants.{Off, Pause, Pfc}
+use Rattle.station.specs.declared.Port.{Port}
+use Rattle.station.specs.declared.Port.the-variants.{Plain, FourLane}
 use Rattle.station.specs.declared.Settings.{Settings}
 use Rattle.station.specs.declared.Slots.{Slots}
 use Rattle.station.specs.declared.Quanta.{Quanta}
@@ -50,7 +52,7 @@ each f at (suc n) = f at ∷ each f (at + 1) n
 
 -- the layout of the records, by its number: the name of an exported symbol has it, and it is what that function gives
 abbrev pub layout : ℕ
-layout = 2
+layout = 3
 
 -- ---- what crosses to the module
 
@@ -84,7 +86,7 @@ settingsOf o =
 unfoldable pub lowAt : List ℕ → ℕ → ℕ
 lowAt l i = getD l i 0 % 4294967296
 
--- a state, of 24 numbers: counters, then timers
+-- a state, of 24 numbers: counters, then timers, then the deficit count, which is read whole
 unfoldable pub countersOf : List ℕ → List ℕ
 countersOf l = each (lowAt l) 0 11
 
@@ -92,7 +94,11 @@ unfoldable pub timersOf : List ℕ → List Slots
 timersOf l = each (λ (i : ℕ). record { 0 = lowAt l i }) 11 8
 
 unfoldable pub stateOf : List ℕ → State
-stateOf l = record { counters = countersOf l; timers = timersOf l }
+stateOf l = record { counters = countersOf l; timers = timersOf l; deficit = getD l 19 0 }
+
+-- a port: "0 is PLAIN, anything else FOUR_LANE"
+unfoldable pub portOf : ℕ → Port
+portOf n = cond (eqb n 0) Plain FourLane
 
 -- a client frame, of 44 octets: of a tag's kind "anything but 0 is SERVICE"; of the form "anything but 0 is TYPE"
 unfoldable pub kindOf : ℕ → Kind
@@ -131,9 +137,9 @@ recordNamed n =
 
 -- ---- what crosses back
 
--- a state as 24 numbers: counters, timers, and zeros for what is kept for later
+-- a state as 24 numbers: counters, timers, the deficit count, and zeros for what is kept for later
 unfoldable pub stateNumbers : State → List ℕ
-stateNumbers st = each (λ (i : ℕ). getD (st .counters) i 0) 0 11 ++ (each (λ (i : ℕ). timer (st .timers) i .0) 0 8 ++ replicate 5 0)
+stateNumbers st = each (λ (i : ℕ). getD (st .counters) i 0) 0 11 ++ (each (λ (i : ℕ). timer (st .timers) i .0) 0 8 ++ (st .deficit ∷ replicate 4 0))
 
 -- 0 counted or refused, 1 `none`, 2 `open`
 abbrev pub answerKind : Answer → ℕ

@@ -15,6 +15,7 @@ use send::Sent;
 use send::Went;
 use station::Address;
 use station::Flow;
+use station::Port;
 use station::Quanta;
 use station::Settings;
 use station::Slots;
@@ -42,7 +43,7 @@ ghost use Rattle.log.specs.Readers.{nextStep};
 ghost use Rattle.logging.specs.Walks.{walkLogged};
 ghost use Rattle.send.specs.Sending.{clientSending, pauseSending, pfcSending, idleSending};
 ghost use Rattle.fenhamper.specs.Face.{layout, flowOf, addressAt, settingsOf, countersOf, timersOf, stateOf};
-ghost use Rattle.fenhamper.specs.Face.{kindOf, tagAt, countedTag, tagsOf, formOf, clientOf, quantaOf, classesOf};
+ghost use Rattle.fenhamper.specs.Face.{portOf, kindOf, tagAt, countedTag, tagsOf, formOf, clientOf, quantaOf, classesOf};
 ghost use Rattle.fenhamper.specs.Face.{recordNamed, stateNumbers, readingNumbers, walkNumbers, sentNumbers, keepRefusalNumber, keepNumbers, partWithin};
 ghost use Rattle.fenhamper.specs.Face.{stateLeft, told, readTold, walkTold, wrote, sendTold};
 ghost use Rattle.fenhamper.specs.Face.{kept, keepTold, lodged, appendTold, recordGiven, recordTold, stepGiven, stepTold, numberGiven, numberTold};
@@ -155,7 +156,12 @@ fn state_of(n: &[u64; 24]) -> State
 {
     let counters = counters(n);
     let timers = timers(n);
-    State { counters, timers }
+    let deficit = n[19];
+    State {
+        counters,
+        timers,
+        deficit,
+    }
 }
 
 fn kind(n: u8) -> Kind
@@ -165,6 +171,15 @@ fn kind(n: u8) -> Kind
         return Kind::Customer;
     }
     Kind::Service
+}
+
+fn port_of(n: u8) -> Port
+    ensures { λ r. ⌜ r ≡ portOf n ⌝ }
+{
+    if n == 0 {
+        return Port::Plain;
+    }
+    Port::FourLane
 }
 
 // The tag in four octets from `at` on.
@@ -305,7 +320,7 @@ fn state_numbers(state: State) -> [u64; 24]
         slots(t, 5),
         slots(t, 6),
         slots(t, 7),
-        0,
+        state.deficit,
         0,
         0,
         0,
@@ -448,10 +463,10 @@ fn leave(state: &mut [u64; 24], refusal: u64, after: State)
 // ---- the exported functions
 
 // FENHAMPER_LAYOUT of the header. The symbol's name has it too, so that what was compiled for another layout does not link.
-const LAYOUT: u32 = 2;
+const LAYOUT: u32 = 3;
 
 #[no_mangle]
-pub extern "C" fn fenhamper_layout_2() -> u32
+pub extern "C" fn fenhamper_layout_3() -> u32
     ensures { λ r. ⌜ r ≡ layout ⌝ }
 {
     LAYOUT
@@ -527,6 +542,7 @@ pub extern "C" fn fenhamper_walk(
 pub extern "C" fn fenhamper_send_client(
     s: &[u8; 48],
     state: &mut [u64; 24],
+    port: u8,
     octets: &mut [u8],
     marks: &mut [u8],
     place: usize,
@@ -535,11 +551,12 @@ pub extern "C" fn fenhamper_send_client(
     answer: &mut [u64; 2],
 )
     ensures { λ _. ⌜ wrote (now (answer .exit)) (now (state .exit)) (now (octets .exit)) (now (marks .exit))
-        ≡ sendTold (now (state .entry)) (clientSending (settingsOf (now (s .entry))) (stateOf (now (state .entry))) (now (octets .entry)) (now (marks .entry)) place (clientOf (now (frame .entry))) (now («data» .entry))) ⌝ }
+        ≡ sendTold (now (state .entry)) (clientSending (settingsOf (now (s .entry))) (stateOf (now (state .entry))) (portOf port) (now (octets .entry)) (now (marks .entry)) place (clientOf (now (frame .entry))) (now («data» .entry))) ⌝ }
 {
     let r = send::send_client(
         settings(s),
         state_of(state),
+        port_of(port),
         octets,
         marks,
         place,
@@ -554,6 +571,7 @@ pub extern "C" fn fenhamper_send_client(
 pub extern "C" fn fenhamper_send_pause(
     s: &[u8; 48],
     state: &mut [u64; 24],
+    port: u8,
     octets: &mut [u8],
     marks: &mut [u8],
     place: usize,
@@ -561,11 +579,12 @@ pub extern "C" fn fenhamper_send_pause(
     answer: &mut [u64; 2],
 )
     ensures { λ _. ⌜ wrote (now (answer .exit)) (now (state .exit)) (now (octets .exit)) (now (marks .exit))
-        ≡ sendTold (now (state .entry)) (pauseSending (settingsOf (now (s .entry))) (stateOf (now (state .entry))) (now (octets .entry)) (now (marks .entry)) place (quantaOf quanta)) ⌝ }
+        ≡ sendTold (now (state .entry)) (pauseSending (settingsOf (now (s .entry))) (stateOf (now (state .entry))) (portOf port) (now (octets .entry)) (now (marks .entry)) place (quantaOf quanta)) ⌝ }
 {
     let r = send::send_pause(
         settings(s),
         state_of(state),
+        port_of(port),
         octets,
         marks,
         place,
@@ -579,6 +598,7 @@ pub extern "C" fn fenhamper_send_pause(
 pub extern "C" fn fenhamper_send_pfc(
     s: &[u8; 48],
     state: &mut [u64; 24],
+    port: u8,
     octets: &mut [u8],
     marks: &mut [u8],
     place: usize,
@@ -587,11 +607,12 @@ pub extern "C" fn fenhamper_send_pfc(
     answer: &mut [u64; 2],
 )
     ensures { λ _. ⌜ wrote (now (answer .exit)) (now (state .exit)) (now (octets .exit)) (now (marks .exit))
-        ≡ sendTold (now (state .entry)) (pfcSending (settingsOf (now (s .entry))) (stateOf (now (state .entry))) (now (octets .entry)) (now (marks .entry)) place (classesOf named (now (quanta .entry)))) ⌝ }
+        ≡ sendTold (now (state .entry)) (pfcSending (settingsOf (now (s .entry))) (stateOf (now (state .entry))) (portOf port) (now (octets .entry)) (now (marks .entry)) place (classesOf named (now (quanta .entry)))) ⌝ }
 {
     let r = send::send_pfc(
         settings(s),
         state_of(state),
+        port_of(port),
         octets,
         marks,
         place,

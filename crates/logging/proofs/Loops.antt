@@ -161,6 +161,6 @@ module _ (s : Settings) (os ms : List ℕ) (p : ℕ) (fine : first (readRefusals
     pub loop-next : (l : List ℕ) (k : ℕ) → 16 * k + 16 ≤ length l → k ≡ frontCount l
         → let m : List ℕ = overwrite l (16 * k) (octetsOfRecord kept) in unusedFrom m (k + 1) ≡ frontCount m
     loop-next l k h g =
-        let st : State = record { counters = []; timers = [] } in
+        let st : State = record { counters = []; timers = []; deficit = 0 } in
         let fits : Fits kept = subst Fits (sym (ap recordOfReading (is st)) ∙ same st) (reading-fits s st os ms p fine) in
         next-unused l k kept fits (frame-some s i (frameOf run) becomes) h g

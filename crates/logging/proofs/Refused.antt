@@ -10,7 +10,7 @@ use Rattle.line.proofs.Symbols.{by-test}
 use Rattle.station.specs.declared.Settings.{Settings}
 use Rattle.station.specs.declared.State.{State}
 use Rattle.station.specs.declared.Refusal.{Refusal}
-use Rattle.station.specs.declared.Refusal.the-variants.{BadSettings, BadBuffers, BadPlace, OtherFlow, BadClass, BadType, LongData, NoRoom, Held, ManyTags}
+use Rattle.station.specs.declared.Refusal.the-variants.{BadSettings, BadBuffers, BadPlace, OtherFlow, BadClass, BadType, LongData, NoRoom, Held, ManyTags, HighDeficit}
 use Rattle.station.specs.declared.Checked.{Checked}
 use Rattle.station.specs.Numbers.{refusalNumber}
 use Rattle.log.specs.declared.LogRefusal.the-variants.{BadLog}
@@ -32,18 +32,19 @@ use Rattle.logging.proofs.Readings.{reading-sound}
 use Rattle.logging.proofs.Refusals.{keep-read, keep-goes, keep-bad}
 use Rattle.logging.proofs.Turns.{turn-none, turn-open, by-appending, walk-refused, walk-fine}
 
--- document 01's refusals are 1 to 10
-pub number-range : (x : Refusal) → (0 < refusalNumber x) × (refusalNumber x ≤ 10)
-number-range BadSettings = (omega arith, omega arith)
-number-range BadBuffers = (omega arith, omega arith)
-number-range BadPlace = (omega arith, omega arith)
-number-range OtherFlow = (omega arith, omega arith)
-number-range BadClass = (omega arith, omega arith)
-number-range BadType = (omega arith, omega arith)
-number-range LongData = (omega arith, omega arith)
-number-range NoRoom = (omega arith, omega arith)
-number-range Held = (omega arith, omega arith)
-number-range ManyTags = (omega arith, omega arith)
+-- no refusal of a reading or a sending call has the number 0, nor the 11 of a log
+pub number-apart : (x : Refusal) → (0 < refusalNumber x) × (refusalNumber x ≡ 11 → ⊥)
+number-apart BadSettings = (omega arith, λ h. omega arith)
+number-apart BadBuffers = (omega arith, λ h. omega arith)
+number-apart BadPlace = (omega arith, λ h. omega arith)
+number-apart OtherFlow = (omega arith, λ h. omega arith)
+number-apart BadClass = (omega arith, λ h. omega arith)
+number-apart BadType = (omega arith, λ h. omega arith)
+number-apart LongData = (omega arith, λ h. omega arith)
+number-apart NoRoom = (omega arith, λ h. omega arith)
+number-apart Held = (omega arith, λ h. omega arith)
+number-apart ManyTags = (omega arith, λ h. omega arith)
+number-apart HighDeficit = (omega arith, λ h. omega arith)
 
 -- ---- a walk whose first reading is not refused goes on
 
@@ -59,7 +60,7 @@ module _ (s : Settings) (os ms : List ℕ) where
       → (a : Answer) → reading s st os ms p .answer ≡ a → GoesFrom (suc most) st p
   goes-turn most st p fine ih (Answer.Refused x) e n l =
       let z : refusalNumber x ≡ 0 = sym (ap answerRefusal e) ∙ reading-sound s st os ms p fine .refused in
-      let b = number-range x .0 in
+      let b = number-apart x .0 in
       absurd (let w : ⊥ = omega arith in w)
   goes-turn most st p fine ih Answer.Nothing e n l =
       ap (λ (k : Keeping). endRefusal (k .given .end)) (turn-none s st os ms p n l (suc most) (omega arith) _ refl e)
@@ -96,10 +97,10 @@ walk-refuses s st os ms p l = by-checked (first (readRefusals s os ms p)) refl
         let n : endRefusal (walkLogged s st os ms p l .given .end) ≡ refusalNumber x = ap (λ (k : Keeping). endRefusal (k .given .end)) h in
         let a : answerRefusal (reading s st os ms p .answer) ≡ refusalNumber x
         = ap (λ (r : Reading). answerRefusal (r .answer)) (read-refused s st os ms p x e) in
-        let some = number-range x in
+        let some = number-apart x in
         record {
           reads = λ _. n ∙ sym a;
-          eleven = ((λ z. absurd (let w : ⊥ = omega arith in w)), (λ z. absurd (let b = z .0 in let w : ⊥ = omega arith in w)));
+          eleven = ((λ z. absurd (some .1 (sym n ∙ z))), (λ z. absurd (let b = z .0 in let w : ⊥ = omega arith in w)));
           goes = λ z _. absurd (let w : ⊥ = omega arith in w);
           refused = λ _. refused-as _ h;
         }

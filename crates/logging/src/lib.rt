@@ -204,7 +204,11 @@ fn keep_on(
         let Found::At(start) = line::find_start(octets, marks, at) else {
             return LogWalk {
                 end: LogEnd::Nothing,
-                state: State { counters, timers },
+                state: State {
+                    counters,
+                    timers,
+                    deficit: state.deficit,
+                },
                 next: octets.len(),
                 kept: n,
             };
@@ -213,7 +217,11 @@ fn keep_on(
         let Found::At(end) = line::find_control(octets, marks, from) else {
             return LogWalk {
                 end: LogEnd::Open,
-                state: State { counters, timers },
+                state: State {
+                    counters,
+                    timers,
+                    deficit: state.deficit,
+                },
                 next: start,
                 kept: n,
             };
@@ -221,7 +229,11 @@ fn keep_on(
         if k == records {
             return LogWalk {
                 end: LogEnd::Full,
-                state: State { counters, timers },
+                state: State {
+                    counters,
+                    timers,
+                    deficit: state.deficit,
+                },
                 next: at,
                 kept: n,
             };

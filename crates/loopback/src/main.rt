@@ -2,9 +2,11 @@
 // and the readings from place 0 and the walk are printed; tools/oracle/loopback.py works the expected lines out from the oracle's model.
 use receive::Answer;
 use receive::Walked;
+use send::Sent;
 use station::Address;
 use station::Flow;
 use station::Part;
+use station::Port;
 use station::Settings;
 use station::State;
 use writing::Client;
@@ -56,7 +58,16 @@ fn client(count: u8, form: Form) -> Client {
 
 // A frame from station 1 at a place; the next place.
 fn sent(o: &mut [u8], m: &mut [u8], place: usize, c: Client, d: &[u8]) -> usize {
-    let r = send::send_client(settings(1), station::fresh_state(), o, m, place, c, d);
+    let r = send::send_client(
+        settings(1),
+        station::fresh_state(),
+        Port::Plain,
+        o,
+        m,
+        place,
+        c,
+        d,
+    );
     r.place
 }
 
@@ -274,6 +285,49 @@ fn open_behind() {
     every(b"open behind", &o, &m);
 }
 
+// A frame from station 1 on the four-lane port, from where the one before ended and with the state that it left.
+fn on_lanes(o: &mut [u8], m: &mut [u8], before: Sent, d: &[u8]) -> Sent {
+    let c = client(0, Form::ByLength);
+    send::send_client(
+        settings(1),
+        before.state,
+        Port::FourLane,
+        o,
+        m,
+        before.place,
+        c,
+        d,
+    )
+}
+
+// Frames on the four-lane port, of which an Error cuts the first: gaps of 12, 11, 10 and 13.
+fn four_lanes() {
+    let mut o = [0u8; 400];
+    let mut m = [0u8; 400];
+    let start = send::fill_idle(station::fresh_state(), &mut o, &mut m, 0, 0);
+    let a = on_lanes(&mut o, &mut m, start, b"cut");
+    damage(&mut o, &mut m, 40, 0xFE, 1);
+    let b = on_lanes(
+        &mut o,
+        &mut m,
+        a,
+        b"forty-seven octets: behind them a gap of eleven",
+    );
+    let c = on_lanes(
+        &mut o,
+        &mut m,
+        b,
+        b"forty-eight octets, and behind them a gap of ten",
+    );
+    on_lanes(
+        &mut o,
+        &mut m,
+        c,
+        b"forty-nine octets: behind them a gap of thirteen!",
+    );
+    every(b"four lanes", &o, &m);
+}
+
 fn main() {
     clean();
     cut();
@@ -281,4 +335,5 @@ fn main() {
     overrun();
     noise();
     open_behind();
+    four_lanes();
 }

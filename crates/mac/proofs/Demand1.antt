@@ -17,6 +17,7 @@ use Rattle.line.specs.Table.{Row, Table, otherwise, _∣_, first}
 use Rattle.line.proofs.Symbols.{by-test}
 use Rattle.line.proofs.Tables.{first-here, first-next, first-other}
 use Rattle.station.specs.declared.Settings.{Settings}
+use Rattle.station.specs.declared.Port.{Port}
 use Rattle.station.specs.declared.State.{State}
 use Rattle.station.specs.declared.Quanta.{Quanta}
 use Rattle.station.specs.declared.Checked.{Checked}
@@ -31,8 +32,8 @@ use Rattle.receive.specs.Values.{answerRefusal, walkedRefusal}
 use Rattle.receive.specs.Walk.{walkOf, walked}
 use Rattle.writing.specs.declared.Client.{Client}
 use Rattle.writing.specs.declared.Classes.{Classes}
-use Rattle.writing.specs.Frames.{plainIdles, clientSymbols, pauseSymbols, pfcSymbols, idleSymbols}
-use Rattle.send.specs.Sending.{wentRefusal, sendChecked, clientRefusals, controlRefusals, idleRefusals, clientChecked, pauseChecked, pfcChecked, idleChecked, clientSending, pauseSending, pfcSending, idleSending}
+use Rattle.writing.specs.Frames.{clientBody, pauseBody, pfcBody, idleSymbols}
+use Rattle.send.specs.Sending.{wentRefusal, sendChecked, clientRefusals, controlRefusals, idleRefusals, clientChecked, pauseChecked, pfcChecked, idleChecked, frameSending, clientSending, pauseSending, pfcSending, idleSending}
 use Rattle.mac.specs.Demand1.{numbersOf, rowHolds, placeIn, NoneBefore, Exactly, ReadRefused, SendRefused, ReadsOrRefuses, SendsOrRefuses}
 use Rattle.receive.proofs.Walks.{through, walk-through, walked-refused}
 
@@ -226,55 +227,62 @@ walk-refuses s st os ms =
 
 -- ---- the sending calls
 
-send-number : (k : Checked) (st : State) (os ms : List ℕ) (place : ℕ) (new : List Symbol)
-    → wentRefusal (sendChecked k st os ms place new .given .answer) ≡ checkedNumber k
+send-number : (k : Checked) (st : State) (os ms : List ℕ) (place : ℕ) (new : List Symbol) (count : ℕ)
+    → wentRefusal (sendChecked k st os ms place new count .given .answer) ≡ checkedNumber k
 unfolding sendChecked
-send-number (Refused x) st os ms place new = refl
-send-number Fine st os ms place new = refl
+send-number (Refused x) st os ms place new count = refl
+send-number Fine st os ms place new count = refl
 
-send-kept : (k : Checked) (st : State) (os ms : List ℕ) (place : ℕ) (new : List Symbol)
-    → 0 < checkedNumber k → SendRefused st os ms place (sendChecked k st os ms place new)
+send-kept : (k : Checked) (st : State) (os ms : List ℕ) (place : ℕ) (new : List Symbol) (count : ℕ)
+    → 0 < checkedNumber k → SendRefused st os ms place (sendChecked k st os ms place new count)
 unfolding sendChecked
-send-kept (Refused x) st os ms place new h = record { at = refl; state = refl; octets = refl; marks = refl }
-send-kept Fine st os ms place new h = absurd (omega arith)
+send-kept (Refused x) st os ms place new count h = record { at = refl; state = refl; octets = refl; marks = refl }
+send-kept Fine st os ms place new count h = absurd (omega arith)
 
--- a call is its table and the symbols it would write
-send-refuses : {rows : Table Checked} {numbers : List ℕ} → Listed rows numbers → (st : State) (os ms : List ℕ) (place : ℕ) (new : List Symbol)
-    → SendsOrRefuses rows numbers st os ms place (sendChecked (first rows) st os ms place new)
-send-refuses {rows} w st os ms place new =
-    let n = send-number (first rows) st os ms place new in
+-- a call is its table, the symbols it would write and the deficit count after them
+send-refuses : {rows : Table Checked} {numbers : List ℕ} → Listed rows numbers → (st : State) (os ms : List ℕ) (place : ℕ) (new : List Symbol) (count : ℕ)
+    → SendsOrRefuses rows numbers st os ms place (sendChecked (first rows) st os ms place new count)
+send-refuses {rows} w st os ms place new count =
+    let n = send-number (first rows) st os ms place new count in
     record {
       exactly = exactly w n;
-      refused = λ h. send-kept (first rows) st os ms place new (omega arith);
+      refused = λ h. send-kept (first rows) st os ms place new count (omega arith);
     }
 
-module _ (s : Settings) (st : State) (os ms : List ℕ) (place : ℕ) where
-  client-listed : (c : Client) (d : List ℕ) → Listed (clientRefusals s st os ms place c d) (1 ∷ 2 ∷ 3 ∷ 5 ∷ 6 ∷ 10 ∷ 7 ∷ 8 ∷ 9 ∷ [])
+-- a frame on a port, of what its FCS covers
+frame-refuses : {rows : Table Checked} {numbers : List ℕ} → Listed rows numbers → (st : State) (port : Port) (os ms : List ℕ) (place : ℕ) (body : List ℕ)
+    → SendsOrRefuses rows numbers st os ms place (frameSending (first rows) st port os ms place body)
+unfolding frameSending
+frame-refuses w st port os ms place body = send-refuses w st os ms place _ _
+
+module _ (s : Settings) (st : State) (port : Port) (os ms : List ℕ) (place : ℕ) where
+  client-listed : (c : Client) (d : List ℕ) → Listed (clientRefusals s st port os ms place c d) (1 ∷ 2 ∷ 3 ∷ 19 ∷ 5 ∷ 6 ∷ 10 ∷ 7 ∷ 8 ∷ 9 ∷ [])
   unfolding clientRefusals numbersOf repeats isIn
   client-listed c d = (refl, refl)
 
-  -- "client sending 1 to 3 and 5 to 9"; 10 "tested after 6 and before 7"
+  -- "client sending 1 to 3 and 5 to 9"; 10 "tested after 6 and before 7"; document 02, item 5: "3 …, then new 19"
   pub client-refuses : (c : Client) (d : List ℕ)
-      → SendsOrRefuses (clientRefusals s st os ms place c d) (1 ∷ 2 ∷ 3 ∷ 5 ∷ 6 ∷ 10 ∷ 7 ∷ 8 ∷ 9 ∷ []) st os ms place (clientSending s st os ms place c d)
+      → SendsOrRefuses (clientRefusals s st port os ms place c d) (1 ∷ 2 ∷ 3 ∷ 19 ∷ 5 ∷ 6 ∷ 10 ∷ 7 ∷ 8 ∷ 9 ∷ [])
+      st os ms place (clientSending s st port os ms place c d)
   unfolding clientSending clientChecked
-  client-refuses c d = send-refuses (client-listed c d) st os ms place (clientSymbols plainIdles s c d)
+  client-refuses c d = frame-refuses (client-listed c d) st port os ms place (clientBody s c d)
 
-  -- "pause and PFC 1 to 4 and 8"
-  control-listed : (inMode : Bool) (new : List Symbol) → Listed (controlRefusals s os ms place inMode new) (1 ∷ 2 ∷ 3 ∷ 4 ∷ 8 ∷ [])
+  -- "pause and PFC 1 to 4 and 8", and 19 behind 3
+  control-listed : (inMode : Bool) (body : List ℕ) → Listed (controlRefusals s port (st .deficit) os ms place inMode body) (1 ∷ 2 ∷ 3 ∷ 19 ∷ 4 ∷ 8 ∷ [])
   unfolding controlRefusals numbersOf repeats isIn
-  control-listed inMode new = (refl, refl)
+  control-listed inMode body = (refl, refl)
 
   pub pause-refuses : (q : Quanta)
-      → SendsOrRefuses (controlRefusals s os ms place (isPauseMode (s .flow)) (pauseSymbols plainIdles s q)) (1 ∷ 2 ∷ 3 ∷ 4 ∷ 8 ∷ [])
-      st os ms place (pauseSending s st os ms place q)
+      → SendsOrRefuses (controlRefusals s port (st .deficit) os ms place (isPauseMode (s .flow)) (pauseBody s q)) (1 ∷ 2 ∷ 3 ∷ 19 ∷ 4 ∷ 8 ∷ [])
+      st os ms place (pauseSending s st port os ms place q)
   unfolding pauseSending pauseChecked
-  pause-refuses q = send-refuses (control-listed (isPauseMode (s .flow)) (pauseSymbols plainIdles s q)) st os ms place (pauseSymbols plainIdles s q)
+  pause-refuses q = frame-refuses (control-listed (isPauseMode (s .flow)) (pauseBody s q)) st port os ms place (pauseBody s q)
 
   pub pfc-refuses : (k : Classes)
-      → SendsOrRefuses (controlRefusals s os ms place (isPfcMode (s .flow)) (pfcSymbols plainIdles s k)) (1 ∷ 2 ∷ 3 ∷ 4 ∷ 8 ∷ [])
-      st os ms place (pfcSending s st os ms place k)
+      → SendsOrRefuses (controlRefusals s port (st .deficit) os ms place (isPfcMode (s .flow)) (pfcBody s k)) (1 ∷ 2 ∷ 3 ∷ 19 ∷ 4 ∷ 8 ∷ [])
+      st os ms place (pfcSending s st port os ms place k)
   unfolding pfcSending pfcChecked
-  pfc-refuses k = send-refuses (control-listed (isPfcMode (s .flow)) (pfcSymbols plainIdles s k)) st os ms place (pfcSymbols plainIdles s k)
+  pfc-refuses k = frame-refuses (control-listed (isPfcMode (s .flow)) (pfcBody s k)) st port os ms place (pfcBody s k)
 
 idle-listed : (os ms : List ℕ) (place : ℕ) (new : List Symbol) → Listed (idleRefusals os ms place new) (2 ∷ 3 ∷ 8 ∷ [])
 unfolding idleRefusals numbersOf repeats isIn
@@ -284,4 +292,4 @@ idle-listed os ms place new = (refl, refl)
 pub idle-refuses : (st : State) (os ms : List ℕ) (place n : ℕ)
     → SendsOrRefuses (idleRefusals os ms place (idleSymbols n)) (2 ∷ 3 ∷ 8 ∷ []) st os ms place (idleSending st os ms place n)
 unfolding idleSending idleChecked
-idle-refuses st os ms place n = send-refuses (idle-listed os ms place (idleSymbols n)) st os ms place (idleSymbols n)
+idle-refuses st os ms place n = send-refuses (idle-listed os ms place (idleSymbols n)) st os ms place (idleSymbols n) (st .deficit)

@@ -33,7 +33,7 @@ unfolding metStarts isStart isControl isData asControl
 idle-skipped zero at rest = ap (λ (k : ℕ). metStarts k rest) (let e : at ≡ at + 0 = omega arith in e)
 idle-skipped (suc n) at rest = idle-skipped n (at + 1) rest ∙ ap (λ (k : ℕ). metStarts k rest) (let e : at + 1 + n ≡ at + suc n = omega arith in e)
 
-gap-skipped : (idles at : ℕ) (rest : List Symbol) → metStarts at (gap idles ++ rest) ≡ metStarts (at + 1 + idles) rest
+pub gap-skipped : (idles at : ℕ) (rest : List Symbol) → metStarts at (gap idles ++ rest) ≡ metStarts (at + 1 + idles) rest
 unfolding gap metStarts isStart isControl isData asControl
 gap-skipped idles at rest = idle-skipped idles (at + 1) rest
 

@@ -6,6 +6,7 @@ pub mod Each
 pub mod Leaves
 pub mod LikeError
 pub mod Limits
+pub mod Port
 pub mod Quiet
 pub mod Row
 pub mod Seam

@@ -15,16 +15,18 @@ use Rattle.line.specs.Table.{Table, _⇒_, _∣_, first}
 use Rattle.line.proofs.Symbols.{by-test}
 use Rattle.line.proofs.Tables.{first-here, first-next}
 use Rattle.station.specs.declared.Settings.{Settings}
+use Rattle.station.specs.declared.Port.{Port}
 use Rattle.station.specs.declared.State.{State}
 use Rattle.station.specs.declared.Quanta.{Quanta}
 use Rattle.station.specs.declared.Slots.{Slots}
 use Rattle.station.specs.declared.Refusal.{Refusal}
-use Rattle.station.specs.declared.Refusal.the-variants.{BadSettings, BadBuffers, BadPlace, BadClass, BadType, LongData, NoRoom, Held, ManyTags}
+use Rattle.station.specs.declared.Refusal.the-variants.{BadSettings, BadBuffers, BadPlace, BadClass, BadType, LongData, NoRoom, Held, ManyTags, HighDeficit}
 use Rattle.station.specs.declared.Checked.{Checked}
 use Rattle.station.specs.declared.Checked.the-variants.{Refused}
 use Rattle.flow.specs.Timers.{timer}
 use Rattle.writing.specs.declared.Client.{Client}
-use Rattle.writing.specs.Frames.{plainIdles, clientSymbols}
+use Rattle.writing.specs.Frames.{clientBody}
+use Rattle.writing.specs.Gaps.{symbolsOn}
 use Rattle.send.specs.Sending.{held, written, clientRefusals, clientChecked}
 use Rattle.mac.specs.Calls.{Call, reads, walks, sendsClient, sendsPause, sendsPfc, fillsIdle, afterCall, writes, setsClass, NoneSets, isClientOf, clientStarts, allClientStarts}
 use Rattle.mac.proofs.Timers.{call-lowers, timer-set}
@@ -36,26 +38,27 @@ still : (b : Bool) (x : Refusal) (rows : Table Checked) → ((y : Refusal) × (f
 still true x rows h = (x, first-here (Refused x) rows refl)
 still false x rows h = (h .0, first-next (Refused x) rows refl ∙ h .1)
 
-held-refused : (s : Settings) (st : State) (os ms : List ℕ) (p : ℕ) (c : Client) (d : List ℕ) → held st (c .class) ≡ true
-    → (y : Refusal) × (clientChecked s st os ms p c d ≡ Refused y)
+held-refused : (s : Settings) (st : State) (port : Port) (os ms : List ℕ) (p : ℕ) (c : Client) (d : List ℕ) → held st (c .class) ≡ true
+    → (y : Refusal) × (clientChecked s st port os ms p c d ≡ Refused y)
 unfolding clientChecked clientRefusals
-held-refused s st os ms p c d h =
+held-refused s st port os ms p c d h =
     still _ BadSettings _
     (still _ BadBuffers _
     (still _ BadPlace _
-    (still _ BadClass _ (still _ BadType _ (still _ ManyTags _ (still _ LongData _ (still _ NoRoom _ (Held, first-here (Refused Held) _ h))))))))
+    (still _ HighDeficit _
+    (still _ BadClass _ (still _ BadType _ (still _ ManyTags _ (still _ LongData _ (still _ NoRoom _ (Held, first-here (Refused Held) _ h)))))))))
 
 -- a held class: a call that sends a client frame of it writes nothing
 held-writes-none : (st : State) (k : ℕ) → 0 < timer (st .timers) k .0 → (c : Call) → isClientOf k c ≡ true → writes st c ≡ []
 unfolding isClientOf writes held
 held-writes-none st k h (reads s os ms p) e = refl
 held-writes-none st k h (walks s os ms) e = refl
-held-writes-none st k h (sendsClient s os ms p c d) e =
+held-writes-none st k h (sendsClient s port os ms p c d) e =
     let above : 0 < timer (st .timers) (c .class) .0 = subst (λ (i : ℕ). 0 < timer (st .timers) i .0) (sym (eqb-true (c .class) k e)) h in
-    let refused = held-refused s st os ms p c d (lt-ltb 0 (timer (st .timers) (c .class) .0) above) in
-    ap (λ (r : Checked). written r (clientSymbols plainIdles s c d)) (refused .1) ∙ (unfold written in refl)
-held-writes-none st k h (sendsPause s os ms p q) e = absurd (false≢true e)
-held-writes-none st k h (sendsPfc s os ms p c) e = absurd (false≢true e)
+    let refused = held-refused s st port os ms p c d (lt-ltb 0 (timer (st .timers) (c .class) .0) above) in
+    ap (λ (r : Checked). written r (symbolsOn port (st .deficit) p (clientBody s c d))) (refused .1) ∙ (unfold written in refl)
+held-writes-none st k h (sendsPause s port os ms p q) e = absurd (false≢true e)
+held-writes-none st k h (sendsPfc s port os ms p c) e = absurd (false≢true e)
 held-writes-none st k h (fillsIdle os ms p n) e = absurd (false≢true e)
 
 none-starts : (b : Bool) (l : List Symbol) → (b ≡ true → l ≡ []) → (j : ℕ) → getD (map (λ (x : Symbol). b && isStart x) l) j false ≡ false

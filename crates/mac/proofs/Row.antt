@@ -1,6 +1,6 @@
--- Claim 6, sending in a row: client calls that are not refused, each at the place the one before gave, leave the frames' symbols back to back and
--- every other symbol as it was (`row`); and read back they hand out the frames' data (`sent-then-read`), which closes demand 3 from the sending
--- calls to the readings. Assumes nothing.
+-- Claim 6, sending in a row: client calls that are not refused, each on its own port and at the place the one before gave, leave the frames' symbols
+-- back to back and every other symbol as it was (`row`); and read back they hand out the frames' data (`sent-then-read`), which closes demand 3 from the
+-- sending calls to the readings. Assumes nothing.
 use Prim.Native.Nat.{ℕ, _+_, _≤_}
 use native.Mathlib.Omega.{arith}
 use mathlib.Core.Path.{_≡_, refl, sym, ap, ap₂, _∙_, subst}
@@ -17,12 +17,13 @@ use Rattle.station.specs.declared.Checked.the-variants.{Fine}
 use Rattle.station.specs.Station.{badSettings}
 use Rattle.receive.specs.Walk.{walk, handedOut}
 use Rattle.receive.proofs.Refusals.{fine as refuses-none}
-use Rattle.writing.specs.Frames.{plainIdles, clientSymbols}
+use Rattle.writing.specs.Frames.{clientBody, clientSymbols}
+use Rattle.writing.specs.Gaps.{gapOn, symbolsOn}
 use borrow.Author.Tests.{le-ltb}
-use Rattle.send.specs.Sending.{Sending, manyTags, sendChecked, clientChecked, clientSending}
+use Rattle.send.specs.Sending.{Sending, manyTags, sendChecked, frameSending, clientChecked, clientSending}
 use Rattle.send.proofs.Refusals.{Passed, passed}
 use Rattle.mac.specs.Demand2.{Readable}
-use Rattle.mac.specs.Demand3.{Frame, rowSymbols, allDelivered, AllWelcome, AllCarried, alone, Asked, frameSent, rowFrames, sendNext, sendRow, rowFrom, NoneRefused, BackToBack, left, before, behind}
+use Rattle.mac.specs.Demand3.{Frame, rowSymbols, allDelivered, AllWelcome, AllCarried, alone, Asked, frameSent, rowFrames, sendNext, sendRow, rowFrom, NoneRefused, BackToBack, left, framesLeft, before, behind}
 use Rattle.mac.proofs.Demand3.{demand3-within}
 
 -- writing both buffers' octets of a list of symbols in two steps
@@ -34,18 +35,25 @@ two-steps l p n a b ab e d h =
     ∙ ap (overwrite l p) (sym d)
 
 module _ (tx : Settings) where
-  -- the symbols of one call, and the call
-  abbrev symbolsOf : Asked → List Symbol
-  symbolsOf a = clientSymbols plainIdles tx (a .client) (a .octets)
+  -- what the FCS of one call's frame covers, the frame's symbols, and the deficit count after it
+  abbrev bodyOf : Asked → List ℕ
+  bodyOf a = clientBody tx (a .client) (a .octets)
 
-  next-is : (x : Sending) (a : Asked) → clientChecked tx (x .given .state) (x .octets) (x .marks) (x .given .place) (a .client) (a .octets) ≡ Fine
-      → sendNext tx x a ≡ sendChecked Fine (x .given .state) (x .octets) (x .marks) (x .given .place) (symbolsOf a)
-  unfolding sendNext clientSending
-  next-is x a h = ap (λ (k : Checked). sendChecked k (x .given .state) (x .octets) (x .marks) (x .given .place) (symbolsOf a)) h
+  abbrev symbolsOf : Sending → Asked → List Symbol
+  symbolsOf x a = symbolsOn (a .port) (x .given .state .deficit) (x .given .place) (bodyOf a)
+
+  abbrev countOf : Sending → Asked → ℕ
+  countOf x a = gapOn (a .port) (x .given .state .deficit) (x .given .place) (bodyOf a) .count
+
+  -- the call
+  next-is : (x : Sending) (a : Asked) → clientChecked tx (x .given .state) (a .port) (x .octets) (x .marks) (x .given .place) (a .client) (a .octets) ≡ Fine
+      → sendNext tx x a ≡ sendChecked Fine (x .given .state) (x .octets) (x .marks) (x .given .place) (symbolsOf x a) (countOf x a)
+  unfolding sendNext clientSending frameSending
+  next-is x a h = ap (λ (k : Checked). sendChecked k (x .given .state) (x .octets) (x .marks) (x .given .place) (symbolsOf x a) (countOf x a)) h
 
   pub row : (x : Sending) (asked : List Asked) → length (x .octets) ≡ length (x .marks) → x .given .place ≤ length (x .octets) → NoneRefused tx x asked
-      → BackToBack tx x (sendRow tx x asked) (rowFrames asked)
-  unfolding sendRow rowSymbols NoneRefused octetsOf marksOf
+      → BackToBack tx x (sendRow tx x asked) (rowFrames tx x asked)
+  unfolding sendRow rowFrames frameSent rowSymbols clientSymbols symbolsOn NoneRefused octetsOf marksOf
   row x [] even inside w =
       record {
         octets = sym (overwrite-none (x .octets) (x .given .place));
@@ -54,12 +62,12 @@ module _ (tx : Settings) where
         room = omega arith;
       }
   row x (a ∷ asked) even inside w =
-      let new : List Symbol = symbolsOf a in
-      let rest : List Symbol = rowSymbols tx (rowFrames asked) in
+      let new : List Symbol = symbolsOf x a in
       let p : ℕ = x .given .place in
       let y : Sending = sendNext tx x a in
-      let k = passed tx (x .given .state) (x .octets) (x .marks) p (a .client) (a .octets) (w .0) in
-      let fits : p + length new ≤ length (x .octets) = k .room in
+      let rest : List Symbol = rowSymbols tx (rowFrames tx y asked) in
+      let k = passed tx (x .given .state) (a .port) (x .octets) (x .marks) p (a .client) (a .octets) (w .0) in
+      let fits : p + length new ≤ length (x .octets) = k .framed .room in
       let e = next-is x a (w .0) in
       let no = length-octetsOf new in
       let nm = length-marksOf new in
@@ -83,43 +91,49 @@ module _ (tx : Settings) where
 -- ---- read back
 
 -- frames that the sender does not refuse, and that the receiver's settings welcome
-carried : (tx rx : Settings) (x : Sending) (asked : List Asked) → NoneRefused tx x asked → AllWelcome tx rx (rowFrames asked)
-    → AllCarried tx rx (rowFrames asked)
-unfolding NoneRefused AllWelcome AllCarried
+carried : (tx rx : Settings) (x : Sending) (asked : List Asked) → NoneRefused tx x asked → AllWelcome tx rx (rowFrames tx x asked)
+    → AllCarried tx rx (rowFrames tx x asked)
+unfolding NoneRefused AllWelcome AllCarried rowFrames frameSent
 carried tx rx x [] w v = tt
 carried tx rx x (a ∷ asked) w v =
-    let k = passed tx (x .given .state) (x .octets) (x .marks) (x .given .place) (a .client) (a .octets) (w .0) in
+    let k = passed tx (x .given .state) (a .port) (x .octets) (x .marks) (x .given .place) (a .client) (a .octets) (w .0) in
     let few : manyTags (a .client) ≡ false = (unfold manyTags in le-ltb 8 (a .client .count) (k .tags)) in
     (record { welcome = v .0; form = k .type; few = few; short = k .short }, carried tx rx (sendNext tx x a) asked (w .1) (v .1))
 
--- a sender tx and a receiver rx with settings of its own, which are valid and check lengths; one frame or more, from a place of any buffers on
+-- a sender tx and a receiver rx with settings of its own, which are valid and check lengths; one frame or more, each on a port of its own, from a place
+-- of any buffers on
 module _ (tx rx : Settings) (valid : badSettings rx ≡ false) (checks : rx .checking ≡ true) (st : State) (os ms : List ℕ) (place : ℕ)
-    (a : Asked) (asked : List Asked) (w : NoneRefused tx (rowFrom st os ms place) (a ∷ asked)) (v : AllWelcome tx rx (rowFrames (a ∷ asked))) where
-  -- the symbols that are written, and what the calls leave
+    (a : Asked) (asked : List Asked) (w : NoneRefused tx (rowFrom st os ms place) (a ∷ asked))
+    (v : AllWelcome tx rx (framesLeft tx st os ms place (a ∷ asked))) where
+  -- the frames on the line, the symbols that are written, and what the calls leave
+  abbrev fs : List Frame
+  fs = framesLeft tx st os ms place (a ∷ asked)
+
   abbrev new : List Symbol
-  new = rowSymbols tx (rowFrames (a ∷ asked))
+  new = rowSymbols tx fs
 
   abbrev y : Sending
   y = left tx st os ms place (a ∷ asked)
 
-  sender : Passed tx os ms place (a .client) (a .octets)
+  sender : Passed tx st (a .port) os ms place (a .client) (a .octets)
   unfolding NoneRefused
-  sender = passed tx st os ms place (a .client) (a .octets) (w .0)
+  sender = passed tx st (a .port) os ms place (a .client) (a .octets) (w .0)
 
-  the-row : BackToBack tx (rowFrom st os ms place) y (rowFrames (a ∷ asked))
-  the-row = let k = sender in let r = k .room in row tx (rowFrom st os ms place) (a ∷ asked) (k .even) (omega arith) w
+  the-row : BackToBack tx (rowFrom st os ms place) y fs
+  the-row = let k = sender .framed in let r = k .room in row tx (rowFrom st os ms place) (a ∷ asked) (k .even) (omega arith) w
 
   -- the capture that the calls leave
   pub row-capture : let l = left tx st os ms place (a ∷ asked) in
-      capture (l .octets) (l .marks) ≡ before os ms place ++ (rowSymbols tx (rowFrames (a ∷ asked)) ++ behind tx os ms place (a ∷ asked))
+      capture (l .octets) (l .marks)
+      ≡ before os ms place ++ (rowSymbols tx (framesLeft tx st os ms place (a ∷ asked)) ++ behind tx st os ms place (a ∷ asked))
   row-capture =
       ap₂ capture (the-row .octets) (the-row .marks)
-      ∙ capture-overwrite os ms place new (sender .even)
-      ∙ (unfold overwrite in append-assoc (before os ms place) new (behind tx os ms place (a ∷ asked)))
+      ∙ capture-overwrite os ms place new (sender .framed .even)
+      ∙ (unfold overwrite in append-assoc (before os ms place) new (behind tx st os ms place (a ∷ asked)))
 
   readable : Readable rx (y .octets) (y .marks)
   readable =
-      let k = sender in
+      let k = sender .framed in
       let small = k .small in
       let even = k .even in
       let room = the-row .room in
@@ -129,8 +143,10 @@ module _ (tx rx : Settings) (valid : badSettings rx ≡ false) (checks : rx .che
 
   pub sent-then-read : (st′ : State) → let l = left tx st os ms place (a ∷ asked) in
       handedOut (l .octets) (walk rx st′ (l .octets) (l .marks))
-      ≡ alone rx st′ (before os ms place) ++ (allDelivered (rowFrames (a ∷ asked)) ++ alone rx st′ (behind tx os ms place (a ∷ asked)))
+      ≡ alone rx st′ (before os ms place)
+      ++ (allDelivered (framesLeft tx st os ms place (a ∷ asked)) ++ alone rx st′ (behind tx st os ms place (a ∷ asked)))
+  unfolding rowFrames
   sent-then-read st′ =
-      demand3-within tx rx st′ (y .octets) (y .marks) readable checks (before os ms place) (frameSent a) (rowFrames asked) (behind tx os ms place (a ∷ asked))
+      demand3-within tx rx st′ (y .octets) (y .marks) readable checks (before os ms place) _ _ (behind tx st os ms place (a ∷ asked))
       (carried tx rx (rowFrom st os ms place) (a ∷ asked) w v)
       row-capture

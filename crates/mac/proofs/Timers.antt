@@ -18,6 +18,7 @@ use Rattle.line.specs.Line.{Symbol, capture, findStart, AfterStart, unended, en
 use Rattle.line.specs.Table.{first}
 use Rattle.line.proofs.Symbols.{by-test}
 use Rattle.station.specs.declared.Settings.{Settings}
+use Rattle.station.specs.declared.Port.{Port}
 use Rattle.station.specs.declared.State.{State}
 use Rattle.station.specs.declared.Quanta.{Quanta}
 use Rattle.station.specs.declared.Slots.{Slots}
@@ -33,7 +34,7 @@ use Rattle.receive.specs.Reading.{stateAfter, readRun, readStart, readFound, re
 use Rattle.receive.specs.Walk.{walkOf, walked}
 use Rattle.receive.proofs.Walks.{through, walked-from, walked-refused}
 use Rattle.writing.specs.declared.Client.{Client}
-use Rattle.send.specs.Sending.{held, written, wentRefusal, stateSent, sendChecked, clientRefusals, clientSending, pauseSending, pfcSending, idleSending}
+use Rattle.send.specs.Sending.{held, written, wentRefusal, stateSent, sendChecked, clientRefusals, frameSending, clientSending, pauseSending, pfcSending, idleSending}
 use Rattle.mac.specs.Demand1.{rowHolds, NoneBefore}
 use Rattle.mac.specs.Calls.{Call, reads, walks, sendsClient, sendsPause, sendsPfc, fillsIdle, afterCall, afterCalls, writes, allWritten, names, quantaOf, setBy, setByStart, setByStarts, unlessRefused, startFound, startRead, startsWalked, setsClass, NoneSets}
 use Rattle.mac.proofs.Demand1.{client-refuses}
@@ -85,7 +86,7 @@ outcome-sets HandedOut f k ts h = refl
 
 -- ---- Starts read one after the other
 
-unfoldable afterStarts : Settings → State → List MetStart → State
+unfoldable pub afterStarts : Settings → State → List MetStart → State
 afterStarts s st [] = st
 afterStarts s st (m ∷ l) = afterStarts s (readStart s st (m .place) (m .follows) .state) l
 
@@ -136,7 +137,7 @@ unfolding readFound startFound afterStarts
 found-state s st c Nothing = refl
 found-state s st c (At i) = refl
 
-read-state : (s : Settings) (st : State) (os ms : List ℕ) (p : ℕ) (r : Checked)
+pub read-state : (s : Settings) (st : State) (os ms : List ℕ) (p : ℕ) (r : Checked)
     → readChecked r s st os ms p .state ≡ afterStarts s st (unlessRefused r (startFound (capture os ms) (findStart (capture os ms) p)))
 unfolding readChecked readAt unlessRefused afterStarts
 read-state s st os ms p (Refused x) = refl
@@ -152,7 +153,7 @@ through-state s k n st (m ∷ l) w = one (m .follows) (w .0) (λ st′. through-
     one unended last ih = unfold readStart in sym (ap (afterStarts s st) (last refl))
     one (ended r by) last ih = unfold readStart readRun in ih (readStart s st (m .place) (ended r by) .state)
 
-walk-state : (s : Settings) (st : State) (os ms : List ℕ) (r : Checked) → first (readRefusals s os ms 0) ≡ r
+pub walk-state : (s : Settings) (st : State) (os ms : List ℕ) (r : Checked) → first (readRefusals s os ms 0) ≡ r
     → walked s st os ms .state ≡ afterStarts s st (unlessRefused r (metStarts 0 (capture os ms)))
 unfolding unlessRefused afterStarts
 walk-state s st os ms (Refused x) e = ap (λ (w : WalkEnd). w .state) (walked-refused s st os ms x e)
@@ -162,11 +163,11 @@ walk-state s st os ms Fine e =
 
 -- ---- a call that does not set class k takes the symbols it writes off its timer
 
-sent-lowers : (r : Checked) (st : State) (os ms : List ℕ) (p : ℕ) (new : List Symbol) (k : ℕ)
-    → timer (sendChecked r st os ms p new .given .state .timers) k .0 ≡ timer (st .timers) k .0 - length (written r new)
+sent-lowers : (r : Checked) (st : State) (os ms : List ℕ) (p : ℕ) (new : List Symbol) (count k : ℕ)
+    → timer (sendChecked r st os ms p new count .given .state .timers) k .0 ≡ timer (st .timers) k .0 - length (written r new)
 unfolding sendChecked stateSent written
-sent-lowers (Refused x) st os ms p new k = omega arith
-sent-lowers Fine st os ms p new k = lowered-timer (length new) (st .timers) k
+sent-lowers (Refused x) st os ms p new count k = omega arith
+sent-lowers Fine st os ms p new count k = lowered-timer (length new) (st .timers) k
 
 -- the state after a call that reads Starts, none of which sets it
 read-lowers : (s : Settings) (st st′ : State) (k : ℕ) (l : List MetStart) → st′ ≡ afterStarts s st l → setByStarts s k l ≡ none
@@ -174,13 +175,13 @@ read-lowers : (s : Settings) (st st′ : State) (k : ℕ) (l : List MetStart) �
 read-lowers s st st′ k l e h = ap (λ (x : State). timer (x .timers) k .0) e ∙ ap (λ (t : Slots). t .0) (starts-unset s k st l h) ∙ omega arith
 
 pub call-lowers : (st : State) (k : ℕ) (c : Call) → setsClass k c ≡ none → timer (afterCall st c .timers) k .0 ≡ timer (st .timers) k .0 - length (writes st c)
-unfolding afterCall writes setsClass startRead startsWalked reading clientSending pauseSending pfcSending idleSending
+unfolding afterCall writes setsClass startRead startsWalked reading frameSending clientSending pauseSending pfcSending idleSending
 call-lowers st k (reads s os ms p) h = read-lowers s st _ k _ (read-state s st os ms p (first (readRefusals s os ms p))) h
 call-lowers st k (walks s os ms) h = read-lowers s st _ k _ (walk-state s st os ms (first (readRefusals s os ms 0)) refl) h
-call-lowers st k (sendsClient s os ms p c d) h = sent-lowers _ st os ms p _ k
-call-lowers st k (sendsPause s os ms p q) h = sent-lowers _ st os ms p _ k
-call-lowers st k (sendsPfc s os ms p c) h = sent-lowers _ st os ms p _ k
-call-lowers st k (fillsIdle os ms p n) h = sent-lowers _ st os ms p _ k
+call-lowers st k (sendsClient s port os ms p c d) h = sent-lowers _ st os ms p _ _ k
+call-lowers st k (sendsPause s port os ms p q) h = sent-lowers _ st os ms p _ _ k
+call-lowers st k (sendsPfc s port os ms p c) h = sent-lowers _ st os ms p _ _ k
+call-lowers st k (fillsIdle os ms p n) h = sent-lowers _ st os ms p _ _ k
 
 -- over a sequence of calls none of which sets the class: by exactly the symbols that they write
 pub timer-falls : (k : ℕ) (st : State) (cs : List Call) → NoneSets k cs
@@ -209,9 +210,9 @@ module _ (st : State) (k : ℕ) (q : Quanta) (eight : k < length (st .timers)) w
   unfolding afterCall setsClass startRead startsWalked reading
   timer-set (reads s os ms p) h = read-sets s _ _ (read-state s st os ms p (first (readRefusals s os ms p))) h
   timer-set (walks s os ms) h = read-sets s _ _ (walk-state s st os ms (first (readRefusals s os ms 0)) refl) h
-  timer-set (sendsClient s os ms p c d) h = apart h
-  timer-set (sendsPause s os ms p x) h = apart h
-  timer-set (sendsPfc s os ms p c) h = apart h
+  timer-set (sendsClient s port os ms p c d) h = apart h
+  timer-set (sendsPause s port os ms p x) h = apart h
+  timer-set (sendsPfc s port os ms p c) h = apart h
   timer-set (fillsIdle os ms p n) h = apart h
 
 -- ---- refusal 9
@@ -220,31 +221,31 @@ or-none : (b : Bool) → (b || false) ≡ b
 or-none true = refl
 or-none false = refl
 
-module _ (s : Settings) (st : State) (os ms : List ℕ) (p : ℕ) (c : Client) (d : List ℕ) where
-  row-9 : rowHolds (clientRefusals s st os ms p c d) 9 ≡ held st (c .class)
+module _ (s : Settings) (st : State) (port : Port) (os ms : List ℕ) (p : ℕ) (c : Client) (d : List ℕ) where
+  row-9 : rowHolds (clientRefusals s st port os ms p c d) 9 ≡ held st (c .class)
   unfolding rowHolds clientRefusals
   row-9 = or-none (held st (c .class))
 
   -- given exactly while the timer of its class is above zero and no refusal that is tested before it holds
-  pub held-exactly : (wentRefusal (clientSending s st os ms p c d .given .answer) ≡ 9)
-      ↔ ((0 < timer (st .timers) (c .class) .0) × NoneBefore (clientRefusals s st os ms p c d) (1 ∷ 2 ∷ 3 ∷ 5 ∷ 6 ∷ 10 ∷ 7 ∷ 8 ∷ 9 ∷ []) 9)
+  pub held-exactly : (wentRefusal (clientSending s st port os ms p c d .given .answer) ≡ 9)
+      ↔ ((0 < timer (st .timers) (c .class) .0) × NoneBefore (clientRefusals s st port os ms p c d) (1 ∷ 2 ∷ 3 ∷ 19 ∷ 5 ∷ 6 ∷ 10 ∷ 7 ∷ 8 ∷ 9 ∷ []) 9)
   unfolding held
   held-exactly =
-      let x = client-refuses s st os ms p c d .exactly .earliest 9 (lit< tt) in (
+      let x = client-refuses s st port os ms p c d .exactly .earliest 9 (lit< tt) in (
         λ e. (ltb-true 0 (timer (st .timers) (c .class) .0) (sym row-9 ∙ x .0 e .0), x .0 e .1),
         λ y. x .1 (row-9 ∙ lt-ltb 0 (timer (st .timers) (c .class) .0) (y .0), y .1),
       )
 
-  not-held : timer (st .timers) (c .class) .0 ≡ 0 → wentRefusal (clientSending s st os ms p c d .given .answer) ≡ 9 → ⊥
+  not-held : timer (st .timers) (c .class) .0 ≡ 0 → wentRefusal (clientSending s st port os ms p c d .given .answer) ≡ 9 → ⊥
   not-held h e = let above = held-exactly .0 e .0 in omega arith
 
 -- "A client frame refused for its timer at t slots isn't refused for it once t more slots are written, if no reading has set that timer meanwhile."
--- t is its timer in the state `st` of the refusal; the later call may have any settings, buffers, place and data.
-pub released : (st : State) (cs : List Call) (s : Settings) (os ms : List ℕ) (p : ℕ) (c : Client) (d : List ℕ) → NoneSets (c .class) cs
-    → timer (st .timers) (c .class) .0 ≤ length (allWritten st cs) → wentRefusal (clientSending s (afterCalls st cs) os ms p c d .given .answer) ≡ 9 → ⊥
-released st cs s os ms p c d w h = not-held s (afterCalls st cs) os ms p c d (let e = timer-falls (c .class) st cs w in omega arith)
+-- t is its timer in the state `st` of the refusal; the later call may have any settings, port, buffers, place and data.
+pub released : (st : State) (cs : List Call) (s : Settings) (port : Port) (os ms : List ℕ) (p : ℕ) (c : Client) (d : List ℕ) → NoneSets (c .class) cs
+    → timer (st .timers) (c .class) .0 ≤ length (allWritten st cs) → wentRefusal (clientSending s (afterCalls st cs) port os ms p c d .given .answer) ≡ 9 → ⊥
+released st cs s port os ms p c d w h = not-held s (afterCalls st cs) port os ms p c d (let e = timer-falls (c .class) st cs w in omega arith)
 
 -- "zero quanta lets the class go at once": after a call that sets it to them
-pub let-go : (st : State) (x : Call) (s : Settings) (os ms : List ℕ) (p : ℕ) (c : Client) (d : List ℕ) → c .class < length (st .timers)
-    → setsClass (c .class) x ≡ some (record { 0 = 0 }) → wentRefusal (clientSending s (afterCall st x) os ms p c d .given .answer) ≡ 9 → ⊥
-let-go st x s os ms p c d eight h = not-held s (afterCall st x) os ms p c d (ap (λ (t : Slots). t .0) (timer-set st (c .class) (record { 0 = 0 }) eight x h))
+pub let-go : (st : State) (x : Call) (s : Settings) (port : Port) (os ms : List ℕ) (p : ℕ) (c : Client) (d : List ℕ) → c .class < length (st .timers)
+    → setsClass (c .class) x ≡ some (record { 0 = 0 }) → wentRefusal (clientSending s (afterCall st x) port os ms p c d .given .answer) ≡ 9 → ⊥
+let-go st x s port os ms p c d eight h = not-held s (afterCall st x) port os ms p c d (ap (λ (t : Slots). t .0) (timer-set st (c .class) (record { 0 = 0 }) eight x h))

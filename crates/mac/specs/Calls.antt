@@ -13,6 +13,7 @@ use Rattle.line.specs.declared.Found.the-variants.{At, Nothing}
 use Rattle.line.specs.Line.{Symbol, capture, octetsOf, marksOf, isStart, findStart, AfterStart, unended, ended, afterStart, MetStart, metStarts, overwrite}
 use Rattle.line.specs.Table.{first}
 use Rattle.station.specs.declared.Settings.{Settings}
+use Rattle.station.specs.declared.Port.{Port}
 use Rattle.station.specs.declared.State.{State}
 use Rattle.station.specs.declared.Quanta.{Quanta}
 use Rattle.station.specs.declared.Outcome.{Outcome}
@@ -25,25 +26,26 @@ use Rattle.receive.specs.Reading.{readRefusals, reading}
 use Rattle.receive.specs.Walk.{walked}
 use Rattle.writing.specs.declared.Client.{Client}
 use Rattle.writing.specs.declared.Classes.{Classes}
-use Rattle.writing.specs.Frames.{plainIdles, clientSymbols, pauseSymbols, pfcSymbols, idleSymbols}
+use Rattle.writing.specs.Frames.{clientBody, pauseBody, pfcBody, idleSymbols}
+use Rattle.writing.specs.Gaps.{symbolsOn}
 use Rattle.send.specs.Sending.{Sending, written, clientChecked, pauseChecked, pfcChecked, idleChecked, clientSending, pauseSending, pfcSending, idleSending}
 
--- a call: its settings (Idle fill has none), its octets, its marks, its place (a walk has none), and what it is asked
+-- a call: its settings (Idle fill has none), its port if it sends a frame, its octets, its marks, its place (a walk has none), and what it is asked
 pub data Call : Type 0 where
   reads : Settings → List ℕ → List ℕ → ℕ → Call
   walks : Settings → List ℕ → List ℕ → Call
-  sendsClient : Settings → List ℕ → List ℕ → ℕ → Client → List ℕ → Call
-  sendsPause : Settings → List ℕ → List ℕ → ℕ → Quanta → Call
-  sendsPfc : Settings → List ℕ → List ℕ → ℕ → Classes → Call
+  sendsClient : Settings → Port → List ℕ → List ℕ → ℕ → Client → List ℕ → Call
+  sendsPause : Settings → Port → List ℕ → List ℕ → ℕ → Quanta → Call
+  sendsPfc : Settings → Port → List ℕ → List ℕ → ℕ → Classes → Call
   fillsIdle : List ℕ → List ℕ → ℕ → ℕ → Call
 
 -- the state that a call leaves, and a sequence of calls
 unfoldable pub afterCall : State → Call → State
 afterCall st (reads s os ms p) = reading s st os ms p .state
 afterCall st (walks s os ms) = walked s st os ms .state
-afterCall st (sendsClient s os ms p c d) = clientSending s st os ms p c d .given .state
-afterCall st (sendsPause s os ms p q) = pauseSending s st os ms p q .given .state
-afterCall st (sendsPfc s os ms p k) = pfcSending s st os ms p k .given .state
+afterCall st (sendsClient s port os ms p c d) = clientSending s st port os ms p c d .given .state
+afterCall st (sendsPause s port os ms p q) = pauseSending s st port os ms p q .given .state
+afterCall st (sendsPfc s port os ms p k) = pfcSending s st port os ms p k .given .state
 afterCall st (fillsIdle os ms p n) = idleSending st os ms p n .given .state
 
 unfoldable pub afterCalls : State → List Call → State
@@ -54,9 +56,9 @@ afterCalls st (c ∷ cs) = afterCalls (afterCall st c) cs
 unfoldable pub writes : State → Call → List Symbol
 writes st (reads s os ms p) = []
 writes st (walks s os ms) = []
-writes st (sendsClient s os ms p c d) = written (clientChecked s st os ms p c d) (clientSymbols plainIdles s c d)
-writes st (sendsPause s os ms p q) = written (pauseChecked s os ms p q) (pauseSymbols plainIdles s q)
-writes st (sendsPfc s os ms p k) = written (pfcChecked s os ms p k) (pfcSymbols plainIdles s k)
+writes st (sendsClient s port os ms p c d) = written (clientChecked s st port os ms p c d) (symbolsOn port (st .deficit) p (clientBody s c d))
+writes st (sendsPause s port os ms p q) = written (pauseChecked s port (st .deficit) os ms p q) (symbolsOn port (st .deficit) p (pauseBody s q))
+writes st (sendsPfc s port os ms p k) = written (pfcChecked s port (st .deficit) os ms p k) (symbolsOn port (st .deficit) p (pfcBody s k))
 writes st (fillsIdle os ms p n) = written (idleChecked os ms p n) (idleSymbols n)
 
 unfoldable pub allWritten : State → List Call → List Symbol
@@ -76,9 +78,9 @@ pub record Leaves (os ms : List ℕ) (place : ℕ) (new : List Symbol) (x : Send
 unfoldable pub CallLeaves : State → Call → Type 0
 CallLeaves st (reads s os ms p) = writes st (reads s os ms p) ≡ []
 CallLeaves st (walks s os ms) = writes st (walks s os ms) ≡ []
-CallLeaves st (sendsClient s os ms p c d) = Leaves os ms p (writes st (sendsClient s os ms p c d)) (clientSending s st os ms p c d)
-CallLeaves st (sendsPause s os ms p q) = Leaves os ms p (writes st (sendsPause s os ms p q)) (pauseSending s st os ms p q)
-CallLeaves st (sendsPfc s os ms p k) = Leaves os ms p (writes st (sendsPfc s os ms p k)) (pfcSending s st os ms p k)
+CallLeaves st (sendsClient s port os ms p c d) = Leaves os ms p (writes st (sendsClient s port os ms p c d)) (clientSending s st port os ms p c d)
+CallLeaves st (sendsPause s port os ms p q) = Leaves os ms p (writes st (sendsPause s port os ms p q)) (pauseSending s st port os ms p q)
+CallLeaves st (sendsPfc s port os ms p k) = Leaves os ms p (writes st (sendsPfc s port os ms p k)) (pfcSending s st port os ms p k)
 CallLeaves st (fillsIdle os ms p n) = Leaves os ms p (writes st (fillsIdle os ms p n)) (idleSending st os ms p n)
 
 -- ---- which class a call sets, and to what
@@ -125,9 +127,9 @@ startsWalked s os ms = unlessRefused (first (readRefusals s os ms 0)) (metStarts
 unfoldable pub setsClass : ℕ → Call → Option Quanta
 setsClass class (reads s os ms p) = setByStarts s class (startRead s os ms p)
 setsClass class (walks s os ms) = setByStarts s class (startsWalked s os ms)
-setsClass class (sendsClient s os ms p c d) = none
-setsClass class (sendsPause s os ms p q) = none
-setsClass class (sendsPfc s os ms p k) = none
+setsClass class (sendsClient s port os ms p c d) = none
+setsClass class (sendsPause s port os ms p q) = none
+setsClass class (sendsPfc s port os ms p k) = none
 setsClass class (fillsIdle os ms p n) = none
 
 -- no call of these sets the class
@@ -141,9 +143,9 @@ NoneSets class (c ∷ cs) = (setsClass class c ≡ none) × NoneSets class cs
 unfoldable pub isClientOf : ℕ → Call → Bool
 isClientOf class (reads s os ms p) = false
 isClientOf class (walks s os ms) = false
-isClientOf class (sendsClient s os ms p c d) = eqb (c .class) class
-isClientOf class (sendsPause s os ms p q) = false
-isClientOf class (sendsPfc s os ms p k) = false
+isClientOf class (sendsClient s port os ms p c d) = eqb (c .class) class
+isClientOf class (sendsPause s port os ms p q) = false
+isClientOf class (sendsPfc s port os ms p k) = false
 isClientOf class (fillsIdle os ms p n) = false
 
 -- of each symbol that a call writes, and a sequence of calls: whether it is the Start of a client frame of the class

@@ -1,12 +1,13 @@
 -- Demand 3: what it speaks of. The theorems are proofs/Demand3.antt and, from the sending calls on, proofs/Row.antt.
-use Prim.Native.Nat.{ℕ, _+_, _≤_, _<_}
+use Prim.Native.Nat.{ℕ, _+_, _-_, _≤_, _<_}
 use mathlib.Core.Path.{_≡_}
 use mathlib.Core.Bool.{Bool, true, false}
-use mathlib.Core.List.{List, [], _∷_, _++_, map}
+use mathlib.Core.List.{List, [], _∷_, _++_}
 use lib.ListN.{length, take, drop}
 use Rattle.line.specs.Line.{Symbol, capture, octetsOf, marksOf, overwrite}
 use Rattle.fcs.specs.Fcs.{fcs}
 use Rattle.station.specs.declared.Settings.{Settings}
+use Rattle.station.specs.declared.Port.{Port}
 use Rattle.station.specs.declared.State.{State}
 use Rattle.station.specs.declared.Checked.the-variants.{Fine}
 use Rattle.frame.specs.Frame.{oversized}
@@ -16,11 +17,12 @@ use Rattle.writing.specs.declared.Client.{Client}
 use Rattle.writing.specs.declared.Form.{Form}
 use Rattle.writing.specs.declared.Form.the-variants.{ByLength, ByType}
 use Rattle.send.specs.declared.Went.the-variants.{Wrote}
-use Rattle.writing.specs.Frames.{padded, clientBody, plainIdles, clientSymbols}
+use Rattle.writing.specs.Frames.{padded, clientBody, clientSymbols}
+use Rattle.writing.specs.Gaps.{gapOn}
 use Rattle.send.specs.Sending.{badType, manyTags, longData, Sending, sending, clientChecked, clientSending}
 
--- a client frame, its data, and how many Idles its gap has. Demand 3 asks nothing of their number, so any gap will do that item 5 of document 02
--- gives a frame.
+-- a client frame, its data, and how many Idles its gap has. Demand 3 asks nothing of their number, so any gap will do that a port gives a frame
+-- (document 02, item 5: "Frames handed to a receiver still come out as demand 3 says").
 pub record Frame : Type 0 where
   pub client : Client
   pub octets : List ℕ
@@ -77,24 +79,32 @@ alone rx st l = handedOut (octetsOf l) (walk rx st (octetsOf l) (marksOf l))
 
 -- ---- client calls in a row, each at the place that the one before gave, with the state and the buffers that it left
 
--- what a call is asked to send
+-- what a call is asked to send, and on which port
 pub record Asked : Type 0 where
+  pub port : Port
   pub client : Client
   pub octets : List ℕ
 
--- the frame that it puts on the line, with "one Terminate and eleven Idles", and the frames of a row of calls
-abbrev pub frameSent : Asked → Frame
-frameSent a = record { client = a .client; octets = a .octets; idles = plainIdles }
-
-abbrev pub rowFrames : List Asked → List Frame
-rowFrames asked = map frameSent asked
+-- the frame that it puts on the line, with the gap that its port has at its place and deficit count
+unfoldable pub frameSent : Settings → Sending → Asked → Frame
+frameSent tx x a =
+    record {
+      client = a .client;
+      octets = a .octets;
+      idles = gapOn (a .port) (x .given .state .deficit) (x .given .place) (clientBody tx (a .client) (a .octets)) .size - 1;
+    }
 
 unfoldable pub sendNext : Settings → Sending → Asked → Sending
-sendNext tx x a = clientSending tx (x .given .state) (x .octets) (x .marks) (x .given .place) (a .client) (a .octets)
+sendNext tx x a = clientSending tx (x .given .state) (a .port) (x .octets) (x .marks) (x .given .place) (a .client) (a .octets)
 
 unfoldable pub sendRow : Settings → Sending → List Asked → Sending
 sendRow tx x [] = x
 sendRow tx x (a ∷ asked) = sendRow tx (sendNext tx x a) asked
+
+-- the frames of a row of calls
+unfoldable pub rowFrames : Settings → Sending → List Asked → List Frame
+rowFrames tx x [] = []
+rowFrames tx x (a ∷ asked) = frameSent tx x a ∷ rowFrames tx (sendNext tx x a) asked
 
 -- where a row starts
 abbrev pub rowFrom : State → List ℕ → List ℕ → ℕ → Sending
@@ -104,7 +114,8 @@ rowFrom st os ms place = sending (record { answer = Wrote; place = place; state 
 unfoldable pub NoneRefused : Settings → Sending → List Asked → Type 0
 NoneRefused tx x [] = Unit {0}
 NoneRefused tx x (a ∷ asked) =
-    (clientChecked tx (x .given .state) (x .octets) (x .marks) (x .given .place) (a .client) (a .octets) ≡ Fine) × NoneRefused tx (sendNext tx x a) asked
+    (clientChecked tx (x .given .state) (a .port) (x .octets) (x .marks) (x .given .place) (a .client) (a .octets) ≡ Fine)
+    × NoneRefused tx (sendNext tx x a) asked
 
 -- from x to y the symbols of these frames were written, back to back from the place of x on, and y has the place behind them; they fit, and "every
 -- other symbol stays"
@@ -114,13 +125,16 @@ pub record BackToBack (tx : Settings) (x y : Sending) (fs : List Frame) : Type 0
   pub place : y .given .place ≡ x .given .place + length (rowSymbols tx fs)
   pub room : x .given .place + length (rowSymbols tx fs) ≤ length (x .octets)
 
--- what a row of calls leaves, from a state, buffers and a place on
+-- what a row of calls leaves, from a state, buffers and a place on, and the frames that it puts on the line
 abbrev pub left : Settings → State → List ℕ → List ℕ → ℕ → List Asked → Sending
 left tx st os ms place asked = sendRow tx (rowFrom st os ms place) asked
+
+abbrev pub framesLeft : Settings → State → List ℕ → List ℕ → ℕ → List Asked → List Frame
+framesLeft tx st os ms place asked = rowFrames tx (rowFrom st os ms place) asked
 
 -- what stood in the buffers before the place, and behind what the row wrote
 abbrev pub before : List ℕ → List ℕ → ℕ → List Symbol
 before os ms place = take place (capture os ms)
 
-abbrev pub behind : Settings → List ℕ → List ℕ → ℕ → List Asked → List Symbol
-behind tx os ms place asked = drop (place + length (rowSymbols tx (rowFrames asked))) (capture os ms)
+abbrev pub behind : Settings → State → List ℕ → List ℕ → ℕ → List Asked → List Symbol
+behind tx st os ms place asked = drop (place + length (rowSymbols tx (framesLeft tx st os ms place asked))) (capture os ms)

@@ -4,4 +4,5 @@ pub mod Demand2
 pub mod Demand3
 pub mod LikeError
 pub mod Limits
+pub mod Port
 pub mod Starts

@@ -10,6 +10,7 @@ use Rattle.station.specs.declared.Settings.{Settings}
 use Rattle.station.specs.declared.Quanta.{Quanta}
 use Rattle.station.specs.declared.Flow.{Flow}
 use Rattle.station.specs.declared.Flow.the-variants.{Off, Pause, Pfc}
+use Rattle.station.specs.declared.Port.the-variants.{Plain, FourLane}
 use Rattle.station.specs.Station.{fresh}
 use Rattle.frame.specs.Length.{kept}
 use Rattle.flow.specs.Timers.{slotsOf}
@@ -24,7 +25,10 @@ use Rattle.writing.specs.declared.Kind.{Kind}
 use Rattle.writing.specs.declared.Kind.the-variants.{Customer, Service}
 use Rattle.writing.specs.declared.Tag.{Tag}
 use Rattle.writing.specs.declared.Form.the-variants.{ByLength}
-use Rattle.writing.specs.Frames.{plainIdles, onLine, clientSymbols, pauseSymbols, pfcSymbols}
+use Rattle.writing.specs.Frames.{plainIdles, clientBody, onLine, pauseSymbols, pfcSymbols}
+use Rattle.writing.specs.Gaps.{symbolsOn}
+use Rattle.send.specs.Sending.{Sending}
+use Rattle.mac.specs.Demand3.{Frame, Asked, rowFrames, rowFrom, sendRow}
 
 -- ---- what the cases are about
 
@@ -57,9 +61,12 @@ client kind count =
       class = 0;
     }
 
--- how many symbols it takes with a number of data octets
+-- its symbols with a number of data octets on a plain port, and how many they are
+unfoldable pub sentWith : Kind → ℕ → ℕ → List Symbol
+sentWith kind tags n = symbolsOn Plain 0 0 (clientBody (settings Off) (client kind tags) (replicate n 0xA5))
+
 unfoldable pub symbolsSent : Kind → ℕ → ℕ → ℕ
-symbolsSent kind tags n = length (clientSymbols plainIdles (settings Off) (client kind tags) (replicate n 0xA5))
+symbolsSent kind tags n = length (sentWith kind tags n)
 
 -- a run of tags, all of the provider's kind
 unfoldable pub runWith : ℕ → List ℕ
@@ -89,7 +96,7 @@ reads mode c = told (reading (settings mode) fresh (octetsOf c) (marksOf c) 0 .a
 
 -- what is read of it without data
 unfoldable pub readsTagged : Kind → ℕ → List ℕ
-readsTagged kind tags = reads Off (clientSymbols plainIdles (settings Off) (client kind tags) [])
+readsTagged kind tags = reads Off (sentWith kind tags 0)
 
 -- the outcome alone
 unfoldable pub outcomeRead : List Symbol → ℕ
@@ -103,6 +110,20 @@ outcomesRead c = map (λ (r : Reading). answerOutcome (r .answer)) (walk (settin
 unfoldable pub takes : ℕ → ℕ → ℕ → Bool
 takes tags field n =
     kept tags field n && not (kept tags field (n - 1)) && not (kept tags field (n + 1)) && kept tags field 46 && not (kept tags field 47)
+
+-- document 02, item 5: client frames of these lengths, FCS included, in a row on the four-lane port, from a fresh state and place 0 on
+unfoldable pub rowOf : List ℕ → List Asked
+rowOf lengths = map (λ (n : ℕ). record { port = FourLane; client = client Customer 0; octets = replicate (n - 18) 0xA5 }) lengths
+
+abbrev pub roomy : Sending
+roomy = rowFrom fresh (replicate 400 0) (replicate 400 0) 0
+
+-- the sizes of their gaps, the place behind the last of them, and the deficit count there
+unfoldable pub gapsInRow : List ℕ → List ℕ
+gapsInRow lengths = map (λ (f : Frame). f .idles + 1) (rowFrames (settings Off) roomy (rowOf lengths))
+
+unfoldable pub afterRow : List ℕ → List ℕ
+afterRow lengths = let x = sendRow (settings Off) roomy (rowOf lengths) in x .given .place ∷ x .given .state .deficit ∷ []
 
 -- ---- the cases, in the order of the document
 
@@ -168,6 +189,12 @@ starred =
     ∷ takes 8 10 14
     ∷ takes 8 14 14
     ∷ takes 8 15 15
+    -- document 02, item 5: frames of 64 to 67 octets in a row from a count of 0; r is 0, 1, 2 and 3
+    ∷ sameOctets (gapsInRow (64 ∷ 65 ∷ 66 ∷ 67 ∷ [])) (12 ∷ 11 ∷ 10 ∷ 13 ∷ [])
+    ∷ sameOctets (afterRow (64 ∷ [])) (84 ∷ 0 ∷ [])
+    ∷ sameOctets (afterRow (64 ∷ 65 ∷ [])) (168 ∷ 1 ∷ [])
+    ∷ sameOctets (afterRow (64 ∷ 65 ∷ 66 ∷ [])) (252 ∷ 3 ∷ [])
+    ∷ sameOctets (afterRow (64 ∷ 65 ∷ 66 ∷ 67 ∷ [])) (340 ∷ 2 ∷ [])
     ∷ []
 
 unfoldable pub allTrue : List Bool → Bool

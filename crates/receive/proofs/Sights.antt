@@ -20,9 +20,9 @@ use Rattle.receive.proofs.Answer.{the-type}
 use Rattle.receive.specs.Reading.{stateAfter, handedPart, readRun}
 use Rattle.receive.specs.Steps.{sightOf, afterSight, readOf}
 
--- a state of its two parts, as the code puts it together
-abbrev pub at-state : List ℕ → List Slots → State
-at-state cs ts = record { counters = cs; timers = ts }
+-- a state of its parts, as the code puts it together: the deficit count stays
+abbrev pub at-state : ℕ → List ℕ → List Slots → State
+at-state count cs ts = record { counters = cs; timers = ts; deficit = count }
 
 pub sight-read : (s : Settings) (os : List ℕ) (i : ℕ) (run : List ℕ) (o : Outcome) (st : State)
     → between os (i + 1) (i + 1 + length run) ≡ run → readOf os (sightOf s i run o) st ≡ readRun s st i run o

@@ -155,7 +155,11 @@ fn state_after(seen: Sight, octets: &[u8], state: State) -> State
             timers = set;
         }
     }
-    State { counters, timers }
+    State {
+        counters,
+        timers,
+        deficit: state.deficit,
+    }
 }
 
 // A reading: the first Start at a place or later, its outcome, and the state after it.
@@ -204,14 +208,22 @@ fn walk_on(t: &[u32], s: Settings, state: State, octets: &[u8], marks: &[u8]) ->
         let Found::At(start) = line::find_start(octets, marks, at) else {
             return WalkEnd {
                 answer: Walked::Ended(n, false),
-                state: State { counters, timers },
+                state: State {
+                    counters,
+                    timers,
+                    deficit: state.deficit,
+                },
             };
         };
         let from = start + 1;
         let Found::At(end) = line::find_control(octets, marks, from) else {
             return WalkEnd {
                 answer: Walked::Ended(n, true),
-                state: State { counters, timers },
+                state: State {
+                    counters,
+                    timers,
+                    deficit: state.deficit,
+                },
             };
         };
         let o = outcome::outcome(t, s, &octets[from..end], octets[end]);

@@ -1,5 +1,5 @@
 -- The tables of refusals row by row: what a call that is not refused knows, and how the code's tests are the rows'. Assumes nothing.
-use Prim.Native.Nat.{ℕ, zero, suc, _+_, _-_, _≤_}
+use Prim.Native.Nat.{ℕ, zero, suc, _+_, _-_, _%_, _≤_}
 use native.Mathlib.Omega.{arith}
 use mathlib.Core.Path.{_≡_, sym, ap, _∙_}
 use mathlib.Core.Bool.{Bool, true, false, not, _||_}
@@ -11,17 +11,20 @@ use Rattle.line.specs.Line.{Symbol}
 use Rattle.line.specs.Table.{Table, otherwise, _⇒_, _∣_, first}
 use Rattle.line.proofs.Tables.{first-here, first-next}
 use Rattle.station.specs.declared.Settings.{Settings}
+use Rattle.station.specs.declared.Port.{Port}
+use Rattle.station.specs.declared.Port.the-variants.{Plain, FourLane}
 use Rattle.station.specs.declared.State.{State}
 use Rattle.station.specs.declared.Refusal.{Refusal}
-use Rattle.station.specs.declared.Refusal.the-variants.{BadSettings, BadBuffers, BadPlace, OtherFlow, BadClass, BadType, LongData, NoRoom, ManyTags}
+use Rattle.station.specs.declared.Refusal.the-variants.{BadSettings, BadBuffers, BadPlace, OtherFlow, BadClass, BadType, LongData, NoRoom, ManyTags, HighDeficit}
 use Rattle.station.specs.declared.Checked.{Checked}
 use Rattle.station.specs.declared.Checked.the-variants.{Fine, Refused}
-use Rattle.station.specs.Station.{isGroup, badSettings, badBuffers, badPlace}
+use Rattle.station.specs.Station.{isGroup, badSettings, badBuffers, badPlace, badStart, highDeficit}
 use Rattle.station.proofs.Refusals.{fine-row, or-false, not-false}
 use Rattle.writing.specs.declared.Client.{Client}
 use Rattle.writing.specs.declared.Form.{Form}
 use Rattle.writing.specs.declared.Form.the-variants.{ByLength, ByType}
-use Rattle.writing.specs.Frames.{plainIdles, clientSymbols, idleSymbols}
+use Rattle.writing.specs.Frames.{clientBody, idleSymbols}
+use Rattle.writing.specs.Gaps.{symbolsOn}
 use Rattle.send.specs.Sending.{badClass, badType, manyTags, longData, noRoom, clientRefusals, controlRefusals, idleRefusals, clientChecked, idleChecked}
 
 -- ---- a table whose first n rows do not hold, and its next row, whose test the code answered by r
@@ -57,6 +60,24 @@ pub inside : (os : List ℕ) (place : ℕ) → badPlace os place ≡ false → p
 unfolding badPlace
 inside os place h = ltb-false (length os) place h
 
+-- of a frame, on any port
+pub not-beyond : (port : Port) (os : List ℕ) (place : ℕ) → badStart port os place ≡ false → badPlace os place ≡ false
+unfolding badStart
+not-beyond Plain os place h = h
+not-beyond FourLane os place h = or-false (badPlace os place) (not (eqb (place % 4) 0)) h .0
+
+pub inside-port : (port : Port) (os : List ℕ) (place : ℕ) → badStart port os place ≡ false → place ≤ length os
+inside-port port os place h = inside os place (not-beyond port os place h)
+
+-- and on the four-lane port
+pub divisible : (os : List ℕ) (place : ℕ) → badStart FourLane os place ≡ false → place % 4 ≡ 0
+unfolding badStart
+divisible os place h = eqb-true (place % 4) 0 (not-false (eqb (place % 4) 0) (or-false (badPlace os place) (not (eqb (place % 4) 0)) h .1))
+
+pub deficit-to-3 : (count : ℕ) → highDeficit FourLane count ≡ false → count ≤ 3
+unfolding highDeficit
+deficit-to-3 count h = ltb-false 3 count h
+
 pub class-to-7 : (c : Client) → badClass c ≡ false → c .class ≤ 7
 unfolding badClass
 class-to-7 c h = ltb-false 7 (c .class) h
@@ -87,9 +108,9 @@ unfolding noRoom
 room-by os place need new e = ap (λ (n : ℕ). ltb (length os - place) n) (sym e)
 
 -- the flow mode, as the code asked for it
-pub in-mode : (s : Settings) (os ms : List ℕ) (place : ℕ) (new : List Symbol) {r : Checked} {b asked : Bool}
-    → r ≡ first (controlRefusals s os ms place b new) → b ≡ asked → r ≡ first (controlRefusals s os ms place asked new)
-in-mode s os ms place new h e = rw e at h
+pub in-mode : (s : Settings) (port : Port) (count : ℕ) (os ms : List ℕ) (place : ℕ) (body : List ℕ) {r : Checked} {b asked : Bool}
+    → r ≡ first (controlRefusals s port count os ms place b body) → b ≡ asked → r ≡ first (controlRefusals s port count os ms place asked body)
+in-mode s port count os ms place body h e = rw e at h
 
 -- ---- what a call that is not refused knows
 
@@ -105,53 +126,64 @@ room-of os ms place new b p n =
     let same = same-length os ms b in
     record { even = same .0; small = same .1; room = fits os place new (inside os place p) n }
 
--- and a client frame's call of its settings, class, form, tags and data
-pub record Passed (s : Settings) (os ms : List ℕ) (place : ℕ) (c : Client) (d : List ℕ) : Type 0 where
+-- a frame on a port, of its settings, its place and the deficit count too
+pub record Framed (s : Settings) (port : Port) (count : ℕ) (os ms : List ℕ) (place : ℕ) (body : List ℕ) : Type 0 where
   pub valid : badSettings s ≡ false
+  pub starts : badStart port os place ≡ false
+  pub low : highDeficit port count ≡ false
   pub even : length os ≡ length ms
   pub small : length os ≤ 65536
+  pub room : place + length (symbolsOn port count place body) ≤ length os
+
+framed-of : (s : Settings) (port : Port) (count : ℕ) (os ms : List ℕ) (place : ℕ) (body : List ℕ) → badSettings s ≡ false → badBuffers os ms ≡ false
+    → badStart port os place ≡ false → highDeficit port count ≡ false → noRoom os place (symbolsOn port count place body) ≡ false
+    → Framed s port count os ms place body
+framed-of s port count os ms place body v b p l n =
+    let k = room-of os ms place (symbolsOn port count place body) b (not-beyond port os place p) n in
+    record { valid = v; starts = p; low = l; even = k .even; small = k .small; room = k .room }
+
+-- and a client frame's call of its class, form, tags and data
+pub record Passed (s : Settings) (st : State) (port : Port) (os ms : List ℕ) (place : ℕ) (c : Client) (d : List ℕ) : Type 0 where
+  pub framed : Framed s port (st .deficit) os ms place (clientBody s c d)
   pub class : c .class ≤ 7
   pub type : badType (c .form) ≡ false
   pub tags : c .count ≤ 8
   pub short : longData (s .limit) (c .form) d ≡ false
   pub data-small : length d ≤ 9600
-  pub room : place + length (clientSymbols plainIdles s c d) ≤ length os
 
-pub passed : (s : Settings) (st : State) (os ms : List ℕ) (place : ℕ) (c : Client) (d : List ℕ) → clientChecked s st os ms place c d ≡ Fine
-    → Passed s os ms place c d
+pub passed : (s : Settings) (st : State) (port : Port) (os ms : List ℕ) (place : ℕ) (c : Client) (d : List ℕ) → clientChecked s st port os ms place c d ≡ Fine
+    → Passed s st port os ms place c d
 unfolding clientChecked clientRefusals
-passed s st os ms place c d h =
+passed s st port os ms place c d h =
     let r1 = fine-row BadSettings _ h in
     let r2 = fine-row BadBuffers _ (r1 .1) in
     let r3 = fine-row BadPlace _ (r2 .1) in
-    let r5 = fine-row BadClass _ (r3 .1) in
+    let r19 = fine-row HighDeficit _ (r3 .1) in
+    let r5 = fine-row BadClass _ (r19 .1) in
     let r6 = fine-row BadType _ (r5 .1) in
     let r10 = fine-row ManyTags _ (r6 .1) in
     let r7 = fine-row LongData _ (r10 .1) in
     let r8 = fine-row NoRoom _ (r7 .1) in
-    let k = room-of os ms place (clientSymbols plainIdles s c d) (r2 .0) (r3 .0) (r8 .0) in
     record {
-      valid = r1 .0;
-      even = k .even;
-      small = k .small;
+      framed = framed-of s port (st .deficit) os ms place (clientBody s c d) (r1 .0) (r2 .0) (r3 .0) (r19 .0) (r8 .0);
       class = class-to-7 c (r5 .0);
       type = r6 .0;
       tags = tags-to-8 c (r10 .0);
       short = r7 .0;
       data-small = short-data (s .limit) (c .form) d (limit-from s (r1 .0) .1) (r7 .0);
-      room = k .room;
     }
 
-pub passed-control : (s : Settings) (os ms : List ℕ) (place : ℕ) (inMode : Bool) (new : List Symbol) → first (controlRefusals s os ms place inMode new) ≡ Fine
-    → (badSettings s ≡ false) × (inMode ≡ true) × Room os ms place new
+pub passed-control : (s : Settings) (port : Port) (count : ℕ) (os ms : List ℕ) (place : ℕ) (inMode : Bool) (body : List ℕ)
+    → first (controlRefusals s port count os ms place inMode body) ≡ Fine → (inMode ≡ true) × Framed s port count os ms place body
 unfolding controlRefusals
-passed-control s os ms place inMode new h =
+passed-control s port count os ms place inMode body h =
     let r1 = fine-row BadSettings _ h in
     let r2 = fine-row BadBuffers _ (r1 .1) in
     let r3 = fine-row BadPlace _ (r2 .1) in
-    let r4 = fine-row OtherFlow _ (r3 .1) in
+    let r19 = fine-row HighDeficit _ (r3 .1) in
+    let r4 = fine-row OtherFlow _ (r19 .1) in
     let r8 = fine-row NoRoom _ (r4 .1) in
-    (r1 .0, not-false inMode (r4 .0), room-of os ms place new (r2 .0) (r3 .0) (r8 .0))
+    (not-false inMode (r4 .0), framed-of s port count os ms place body (r1 .0) (r2 .0) (r3 .0) (r19 .0) (r8 .0))
 
 pub passed-idle : (os ms : List ℕ) (place n : ℕ) → idleChecked os ms place n ≡ Fine → Room os ms place (idleSymbols n)
 unfolding idleChecked idleRefusals

@@ -1,5 +1,6 @@
 // Sending (document 01, "Sending", "Refusals and their order"): the refusals of each call, and the call. Meaning: specs/.
 use station::Checked;
+use station::Port;
 use station::Quanta;
 use station::Refusal;
 use station::Settings;
@@ -7,15 +8,16 @@ use station::State;
 use writing::Classes;
 use writing::Client;
 use writing::Form;
+use writing::Gap;
 ghost use mathlib.Core.Path.{_≡_};
 ghost use mathlib.Core.List.{List};
-ghost use Prim.Native.Nat.{_+_, _-_, _≤_, _<_, _*_};
+ghost use Prim.Native.Nat.{ℕ, _+_, _-_, _≤_, _<_, _*_};
 ghost use lib.Dec.{ltb};
 ghost use lib.ListN.{length};
-ghost use Rattle.line.specs.Line.{Symbol};
 ghost use Rattle.line.specs.Table.{first};
 ghost use Rattle.station.specs.declared.Quanta.{Quanta};
 ghost use Rattle.writing.specs.declared.Classes.{Classes};
+ghost use Rattle.writing.specs.Gaps.{gapAt};
 ghost use Rattle.send.specs.Sending.{refusedAt, wroteUpTo, stateSent, badClass, badType, manyTags, longData, held, clientChecked, controlRefusals, pauseChecked, pfcChecked, idleChecked, sending, clientSending, pauseSending, pfcSending, idleSending};
 
 // What a sending call answers; the place and the state stand beside it.
@@ -95,29 +97,50 @@ fn held(state: State, class: u8) -> bool
     0 < t.0
 }
 
-// How many symbols a client frame is: Start, preamble, addresses, tags, field, data with its padding, FCS and gap.
+// How many octets of a client frame its FCS covers: addresses, tags, field, data with its padding.
 fn client_size(count: u8, n: usize) -> usize
     requires { ⌜ n ≤ 65535 ⌝ }
-    ensures { λ r. ⌜ r ≡ 38 + 4 * count + (n + (46 - n)) ⌝ }
+    ensures { λ r. ⌜ r ≡ 14 + 4 * count + (n + (46 - n)) ⌝ }
 {
     let tags = count as usize;
     if n < 46 {
-        return 84 + 4 * tags;
+        return 60 + 4 * tags;
     }
-    38 + 4 * tags + n
+    14 + 4 * tags + n
+}
+
+// How many octets of a pause or PFC frame its FCS covers.
+const CONTROL: usize = 60;
+
+// The gap behind a frame on a port, of which the FCS covers `size` octets, with the deficit count before it.
+fn gap_behind(port: Port, deficit: u64, place: usize, size: usize) -> Gap
+    requires { ⌜ (place ≤ 65536) × (size ≤ 131072) ⌝ }
+    ensures { λ r. ⌜ r ≡ gapAt port (place + 12 + size) deficit ⌝ }
+{
+    writing::gap_for(port, place + 12 + size, deficit)
+}
+
+// How many symbols the frame is: Start, preamble, what the FCS covers, FCS and gap.
+fn frame_size(port: Port, deficit: u64, place: usize, size: usize) -> usize
+    requires { ⌜ (place ≤ 65536) × (size ≤ 131072) ⌝ }
+    ensures { λ r. ⌜ r ≡ 12 + size + gapAt port (place + 12 + size) deficit .size ⌝ }
+{
+    let gap = gap_behind(port, deficit, place, size);
+    12 + size + gap.size
 }
 
 // The refusals of sending a client frame.
 fn check_client(
     s: Settings,
     state: State,
+    port: Port,
     octets: &[u8],
     marks: &[u8],
     place: usize,
     client: Client,
     d: &[u8],
 ) -> Checked
-    ensures { λ r. ⌜ r ≡ clientChecked s state (now (octets .entry)) (now (marks .entry)) place client (now (d .entry)) ⌝ }
+    ensures { λ r. ⌜ r ≡ clientChecked s state port (now (octets .entry)) (now (marks .entry)) place client (now (d .entry)) ⌝ }
 {
     if station::bad_settings(s) {
         return Checked::Refused(Refusal::BadSettings);
@@ -125,8 +148,11 @@ fn check_client(
     if station::bad_buffers(octets, marks) {
         return Checked::Refused(Refusal::BadBuffers);
     }
-    if station::bad_place(octets, place) {
+    if station::bad_start(port, octets, place) {
         return Checked::Refused(Refusal::BadPlace);
+    }
+    if station::high_deficit(port, state.deficit) {
+        return Checked::Refused(Refusal::HighDeficit);
     }
     if bad_class(client) {
         return Checked::Refused(Refusal::BadClass);
@@ -141,7 +167,8 @@ fn check_client(
     if long_data(s.limit, form, d) {
         return Checked::Refused(Refusal::LongData);
     }
-    if no_room(octets, place, client_size(client.count, d.len())) {
+    let size = client_size(client.count, d.len());
+    if no_room(octets, place, frame_size(port, state.deficit, place, size)) {
         return Checked::Refused(Refusal::NoRoom);
     }
     if held(state, client.class) {
@@ -151,8 +178,17 @@ fn check_client(
 }
 
 // The refusals of sending a pause or PFC frame, in the flow mode asked for or in another.
-fn check_control(s: Settings, octets: &[u8], marks: &[u8], place: usize, asked: bool) -> Checked
-    ensures { λ r. ⌜ ((new : List Symbol) → length new ≡ 84 → r ≡ first (controlRefusals s (now (octets .entry)) (now (marks .entry)) place asked new)) ⌝ }
+fn check_control(
+    s: Settings,
+    port: Port,
+    deficit: u64,
+    octets: &[u8],
+    marks: &[u8],
+    place: usize,
+    asked: bool,
+) -> Checked
+    ensures { λ r. ⌜ ((body : List ℕ) → length body ≡ 60
+        → r ≡ first (controlRefusals s port deficit (now (octets .entry)) (now (marks .entry)) place asked body)) ⌝ }
 {
     if station::bad_settings(s) {
         return Checked::Refused(Refusal::BadSettings);
@@ -160,32 +196,65 @@ fn check_control(s: Settings, octets: &[u8], marks: &[u8], place: usize, asked: 
     if station::bad_buffers(octets, marks) {
         return Checked::Refused(Refusal::BadBuffers);
     }
-    if station::bad_place(octets, place) {
+    if station::bad_start(port, octets, place) {
         return Checked::Refused(Refusal::BadPlace);
+    }
+    if station::high_deficit(port, deficit) {
+        return Checked::Refused(Refusal::HighDeficit);
     }
     if !asked {
         return Checked::Refused(Refusal::OtherFlow);
     }
-    if no_room(octets, place, 84) {
+    if no_room(octets, place, frame_size(port, deficit, place, CONTROL)) {
         return Checked::Refused(Refusal::NoRoom);
     }
     Checked::Fine
 }
 
 // The refusals of sending a pause frame.
-fn check_pause(s: Settings, octets: &[u8], marks: &[u8], place: usize) -> Checked
-    ensures { λ r. ⌜ ((q : Quanta) → r ≡ pauseChecked s (now (octets .entry)) (now (marks .entry)) place q) ⌝ }
+fn check_pause(
+    s: Settings,
+    port: Port,
+    deficit: u64,
+    octets: &[u8],
+    marks: &[u8],
+    place: usize,
+) -> Checked
+    ensures { λ r. ⌜ ((q : Quanta) → r ≡ pauseChecked s port deficit (now (octets .entry)) (now (marks .entry)) place q) ⌝ }
 {
     let mode = s.flow;
-    check_control(s, octets, marks, place, station::is_pause_mode(mode))
+    check_control(
+        s,
+        port,
+        deficit,
+        octets,
+        marks,
+        place,
+        station::is_pause_mode(mode),
+    )
 }
 
 // The refusals of sending a PFC frame.
-fn check_pfc(s: Settings, octets: &[u8], marks: &[u8], place: usize) -> Checked
-    ensures { λ r. ⌜ ((k : Classes) → length (k .quanta) ≡ 8 → r ≡ pfcChecked s (now (octets .entry)) (now (marks .entry)) place k) ⌝ }
+fn check_pfc(
+    s: Settings,
+    port: Port,
+    deficit: u64,
+    octets: &[u8],
+    marks: &[u8],
+    place: usize,
+) -> Checked
+    ensures { λ r. ⌜ ((k : Classes) → length (k .quanta) ≡ 8 → r ≡ pfcChecked s port deficit (now (octets .entry)) (now (marks .entry)) place k) ⌝ }
 {
     let mode = s.flow;
-    check_control(s, octets, marks, place, station::is_pfc_mode(mode))
+    check_control(
+        s,
+        port,
+        deficit,
+        octets,
+        marks,
+        place,
+        station::is_pfc_mode(mode),
+    )
 }
 
 // The refusals of Idle fill.
@@ -206,17 +275,18 @@ fn check_idle(octets: &[u8], marks: &[u8], place: usize, n: usize) -> Checked
 
 // ---- the four calls
 
-// How many Idles the gap behind a frame has.
-const IDLES: usize = 11;
-
-// The state after n symbols were written: each timer is lowered by them.
-fn state_sent(state: State, n: usize) -> State
-    ensures { λ r. ⌜ r ≡ stateSent state n ⌝ }
+// The state after n symbols were written: each timer is lowered by them, and the deficit count is this one.
+fn state_sent(state: State, n: usize, deficit: u64) -> State
+    ensures { λ r. ⌜ r ≡ stateSent state n deficit ⌝ }
 {
     let counters = state.counters;
     let times = state.timers;
     let timers = flow::lower(n, times);
-    State { counters, timers }
+    State {
+        counters,
+        timers,
+        deficit,
+    }
 }
 
 // A call that was refused: the place and the state are those of the call.
@@ -230,12 +300,12 @@ fn refused(x: Refusal, place: usize, state: State) -> Sent
     }
 }
 
-// A call that wrote from `place` up to `next`.
-fn wrote(state: State, place: usize, next: usize) -> Sent
+// A call that wrote from `place` up to `next`, after which the deficit count is this one.
+fn wrote(state: State, place: usize, next: usize, deficit: u64) -> Sent
     requires { ⌜ place ≤ next ⌝ }
-    ensures { λ r. ⌜ r ≡ wroteUpTo next (stateSent state (next - place)) ⌝ }
+    ensures { λ r. ⌜ r ≡ wroteUpTo next (stateSent state (next - place) deficit) ⌝ }
 {
-    let after = state_sent(state, next - place);
+    let after = state_sent(state, next - place, deficit);
     Sent {
         answer: Went::Wrote,
         place: next,
@@ -243,10 +313,11 @@ fn wrote(state: State, place: usize, next: usize) -> Sent
     }
 }
 
-// A client frame, into the line buffers from `place` on.
+// A client frame on a port, into the line buffers from `place` on.
 pub fn send_client(
     s: Settings,
     state: State,
+    port: Port,
     octets: &mut [u8],
     marks: &mut [u8],
     place: usize,
@@ -254,54 +325,60 @@ pub fn send_client(
     data: &[u8],
 ) -> Sent
     ensures { λ r. ⌜ sending r (now (octets .exit)) (now (marks .exit))
-        ≡ clientSending s state (now (octets .entry)) (now (marks .entry)) place client (now («data» .entry)) ⌝ }
+        ≡ clientSending s state port (now (octets .entry)) (now (marks .entry)) place client (now («data» .entry)) ⌝ }
 {
-    let checked = check_client(s, state, octets, marks, place, client, data);
+    let checked = check_client(s, state, port, octets, marks, place, client, data);
     if let Checked::Refused(x) = checked {
         return refused(x, place, state);
     }
-    let next = writing::client_at(octets, marks, place, s, client, data, IDLES);
-    wrote(state, place, next)
+    let size = client_size(client.count, data.len());
+    let gap = gap_behind(port, state.deficit, place, size);
+    let next = writing::client_at(octets, marks, place, s, client, data, gap.size - 1);
+    wrote(state, place, next, gap.count)
 }
 
 // A pause frame, whatever the timers say.
 pub fn send_pause(
     s: Settings,
     state: State,
+    port: Port,
     octets: &mut [u8],
     marks: &mut [u8],
     place: usize,
     quanta: Quanta,
 ) -> Sent
     ensures { λ r. ⌜ sending r (now (octets .exit)) (now (marks .exit))
-        ≡ pauseSending s state (now (octets .entry)) (now (marks .entry)) place quanta ⌝ }
+        ≡ pauseSending s state port (now (octets .entry)) (now (marks .entry)) place quanta ⌝ }
 {
-    let checked = check_pause(s, octets, marks, place);
+    let checked = check_pause(s, port, state.deficit, octets, marks, place);
     if let Checked::Refused(x) = checked {
         return refused(x, place, state);
     }
-    let next = writing::pause_at(octets, marks, place, s, quanta, IDLES);
-    wrote(state, place, next)
+    let gap = gap_behind(port, state.deficit, place, CONTROL);
+    let next = writing::pause_at(octets, marks, place, s, quanta, gap.size - 1);
+    wrote(state, place, next, gap.count)
 }
 
 // A PFC frame, whatever the timers say.
 pub fn send_pfc(
     s: Settings,
     state: State,
+    port: Port,
     octets: &mut [u8],
     marks: &mut [u8],
     place: usize,
     classes: Classes,
 ) -> Sent
     ensures { λ r. ⌜ sending r (now (octets .exit)) (now (marks .exit))
-        ≡ pfcSending s state (now (octets .entry)) (now (marks .entry)) place classes ⌝ }
+        ≡ pfcSending s state port (now (octets .entry)) (now (marks .entry)) place classes ⌝ }
 {
-    let checked = check_pfc(s, octets, marks, place);
+    let checked = check_pfc(s, port, state.deficit, octets, marks, place);
     if let Checked::Refused(x) = checked {
         return refused(x, place, state);
     }
-    let next = writing::pfc_at(octets, marks, place, s, classes, IDLES);
-    wrote(state, place, next)
+    let gap = gap_behind(port, state.deficit, place, CONTROL);
+    let next = writing::pfc_at(octets, marks, place, s, classes, gap.size - 1);
+    wrote(state, place, next, gap.count)
 }
 
 // Idle fill: n Idles, whatever the timers say.
@@ -314,5 +391,5 @@ pub fn fill_idle(state: State, octets: &mut [u8], marks: &mut [u8], place: usize
         return refused(x, place, state);
     }
     let next = writing::idle_at(octets, marks, place, n);
-    wrote(state, place, next)
+    wrote(state, place, next, state.deficit)
 }

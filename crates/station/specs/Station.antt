@@ -9,6 +9,8 @@ use Rattle.station.specs.declared.State.{State}
 use Rattle.station.specs.declared.Slots.{Slots}
 use Rattle.station.specs.declared.Flow.{Flow}
 use Rattle.station.specs.declared.Flow.the-variants.{Off, Pause, Pfc}
+use Rattle.station.specs.declared.Port.{Port}
+use Rattle.station.specs.declared.Port.the-variants.{Plain, FourLane}
 use Rattle.station.specs.declared.Outcome.{Outcome}
 use Rattle.station.specs.Numbers.{outcomeNumber}
 
@@ -31,16 +33,20 @@ unfoldable pub total : List ℕ → ℕ
 total [] = 0
 total (c ∷ cs) = c + total cs
 
--- "The state is these eleven counters and the eight timers below": a state with other counters, and one with other timers. Nothing else of it changes.
+-- "The state is these eleven counters and the eight timers below", and, by document 02, item 5, the deficit count, which "is part of the state": a
+-- state with other counters, one with other timers, and one with another deficit count. Nothing else of it changes.
 abbrev pub withCounters : List ℕ → State → State
-withCounters cs st = record { counters = cs; timers = st .timers }
+withCounters cs st = record { counters = cs; timers = st .timers; deficit = st .deficit }
 
 abbrev pub withTimers : List Slots → State → State
-withTimers ts st = record { counters = st .counters; timers = ts }
+withTimers ts st = record { counters = st .counters; timers = ts; deficit = st .deficit }
+
+abbrev pub withDeficit : ℕ → State → State
+withDeficit count st = record { counters = st .counters; timers = st .timers; deficit = count }
 
 -- "a fresh state is all zeros"
 unfoldable pub fresh : State
-fresh = record { counters = replicate 11 0; timers = replicate 8 (record { 0 = 0 }) }
+fresh = record { counters = replicate 11 0; timers = replicate 8 (record { 0 = 0 }); deficit = 0 }
 
 -- ---- Sending: "Flow mode is none, `pause` or `PFC`."
 
@@ -71,3 +77,13 @@ badBuffers os ms = not (eqb (length os) (length ms)) || ltb 65536 (length os)
 -- 3: "place beyond the buffers' length"
 unfoldable pub badPlace : List ℕ → ℕ → Bool
 badPlace os place = ltb (length os) place
+
+-- document 02, item 5: "when sending a frame on this port only, 3 also for a place not divisible by four"
+unfoldable pub badStart : Port → List ℕ → ℕ → Bool
+badStart Plain os place = badPlace os place
+badStart FourLane os place = badPlace os place || not (eqb (place % 4) 0)
+
+-- "then new 19, deficit count above 3"
+unfoldable pub highDeficit : Port → ℕ → Bool
+highDeficit Plain count = false
+highDeficit FourLane count = ltb 3 count

@@ -2,7 +2,7 @@
 // Struct fields have no underscore, so that the definitions read them with no quotes; what each stands for is said beside it.
 ghost use mathlib.Core.Path.{_≡_};
 ghost use Rattle.station.specs.Numbers.{outcomeNumber, refusalNumber};
-ghost use Rattle.station.specs.Station.{badSettings, badBuffers, badPlace, counted, fresh, isPauseMode, isPfcMode};
+ghost use Rattle.station.specs.Station.{badSettings, badBuffers, badPlace, badStart, highDeficit, counted, fresh, isPauseMode, isPfcMode};
 
 // Six octets.
 pub struct Address(pub [u8; 6]);
@@ -35,11 +35,19 @@ pub struct Quanta(pub u16);
 
 pub struct Slots(pub u32);
 
+// The port that a frame is sent on: a plain one, or the four-lane port of document 02, item 5, which "accepts Start only at places divisible by four".
+pub enum Port {
+    Plain,
+    FourLane,
+}
+
 pub struct State {
     // in the order of the outcomes
     pub counters: [u32; 11],
     // one for each class
     pub timers: [Slots; 8],
+    // the deficit count of the four-lane port: how many symbols its gaps are short of 12 each, 3 at most (above 3: refusal 19)
+    pub deficit: u64,
 }
 
 // Outcomes 1 to 11, in their order.
@@ -57,7 +65,7 @@ pub enum Outcome {
     HandedOut,
 }
 
-// Refusals 1 to 10 by number; their place among the tests is the affair of each call's table.
+// Refusals 1 to 10 by number, and 19; their place among the tests is the affair of each call's table.
 pub enum Refusal {
     BadSettings,
     BadBuffers,
@@ -69,6 +77,7 @@ pub enum Refusal {
     NoRoom,
     Held,
     ManyTags,
+    HighDeficit,
 }
 
 // What a table of refusals gives: the first refusal that holds, or that the call goes on.
@@ -109,6 +118,7 @@ pub fn fresh_state() -> State
     State {
         counters: [0u32; 11],
         timers: [Slots(0); 8],
+        deficit: 0,
     }
 }
 
@@ -146,6 +156,7 @@ pub fn refusal_number(r: Refusal) -> u8
         Refusal::NoRoom => 8,
         Refusal::Held => 9,
         Refusal::ManyTags => 10,
+        Refusal::HighDeficit => 19,
     }
 }
 
@@ -174,6 +185,29 @@ pub fn bad_place(octets: &[u8], place: usize) -> bool
     ensures { λ r. ⌜ r ≡ badPlace (now (octets .entry)) place ⌝ }
 {
     octets.len() < place
+}
+
+// Refusal 3 of a frame: also, on the four-lane port, a place not divisible by four.
+pub fn bad_start(port: Port, octets: &[u8], place: usize) -> bool
+    ensures { λ r. ⌜ r ≡ badStart port (now (octets .entry)) place ⌝ }
+{
+    if bad_place(octets, place) {
+        return true;
+    }
+    let Port::FourLane = port else {
+        return false;
+    };
+    place % 4 != 0
+}
+
+// Refusal 19.
+pub fn high_deficit(port: Port, deficit: u64) -> bool
+    ensures { λ r. ⌜ r ≡ highDeficit port deficit ⌝ }
+{
+    let Port::FourLane = port else {
+        return false;
+    };
+    3 < deficit
 }
 
 // Whether the flow mode is `pause`.

@@ -1,3 +1,4 @@
+pub mod GapLaws
 pub mod Pieces
 pub mod Sizes
 pub mod TagLaws

@@ -47,11 +47,12 @@ padded d = d ++ replicate (46 - length d) 0
 unfoldable pub clientBody : Settings → Client → List ℕ → List ℕ
 clientBody s c d = c .dest .0 ++ (s .own .0 ++ (tagOctets (tagsSent c) ++ (highFirst (fieldSent (c .form) d) ++ padded d)))
 
--- "one Terminate and eleven Idles": the gap, of a number of Idles, since item 5 of document 02 makes it vary by the place and the deficit count
+-- "one Terminate and eleven Idles": the gap, of a number of Idles, since on the port of document 02, item 5, it varies by the place and the deficit
+-- count (`gapAt`, specs/Gaps)
 unfoldable pub gap : ℕ → List Symbol
 gap idles = asControl terminate ∷ replicate idles (asControl idle)
 
--- and how many of them every call writes
+-- and how many of them a plain port has
 abbrev pub plainIdles : ℕ
 plainIdles = 11
 

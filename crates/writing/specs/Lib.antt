@@ -1,3 +1,4 @@
 pub mod Computed
 pub mod Frames
+pub mod Gaps
 pub mod Pieces

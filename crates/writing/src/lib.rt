@@ -3,6 +3,7 @@
 use splice::fill;
 use splice::put;
 use station::Address;
+use station::Port;
 use station::Quanta;
 use station::Settings;
 ghost use mathlib.Core.Path.{_≡_};
@@ -14,6 +15,7 @@ ghost use lib.ListN.{length, take};
 ghost use Rattle.line.specs.Octets.{highFirst};
 ghost use Rattle.splice.specs.Written.{Put};
 ghost use Rattle.writing.specs.Frames.{kindField, tagOctets, fieldSent, padded, clientBody, pauseBody, classQuanta, pfcBody, clientSymbols, pauseSymbols, pfcSymbols, idleSymbols};
+ghost use Rattle.writing.specs.Gaps.{gapAt};
 ghost use Rattle.writing.specs.Pieces.{lead, headOf, controlOf, gapOctets, endOf, frameMarks, Laid};
 
 // The kinds of tag: 0x8100, and 0x88A8 of a provider.
@@ -43,6 +45,12 @@ pub struct Client {
     pub count: u8,
     pub form: Form,
     pub class: u8,
+}
+
+// A gap: how many symbols it is, Terminate included, and the deficit count after it.
+pub struct Gap {
+    pub size: usize,
+    pub count: u64,
 }
 
 // What a PFC frame says: the class octet, and a count of quanta for each class.
@@ -213,6 +221,28 @@ fn put_pfc(octets: &mut [u8], s: Settings, classes: Classes) -> usize
 }
 
 // ---- what all frames end in
+
+// The gap behind a frame, from place `at` on, and the deficit count after it. A gap of 12 ends as far past a multiple of four as it begins, and the
+// count is held against what is left up to 3: so nothing can be too large, for any place and count.
+pub fn gap_for(port: Port, at: usize, count: u64) -> Gap
+    ensures { λ r. ⌜ r ≡ gapAt port at count ⌝ }
+{
+    let Port::FourLane = port else {
+        return Gap { size: 12, count };
+    };
+    let r = (at % 4) as u64;
+    if count <= 3 - r {
+        return Gap {
+            size: 12 - r as usize,
+            count: count + r,
+        };
+    }
+    let more = 4 - r;
+    Gap {
+        size: 12 + more as usize,
+        count: count - more,
+    }
+}
 
 // The gap: Terminate and Idles.
 fn put_gap(octets: &mut [u8], at: usize, idles: usize) -> usize

@@ -5,19 +5,20 @@ use crate::compare_log::LentLog;
 use crate::generate::{self, Sending, Symbols, IDLE, START, TERMINATE};
 use crate::prng::Prng;
 use crate::{raw, records};
-use reference::{Client, Flow, Form, Settings};
+use reference::{Client, Flow, Form, Port, Settings};
 
 /// Makes the calls of one case of a seed.
 pub fn run(bench: &mut Bench, seed: u64, case: u64) -> Result<(), Difference> {
     let mut prng = bench.begin(seed, case);
-    match prng.below(20) {
+    match prng.below(21) {
         0..=7 => reading(bench, &mut prng),
         8..=13 => sending(bench, &mut prng),
         14 => holding(bench, &mut prng),
         15 => checking(bench, &mut prng),
         16..=17 => records(bench, &mut prng),
         18 => logging(bench, &mut prng),
-        _ => keeping(bench, &mut prng),
+        19 => keeping(bench, &mut prng),
+        _ => lanes(bench, &mut prng),
     }
 }
 
@@ -61,8 +62,9 @@ fn sending(bench: &mut Bench, prng: &mut Prng) -> Result<(), Difference> {
         if prng.coin() {
             state = generate::timed(prng, &call);
         }
-        let place = generate::sending_place(prng, length, last, &call);
-        let after = bench.send(&s, &mut state, &mut lent, place, &call)?;
+        let port = generate::port(prng);
+        let place = generate::sending_place(prng, length, last, &call, port);
+        let after = bench.send(&s, (&mut state, port), &mut lent, place, &call)?;
         last = after.unwrap_or(last);
     }
     bench.walk(&s, &mut state, &lent)
@@ -96,15 +98,16 @@ fn holding(bench: &mut Bench, prng: &mut Prng) -> Result<(), Difference> {
         marks: prng.octets(n),
     };
     let mut lent = lend(prng, &symbols);
-    bench.send(&s, &mut state, &mut lent, 0, &hold)?;
+    bench.send(&s, (&mut state, Port::Plain), &mut lent, 0, &hold)?;
     bench.read(&s, &mut state, &lent, 0)?;
     let mut place = 84;
     // all slots but one, then that one
     let slots = usize::from(quanta) * 64;
     for idles in [0, slots.saturating_sub(1), slots.min(1)] {
-        bench.send(&s, &mut state, &mut lent, place, &Sending::Idle(idles))?;
-        place += idles;
-        bench.send(&s, &mut state, &mut lent, place, &client)?;
+        let idles = (Sending::Idle(idles), idles);
+        bench.send(&s, (&mut state, Port::Plain), &mut lent, place, &idles.0)?;
+        place += idles.1;
+        bench.send(&s, (&mut state, Port::Plain), &mut lent, place, &client)?;
     }
     bench.walk(&s, &mut state, &lent)
 }
@@ -160,24 +163,64 @@ fn records(bench: &mut Bench, prng: &mut Prng) -> Result<(), Difference> {
     let length = symbols.octets.len();
     for _ in 0..prng.between(3, 6) {
         let mut call = generate::sending(prng, &s, length);
-        let client = match &mut call {
-            Sending::Client(client, _) => {
-                let mut record = generate::client_record(prng, client);
-                if prng.one_in(8) {
-                    generate::spoil(prng, &mut record.0);
-                }
-                *client = records::client(&record);
-                Some(record)
-            }
-            _ => None,
-        };
+        let client = client_record(prng, &mut call, 8);
         let state = generate::timed(prng, &call);
         let mut numbers = generate::state_record(prng, &state);
-        let place = generate::sending_place(prng, length, 0, &call);
+        let port = generate::port(prng);
+        let place = generate::sending_place(prng, length, 0, &call, port);
+        let port = generate::port_octet(prng, port);
         let sending = (&call, client.as_ref());
-        bench.c_send(&settings, &mut numbers, &mut lent, place, sending)?;
+        bench.c_send(&settings, (&mut numbers, port), &mut lent, place, sending)?;
     }
     bench.c_part(prng)
+}
+
+/// The record of a client frame, if it is one; one in so many is spoilt, and the frame is then what
+/// it means.
+fn client_record(prng: &mut Prng, call: &mut Sending, spoilt: usize) -> Option<raw::Client> {
+    let Sending::Client(client, _) = call else {
+        return None;
+    };
+    let mut record = generate::client_record(prng, client);
+    if prng.one_in(spoilt) {
+        generate::spoil(prng, &mut record.0);
+    }
+    *client = records::client(&record);
+    Some(record)
+}
+
+/// Short frames on both ports with 8 to 16 symbols of room behind each, and a row of frames.
+fn lanes(bench: &mut Bench, prng: &mut Prng) -> Result<(), Difference> {
+    let drawn = generate::settings(prng);
+    let settings = generate::settings_record(prng, &drawn);
+    let s = records::settings(&settings);
+    for _ in 0..prng.between(3, 6) {
+        let mut call = generate::short_frame(prng, &s);
+        let client = client_record(prng, &mut call, 64);
+        let port = prng.pick(&[Port::Plain, Port::FourLane, Port::FourLane, Port::FourLane]);
+        let place = 4 * prng.below(6) + if prng.one_in(8) { prng.below(4) } else { 0 };
+        let n = place + call.before_gap() + prng.between(8, 16);
+        let symbols = Symbols {
+            octets: prng.octets(n),
+            marks: prng.octets(n),
+        };
+        let mut lent = lend(prng, &symbols);
+        let mut state = generate::timed_frame(prng, &call);
+        if prng.one_in(3) {
+            let mut numbers = generate::state_record(prng, &state);
+            let port = generate::port_octet(prng, port);
+            let sending = (&call, client.as_ref());
+            bench.c_send(&settings, (&mut numbers, port), &mut lent, place, sending)?;
+        } else {
+            bench.send(&s, (&mut state, port), &mut lent, place, &call)?;
+        }
+    }
+    // lengths are checked, or padding would be handed out
+    let s = Settings {
+        checking: true,
+        ..generate::valid_settings(prng)
+    };
+    bench.row(prng, &s)
 }
 
 /// A log is appended to and read, here and there and from its front.

@@ -5,7 +5,7 @@ use crate::prng::Prng;
 use crate::seen::{By, FcsSeen, ReadingSeen, SendingSeen, WalkSeen};
 use crate::{face, names, show};
 use fenhamper::{Capture, Counted, Fcs, Refusal, Sender};
-use reference::{Answer, Check, Reading, Sent, Settings, State};
+use reference::{Answer, Check, Port, Reading, Sent, Settings, State};
 use std::fmt;
 
 /// Symbols that a call is not lent, on either side of those that it is; octets of a log likewise.
@@ -322,7 +322,7 @@ impl Bench {
     pub fn send(
         &mut self,
         s: &Settings,
-        state: &mut State,
+        (state, port): (&mut State, Port),
         lent: &mut Lent,
         place: usize,
         sending: &Sending,
@@ -333,9 +333,9 @@ impl Bench {
         let mut library_lent = lent.clone();
         let mut library_state = face::state(&before);
 
-        let expected = by_reference(self.check, s, state, lent, place, sending);
+        let expected = by_reference(self.check, s, (state, port), lent, place, sending);
         let (octets, marks) = library_lent.both();
-        let mut sender = Sender::new(octets, marks).at(place);
+        let mut sender = Sender::new(octets, marks).at(place).on(face::port(port));
         let answer = by_library(s, &mut library_state, &mut sender, sending);
         let place_after = sender.place();
 
@@ -347,7 +347,7 @@ impl Bench {
         let inputs = || {
             let sending = show::sending(sending, self.whole);
             let others = inputs(s, &before, &lent_before, place, self.whole);
-            format!("{sending}\n{others}")
+            format!("{port:?}: {sending}\n{others}")
         };
         self.same((call, "answer"), (face::sent(answer), expected), inputs)?;
         if let Err(refusal) = answer {
@@ -360,6 +360,7 @@ impl Bench {
         self.same_lent(call, (&library_lent, lent), inputs)?;
         self.coverage.sending(&SendingSeen {
             call: sending,
+            port,
             s,
             lengths: (lent.octets().len(), lent.marks().len()),
             place,
@@ -430,7 +431,7 @@ fn parts(
 pub(crate) fn by_reference(
     check: Check,
     s: &Settings,
-    state: &mut State,
+    (state, port): (&mut State, Port),
     lent: &mut Lent,
     place: usize,
     sending: &Sending,
@@ -438,13 +439,13 @@ pub(crate) fn by_reference(
     let (octets, marks) = lent.both();
     match sending {
         Sending::Client(client, data) => {
-            reference::send_client(check, s, state, octets, marks, place, client, data)
+            reference::send_client(check, s, state, port, octets, marks, place, client, data)
         }
         Sending::Pause(quanta) => {
-            reference::send_pause(check, s, state, octets, marks, place, *quanta)
+            reference::send_pause(check, s, state, port, octets, marks, place, *quanta)
         }
         Sending::Pfc(named, quanta) => {
-            reference::send_pfc(check, s, state, octets, marks, place, *named, quanta)
+            reference::send_pfc(check, s, state, port, octets, marks, place, *named, quanta)
         }
         Sending::Idle(n) => reference::fill_idle(state, octets, marks, place, *n),
     }

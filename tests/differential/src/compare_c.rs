@@ -11,7 +11,7 @@ pub(crate) fn after(refused: bool, before: &raw::State, state: &State) -> raw::S
     if refused {
         *before
     } else {
-        records::state_written(state)
+        records::state_written(before, state)
     }
 }
 
@@ -46,6 +46,7 @@ impl Bench {
         self.coverage.c(&CSeen {
             settings,
             client: None,
+            port: 0,
             before: &before,
             after: numbers,
             call: CCall::Read(seen),
@@ -87,6 +88,7 @@ impl Bench {
         self.coverage.c(&CSeen {
             settings,
             client: None,
+            port: 0,
             before: &before,
             after: numbers,
             call: CCall::Walk(seen),
@@ -99,7 +101,7 @@ impl Bench {
     pub(crate) fn c_send(
         &mut self,
         settings: &raw::Settings,
-        numbers: &mut raw::State,
+        (numbers, port): (&mut raw::State, u8),
         lent: &mut Lent,
         place: usize,
         (sending, client): (&Sending, Option<&raw::Client>),
@@ -110,16 +112,20 @@ impl Bench {
         let mut state = state_before;
         let lent_before = lent.clone();
         let mut library_lent = lent.clone();
-        let expected = by_reference(self.check, &s, &mut state, lent, place, sending);
+        let port_meant = records::port(port);
+        let on = (&mut state, port_meant);
+        let expected = by_reference(self.check, &s, on, lent, place, sending);
         let line = library_lent.both();
         let answer = match (sending, client) {
             (Sending::Client(_, data), Some(client)) => {
-                raw::send_client(settings, numbers, line, place, client, data)
+                raw::send_client(settings, numbers, port, line, place, client, data)
             }
             (Sending::Client(..), None) => panic!("a client frame has a record"),
-            (Sending::Pause(quanta), _) => raw::send_pause(settings, numbers, line, place, *quanta),
+            (Sending::Pause(quanta), _) => {
+                raw::send_pause(settings, numbers, port, line, place, *quanta)
+            }
             (Sending::Pfc(named, quanta), _) => {
-                raw::send_pfc(settings, numbers, line, place, *named, quanta)
+                raw::send_pfc(settings, numbers, port, line, place, *named, quanta)
             }
             (Sending::Idle(n), _) => raw::fill_idle(numbers, line, place, *n),
         };
@@ -128,7 +134,8 @@ impl Bench {
         let inputs = || {
             let sending = show::sending(sending, self.whole);
             let meant = inputs(&s, &state_before, &lent_before, place, self.whole);
-            format!("{settings:?}\nstate {before:X?}\n{client:?}\nmeant: {sending}\n{meant}")
+            let record = format!("{settings:?}\nstate {before:X?}\nport {port}\n{client:?}");
+            format!("{record}\nmeant: {sending}\n{meant}")
         };
         let answers = (answer, records::sent(expected, place));
         self.same((call, "answer"), answers, inputs)?;
@@ -138,6 +145,7 @@ impl Bench {
         self.same_lent(call, (&library_lent, lent), inputs)?;
         let seen = SendingSeen {
             call: sending,
+            port: port_meant,
             s: &s,
             lengths: (lent.octets().len(), lent.marks().len()),
             place,
@@ -149,6 +157,7 @@ impl Bench {
         self.coverage.c(&CSeen {
             settings,
             client,
+            port,
             before: &before,
             after: numbers,
             call: CCall::Send(seen),

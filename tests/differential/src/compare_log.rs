@@ -340,6 +340,7 @@ impl Bench {
         self.coverage.c(&CSeen {
             settings,
             client: None,
+            port: 0,
             before: &before,
             after: numbers,
             call: CCall::Keep(seen),

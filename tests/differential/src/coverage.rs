@@ -1,5 +1,5 @@
 //! The coverage table: what has to be hit, and how often it was.
-use crate::seen::{CSeen, FcsSeen, ReadingSeen, SendingSeen, WalkSeen};
+use crate::seen::{CSeen, FcsSeen, ReadingSeen, RowSeen, SendingSeen, WalkSeen};
 use crate::seen_log::{GoingOnSeen, KeepSeen, LogSeen};
 use crate::table;
 use std::fmt;
@@ -12,6 +12,8 @@ pub(crate) enum When {
     Walk(Box<dyn Fn(&WalkSeen) -> bool>),
     /// By a sending.
     Sending(Box<dyn Fn(&SendingSeen) -> bool>),
+    /// By a row of frames on both ports.
+    Row(Box<dyn Fn(&RowSeen) -> bool>),
     /// By a call on a log.
     Log(Box<dyn Fn(&LogSeen) -> bool>),
     /// By a walk that keeps its readings.
@@ -63,6 +65,14 @@ impl Coverage {
     pub(crate) fn sending(&mut self, seen: &SendingSeen) {
         for row in &mut self.rows {
             if let When::Sending(test) = &row.when {
+                row.count += u64::from(test(seen));
+            }
+        }
+    }
+
+    pub(crate) fn row(&mut self, seen: &RowSeen) {
+        for row in &mut self.rows {
+            if let When::Row(test) = &row.when {
                 row.count += u64::from(test(seen));
             }
         }

@@ -2,7 +2,7 @@
 use crate::names::StatusParts;
 use fenhamper::{Address, Counted, End, Refusal, Status};
 use reference::{Answer, Client, Flow, Form, LogEnd, Logged, Reading, Record};
-use reference::{Sent, Settings, State, Tag, TagKind, Walked};
+use reference::{Port, Sent, Settings, State, Tag, TagKind, Walked};
 
 /// Settings for the library.
 pub fn settings(s: &Settings) -> fenhamper::Settings {
@@ -25,6 +25,15 @@ pub fn settings(s: &Settings) -> fenhamper::Settings {
 pub fn state(state: &State) -> fenhamper::State {
     let (counters, timers) = (state.counters, state.timers);
     fenhamper::State::with(counters.map(Into::into), timers.map(Into::into))
+        .with_deficit(state.deficit.into())
+}
+
+/// A port for the library.
+pub fn port(port: Port) -> fenhamper::Port {
+    match port {
+        Port::Plain => fenhamper::Port::Plain,
+        Port::FourLane => fenhamper::Port::FourLane,
+    }
 }
 
 /// A tag for the library.

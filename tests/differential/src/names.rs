@@ -15,21 +15,22 @@ pub const OUTCOMES: [&str; 11] = [
     "handed out",
 ];
 
-/// The header's names of the refusals 1 to 13, in words.
-pub const REFUSALS: [&str; 13] = [
-    "bad settings",
-    "bad buffers",
-    "bad place",
-    "other flow",
-    "bad class",
-    "bad type",
-    "long data",
-    "no room",
-    "held",
-    "many tags",
-    "bad log",
-    "log full",
-    "not used",
+/// The header's names of the refusals, in words, behind their numbers.
+pub const REFUSALS: [(u8, &str); 14] = [
+    (1, "bad settings"),
+    (2, "bad buffers"),
+    (3, "bad place"),
+    (4, "other flow"),
+    (5, "bad class"),
+    (6, "bad type"),
+    (7, "long data"),
+    (8, "no room"),
+    (9, "held"),
+    (10, "many tags"),
+    (11, "bad log"),
+    (12, "log full"),
+    (13, "not used"),
+    (19, "high deficit"),
 ];
 
 /// The name of an outcome.
@@ -39,7 +40,8 @@ pub fn outcome(number: u8) -> &'static str {
 
 /// The name of a refusal.
 pub fn refusal(number: u8) -> &'static str {
-    REFUSALS[usize::from(number) - 1]
+    let mut named = REFUSALS.iter().filter(|(of, _)| *of == number);
+    named.next().map_or("unknown", |(_, name)| name)
 }
 
 /// A status word taken apart: its bits 39 to 32, the frame's length and the data's.

@@ -45,7 +45,8 @@ pub const TAG_CONTROL: usize = 2;
 pub const STATE: usize = 24;
 pub const COUNTERS: usize = 0;
 pub const TIMERS: usize = 11;
-pub const STATE_SPARE: usize = 19;
+pub const DEFICIT: usize = 19;
+pub const STATE_SPARE: usize = 20;
 
 /// Numbers of a reading: those that mean something, then zeros.
 pub const READING: usize = 12;
@@ -188,6 +189,7 @@ extern "C" {
     fn fenhamper_send_client(
         settings: &Settings,
         state: &mut State,
+        port: u8,
         octets: *mut u8,
         octets_length: usize,
         marks: *mut u8,
@@ -201,6 +203,7 @@ extern "C" {
     fn fenhamper_send_pause(
         settings: &Settings,
         state: &mut State,
+        port: u8,
         octets: *mut u8,
         octets_length: usize,
         marks: *mut u8,
@@ -212,6 +215,7 @@ extern "C" {
     fn fenhamper_send_pfc(
         settings: &Settings,
         state: &mut State,
+        port: u8,
         octets: *mut u8,
         octets_length: usize,
         marks: *mut u8,
@@ -354,6 +358,7 @@ pub fn client_data(octets_length: usize, place: usize, length: usize) -> [u64; 2
 pub fn send_client(
     settings: &Settings,
     state: &mut State,
+    port: u8,
     (octets, marks): Line,
     place: usize,
     client: &Client,
@@ -367,6 +372,7 @@ pub fn send_client(
         fenhamper_send_client(
             settings,
             state,
+            port,
             octets,
             octets_length,
             marks,
@@ -384,6 +390,7 @@ pub fn send_client(
 pub fn send_pause(
     settings: &Settings,
     state: &mut State,
+    port: u8,
     (octets, marks): Line,
     place: usize,
     quanta: u16,
@@ -396,6 +403,7 @@ pub fn send_pause(
         fenhamper_send_pause(
             settings,
             state,
+            port,
             octets,
             octets_length,
             marks,
@@ -411,6 +419,7 @@ pub fn send_pause(
 pub fn send_pfc(
     settings: &Settings,
     state: &mut State,
+    port: u8,
     (octets, marks): Line,
     place: usize,
     named: u8,
@@ -424,6 +433,7 @@ pub fn send_pfc(
         fenhamper_send_pfc(
             settings,
             state,
+            port,
             octets,
             octets_length,
             marks,

@@ -2,7 +2,7 @@
 //! reference's values, of those that it answers the numbers.
 use crate::raw;
 use reference::{Answer, Client, Flow, Form, LogEnd, Logged, Reading, Record};
-use reference::{Sent, Settings, State, Tag, TagKind, Walked};
+use reference::{Port, Sent, Settings, State, Tag, TagKind, Walked};
 use std::array::from_fn;
 
 /// So many octets of a record.
@@ -56,19 +56,36 @@ pub fn client(record: &raw::Client) -> Client {
     }
 }
 
-/// "Of each counter and timer the low 32 bits are read"; spare numbers mean nothing.
+/// "port 0 is PLAIN, anything else FOUR_LANE".
+pub fn port(octet: u8) -> Port {
+    match octet {
+        0 => Port::Plain,
+        _ => Port::FourLane,
+    }
+}
+
+/// "Of each counter and timer the low 32 bits are read; the deficit count is read whole". The
+/// reference's is an octet: the greatest stands for what it cannot say, which is above 3 alike.
+/// Spare numbers mean nothing.
 pub fn state(record: &raw::State) -> State {
     State {
         counters: from_fn(|i| record[raw::COUNTERS + i] as u32),
         timers: from_fn(|i| record[raw::TIMERS + i] as u32),
+        deficit: u8::try_from(record[raw::DEFICIT]).unwrap_or(u8::MAX),
     }
 }
 
-/// "The rest is written as 0", and so are spare numbers.
-pub fn state_written(state: &State) -> raw::State {
+/// "The rest is written as 0", and so are spare numbers. A deficit count that the reference cannot
+/// say stays as it was.
+pub fn state_written(before: &raw::State, state: &State) -> raw::State {
     let mut record = [0; raw::STATE];
     record[raw::COUNTERS..][..11].copy_from_slice(&state.counters.map(u64::from));
     record[raw::TIMERS..][..8].copy_from_slice(&state.timers.map(u64::from));
+    record[raw::DEFICIT] = if before[raw::DEFICIT] > u64::from(u8::MAX) {
+        before[raw::DEFICIT]
+    } else {
+        state.deficit.into()
+    };
     record
 }
 

@@ -3,7 +3,8 @@
 use crate::generate::{Sending, PREAMBLE, RESERVED_GROUP, SYMBOLS};
 use crate::raw;
 use crate::seen_log::KeepSeen;
-use reference::{fcs, Answer, Check, Client, Flow, Form, Reading, Sent, Settings, State, Walked};
+use reference::{fcs, Answer, Check, Client, Flow, Form, Port, Reading};
+use reference::{Sent, Settings, State, Walked};
 
 /// The call that made a reading.
 #[derive(Clone, Copy, Debug, PartialEq, Eq)]
@@ -351,10 +352,20 @@ pub enum Kind {
     Idle,
 }
 
+/// Item 5's gap by the count and by r, and the count behind it.
+pub const GAPS: [[(usize, u8); 4]; 4] = [
+    [(12, 0), (11, 1), (10, 2), (9, 3)],
+    [(12, 1), (11, 2), (10, 3), (13, 0)],
+    [(12, 2), (11, 3), (14, 0), (13, 1)],
+    [(12, 3), (15, 0), (14, 1), (13, 2)],
+];
+
 /// A sending.
 pub struct SendingSeen<'a> {
     /// What was to be sent.
     pub call: &'a Sending,
+    /// The port given; an Idle fill has none.
+    pub port: Port,
     /// The settings.
     pub s: &'a Settings,
     /// The numbers of octets and marks given.
@@ -403,8 +414,41 @@ impl SendingSeen<'_> {
         match (self.sent, self.call) {
             (Sent::Refused(_), _) | (_, Sending::Idle(_)) => &[],
             // behind Start and preamble, before Terminate and gap
-            (Sent::Wrote(after), _) => &self.octets[self.place + 8..after - 12],
+            (Sent::Wrote(_), _) => &self.octets[self.place + 8..self.frame_end()],
         }
+    }
+
+    /// Where the symbols before a frame's gap end.
+    fn frame_end(&self) -> usize {
+        self.place.saturating_add(self.call.before_gap())
+    }
+
+    /// The gap that was written, with Terminate; nothing where none was.
+    pub fn gap(&self) -> &[u8] {
+        match (self.sent, self.call) {
+            (Sent::Refused(_), _) | (_, Sending::Idle(_)) => &[],
+            (Sent::Wrote(after), _) => &self.octets[self.frame_end()..after],
+        }
+    }
+
+    /// A frame on the four-lane port.
+    pub fn four_lanes(&self) -> bool {
+        self.port == Port::FourLane && self.call.is_frame()
+    }
+
+    /// How far past a multiple of four a gap of 12 would end.
+    pub fn r(&self) -> usize {
+        self.frame_end().wrapping_add(12) % 4
+    }
+
+    /// How many symbols are needed: those before the gap, and the actual gap. On the four-lane port
+    /// none is said for a count above 3.
+    pub fn needed(&self) -> Option<usize> {
+        if !self.four_lanes() {
+            return Some(self.call.symbols());
+        }
+        let row = GAPS.get(usize::from(self.before.deficit))?;
+        Some(self.call.before_gap() + row[self.r()].0)
     }
 
     /// Are these the octets from here on in the frame that was written?
@@ -422,7 +466,10 @@ impl SendingSeen<'_> {
         match (refusal, self.call) {
             (1, _) => bad_settings(self.s),
             (2, _) => bad_buffers(self.lengths.0, self.lengths.1),
-            (3, _) => self.place > self.lengths.0,
+            (3, _) => {
+                self.place > self.lengths.0 || self.four_lanes() && !self.place.is_multiple_of(4)
+            }
+            (19, _) => self.four_lanes() && self.before.deficit > 3,
             (4, Sending::Pause(_)) => self.s.flow != Flow::Pause,
             (4, Sending::Pfc(..)) => self.s.flow != Flow::Pfc,
             (5, Sending::Client(client, _)) => client.class > 7,
@@ -434,7 +481,7 @@ impl SendingSeen<'_> {
                 Form::Length => data.len() > 1500,
                 Form::Type(_) => data.len() + 18 > usize::from(self.s.limit),
             },
-            (8, _) => self.room() < self.call.symbols(),
+            (8, _) => self.needed().is_some_and(|n| self.room() < n),
             (9, Sending::Client(client, _)) => {
                 let timer = self.before.timers.get(usize::from(client.class));
                 timer.is_some_and(|&slots| slots > 0)
@@ -460,6 +507,8 @@ pub struct CSeen<'a> {
     pub settings: &'a raw::Settings,
     /// The client frame given, to the call that takes one.
     pub client: Option<&'a raw::Client>,
+    /// The port's octet given, to a call that sends a frame.
+    pub port: u8,
     /// The state given.
     pub before: &'a raw::State,
     /// The state after.
@@ -518,6 +567,20 @@ impl CSeen<'_> {
         };
         self.sent(|w| w.wrote().is_some() && test(&record.0, w))
     }
+}
+
+/// A row of frames on both ports, from a deficit count of 0.
+pub struct RowSeen {
+    /// How many frames went to the plain port.
+    pub plain: usize,
+    /// How many gaps the four-lane port has.
+    pub gaps: usize,
+    /// Their symbols together.
+    pub symbols: usize,
+    /// The deficit count at the end.
+    pub count: u8,
+    /// How many client frames were read back.
+    pub read: usize,
 }
 
 /// An FCS.

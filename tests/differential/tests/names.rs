@@ -5,7 +5,7 @@ use fenhamper::{Outcome, Refusal};
 const HEADER: &str = include_str!("../../../include/fenhamper.h");
 
 /// In the order of their numbers.
-const ALL_REFUSALS: [Refusal; 13] = [
+const ALL_REFUSALS: [Refusal; 14] = [
     Refusal::BadSettings,
     Refusal::BadBuffers,
     Refusal::BadPlace,
@@ -19,6 +19,7 @@ const ALL_REFUSALS: [Refusal; 13] = [
     Refusal::BadLog,
     Refusal::LogFull,
     Refusal::NotUsed,
+    Refusal::HighDeficit,
 ];
 
 /// Whether the header gives this name this number, and says it in these words.
@@ -52,7 +53,7 @@ fn outcomes() {
 
 #[test]
 fn refusals() {
-    for (number, (name, refusal)) in (1..).zip(REFUSALS.into_iter().zip(ALL_REFUSALS)) {
+    for ((number, name), refusal) in REFUSALS.into_iter().zip(ALL_REFUSALS) {
         assert_eq!((refusal.number(), refusal.name()), (number, name));
         let shown = refusal.to_string();
         assert!(

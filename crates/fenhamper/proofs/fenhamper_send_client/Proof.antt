@@ -1,6 +1,7 @@
 -- `fenhamper::fenhamper_send_client` meets its contract. Assumes nothing.
 use denote.Ref.{now}
-use mathlib.Core.Path.{ap, ap₂, _∙_}
+use mathlib.Core.Path.{ap₂, _∙_}
+use Rattle.station.specs.declared.Port.{Port}
 use Rattle.station.specs.declared.State.{State}
 use Rattle.station.specs.declared.Settings.{Settings}
 use Rattle.writing.specs.declared.Client.{Client}
@@ -21,8 +22,11 @@ called c = told c .before .before .before .before .before
 abbrev framed : tie.After-leave → tie.After-client
 framed c = called c .before
 
+abbrev ported : tie.After-leave → tie.After-port-of
+ported c = framed c .before .before .before
+
 abbrev decoded : tie.After-leave → tie.After-state-of
-decoded c = framed c .before .before .before
+decoded c = ported c .before
 
 abbrev set : tie.After-leave → tie.After-settings
 set c = decoded c .before .before
@@ -35,6 +39,9 @@ settings-requires c κs = search needs
 
 state-of-requires : tie.Need-state-of-requires
 state-of-requires c κs = search needs
+
+port-of-requires : tie.Need-port-of-requires
+port-of-requires c κs = search needs
 
 client-requires : tie.Need-client-requires
 client-requires c κs = search needs
@@ -62,8 +69,8 @@ returns c =
     let a = start c .args in
     send-crosses _ (told c .sent-numbers .ensures) (c .leave .ensures)
     (called c .send-client .ensures
-    ∙ ap₂ (λ (s : Settings) (st : State). clientSending s st (now (a .octets)) (now (a .marks)) (a .place) (framed c .client .result) (now (a .«data»))) (set c .settings .ensures) (decoded c .state-of .ensures)
-    ∙ ap (λ (k : Client). clientSending (settingsOf (now (a .s))) (stateOf (now (a .state))) (now (a .octets)) (now (a .marks)) (a .place) k (now (a .«data»))) (framed c .client .ensures))
+    ∙ ap₂ (λ (s : Settings) (st : State). clientSending s st (ported c .port-of .result) (now (a .octets)) (now (a .marks)) (a .place) (framed c .client .result) (now (a .«data»))) (set c .settings .ensures) (decoded c .state-of .ensures)
+    ∙ ap₂ (λ (p : Port) (k : Client). clientSending (settingsOf (now (a .s))) (stateOf (now (a .state))) p (now (a .octets)) (now (a .marks)) (a .place) k (now (a .«data»))) (ported c .port-of .ensures) (framed c .client .ensures))
 
 pub fenhamper-send-client-spec : {M : Type 1} → statement M
 fenhamper-send-client-spec =
@@ -71,6 +78,7 @@ fenhamper-send-client-spec =
     (tie.spec
     settings-requires
     state-of-requires
+    port-of-requires
     client-requires
     send-client-requires
     sent-numbers-requires

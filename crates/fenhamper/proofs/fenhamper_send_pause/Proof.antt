@@ -1,10 +1,11 @@
 -- `fenhamper::fenhamper_send_pause` meets its contract. Assumes nothing.
 use denote.Ref.{now}
-use mathlib.Core.Path.{ap₂, _∙_}
+use mathlib.Core.Path.{ap, ap₂, _∙_}
+use Rattle.station.specs.declared.Port.{Port}
 use Rattle.station.specs.declared.State.{State}
 use Rattle.station.specs.declared.Settings.{Settings}
 use Rattle.send.specs.Sending.{pauseSending}
-use Rattle.fenhamper.specs.Face.{quantaOf}
+use Rattle.fenhamper.specs.Face.{settingsOf, stateOf, quantaOf}
 use Rattle.fenhamper.proofs.Crossing.{send-crosses}
 use borrow.Author.Needs.{needs}
 use Rattle.fenhamper.proofs.fenhamper_send_pause.Statement.{statement}
@@ -17,8 +18,11 @@ told c = c .before .before .before
 abbrev called : tie.After-leave → tie.After-send-pause
 called c = told c .before .before .before .before .before
 
+abbrev ported : tie.After-leave → tie.After-port-of
+ported c = called c .before .before .before
+
 abbrev decoded : tie.After-leave → tie.After-state-of
-decoded c = called c .before .before .before
+decoded c = ported c .before
 
 abbrev set : tie.After-leave → tie.After-settings
 set c = decoded c .before .before
@@ -31,6 +35,9 @@ settings-requires c κs = search needs
 
 state-of-requires : tie.Need-state-of-requires
 state-of-requires c κs = search needs
+
+port-of-requires : tie.Need-port-of-requires
+port-of-requires c κs = search needs
 
 send-pause-requires : tie.Need-send-pause-requires
 send-pause-requires c κs = search needs
@@ -55,7 +62,8 @@ returns c =
     let a = start c .args in
     send-crosses _ (told c .sent-numbers .ensures) (c .leave .ensures)
     (called c .send-pause .ensures
-    ∙ ap₂ (λ (s : Settings) (st : State). pauseSending s st (now (a .octets)) (now (a .marks)) (a .place) (quantaOf (a .quanta))) (set c .settings .ensures) (decoded c .state-of .ensures))
+    ∙ ap₂ (λ (s : Settings) (st : State). pauseSending s st (ported c .port-of .result) (now (a .octets)) (now (a .marks)) (a .place) (quantaOf (a .quanta))) (set c .settings .ensures) (decoded c .state-of .ensures)
+    ∙ ap (λ (p : Port). pauseSending (settingsOf (now (a .s))) (stateOf (now (a .state))) p (now (a .octets)) (now (a .marks)) (a .place) (quantaOf (a .quanta))) (ported c .port-of .ensures))
 
 pub fenhamper-send-pause-spec : {M : Type 1} → statement M
 fenhamper-send-pause-spec =
@@ -63,6 +71,7 @@ fenhamper-send-pause-spec =
     (tie.spec
     settings-requires
     state-of-requires
+    port-of-requires
     send-pause-requires
     sent-numbers-requires
     element-copy-out-leave

@@ -1,6 +1,7 @@
 -- `fenhamper::fenhamper_send_pfc` meets its contract. Assumes nothing.
 use denote.Ref.{now}
-use mathlib.Core.Path.{ap, ap₂, _∙_}
+use mathlib.Core.Path.{ap₂, _∙_}
+use Rattle.station.specs.declared.Port.{Port}
 use Rattle.station.specs.declared.State.{State}
 use Rattle.station.specs.declared.Settings.{Settings}
 use Rattle.writing.specs.declared.Classes.{Classes}
@@ -21,8 +22,11 @@ called c = told c .before .before .before .before .before
 abbrev framed : tie.After-leave → tie.After-classes
 framed c = called c .before
 
+abbrev ported : tie.After-leave → tie.After-port-of
+ported c = framed c .before .before .before
+
 abbrev decoded : tie.After-leave → tie.After-state-of
-decoded c = framed c .before .before .before
+decoded c = ported c .before
 
 abbrev set : tie.After-leave → tie.After-settings
 set c = decoded c .before .before
@@ -35,6 +39,9 @@ settings-requires c κs = search needs
 
 state-of-requires : tie.Need-state-of-requires
 state-of-requires c κs = search needs
+
+port-of-requires : tie.Need-port-of-requires
+port-of-requires c κs = search needs
 
 classes-requires : tie.Need-classes-requires
 classes-requires c κs = search needs
@@ -62,8 +69,8 @@ returns c =
     let a = start c .args in
     send-crosses _ (told c .sent-numbers .ensures) (c .leave .ensures)
     (called c .send-pfc .ensures
-    ∙ ap₂ (λ (s : Settings) (st : State). pfcSending s st (now (a .octets)) (now (a .marks)) (a .place) (framed c .classes .result)) (set c .settings .ensures) (decoded c .state-of .ensures)
-    ∙ ap (λ (k : Classes). pfcSending (settingsOf (now (a .s))) (stateOf (now (a .state))) (now (a .octets)) (now (a .marks)) (a .place) k) (framed c .classes .ensures))
+    ∙ ap₂ (λ (s : Settings) (st : State). pfcSending s st (ported c .port-of .result) (now (a .octets)) (now (a .marks)) (a .place) (framed c .classes .result)) (set c .settings .ensures) (decoded c .state-of .ensures)
+    ∙ ap₂ (λ (p : Port) (k : Classes). pfcSending (settingsOf (now (a .s))) (stateOf (now (a .state))) p (now (a .octets)) (now (a .marks)) (a .place) k) (ported c .port-of .ensures) (framed c .classes .ensures))
 
 pub fenhamper-send-pfc-spec : {M : Type 1} → statement M
 fenhamper-send-pfc-spec =
@@ -71,6 +78,7 @@ fenhamper-send-pfc-spec =
     (tie.spec
     settings-requires
     state-of-requires
+    port-of-requires
     classes-requires
     send-pfc-requires
     sent-numbers-requires

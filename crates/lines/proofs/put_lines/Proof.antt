@@ -24,6 +24,10 @@ Inv-loop octets marks out₀ s st₀ place₀ n₀ at₀ left₀ out st place n 
 abbrev μ-loop : tie.MeasureT-loop
 μ-loop octets marks out₀ s st₀ place₀ n₀ at₀ left₀ out st place n at left = left
 
+-- the call, seen from a turn of the loop
+abbrev call : tie.At-loop Inv-loop μ-loop → tie.Start Inv-loop μ-loop
+call c = c .before .before .before .before .before .before
+
 settings-requires : tie.Need-settings-requires Inv-loop μ-loop
 settings-requires c κs = search needs
 
@@ -103,8 +107,21 @@ enum-known-a c = search needs
 put-counted-requires : tie.Need-put-counted-requires Inv-loop μ-loop
 put-counted-requires c κs = search needs
 
+-- the octets are few enough that their number, and one more, fits: the output is longer
+few : (c : tie.Start Inv-loop μ-loop) → length (now (c .args .octets)) + 2 ≤ length (now (c .args .out))
+few c = omega arith
+
+room : (c : tie.Start Inv-loop μ-loop) → length (now (c .args .out)) < 18446744073709551616
+room c = omega arith
+
 add-n : tie.Need-add-n Inv-loop μ-loop
-add-n c = search needs
+add-n c =
+    let l = c .before .before .before .before .before .before .before .before .before in
+    let s = call l in
+    let a = few s in
+    let b = room s in
+    let e = l .loop .inv .2 in
+    omega arith
 
 sub-left : tie.Need-sub-left Inv-loop μ-loop
 sub-left c = search needs

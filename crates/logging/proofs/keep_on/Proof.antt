@@ -40,16 +40,16 @@ use Rattle.logging.proofs.keep_on.Statement.{statement}
 use Rattle.logging.proofs.keep_on.Tie as tie
 
 abbrev Inv-loop : tie.InvT-loop
-Inv-loop t s octets marks place log₀ records counters₀ timers₀ n₀ at₀ k₀ log counters timers n at k =
-    (keepFrom (length octets + 1 - n) s (at-state counters timers) octets marks at n log
-    ≡ walkLogged s (at-state counters₀ timers₀) octets marks place log₀)
+Inv-loop t s state octets marks place log₀ records counters₀ timers₀ n₀ at₀ k₀ log counters timers n at k =
+    (keepFrom (length octets + 1 - n) s (at-state (state .deficit) counters timers) octets marks at n log
+    ≡ walkLogged s (at-state (state .deficit) counters₀ timers₀) octets marks place log₀)
     × (n ≤ at)
     × (at ≤ length octets)
     × (length log ≡ length log₀)
     × (k ≡ frontCount log)
 
 abbrev μ-loop : tie.MeasureT-loop
-μ-loop t s octets marks place log₀ records counters₀ timers₀ n₀ at₀ k₀ log counters timers n at k = length octets - at
+μ-loop t s state octets marks place log₀ records counters₀ timers₀ n₀ at₀ k₀ log counters timers n at k = length octets - at
 
 -- the places that others look back to: the call, from a turn of the loop; the turn, from where its Start is found; that, from where the end of its run is
 -- found; where a record is unused, from where the outcome is known; that, from where the timers are; and that, from where the record is made
@@ -345,10 +345,11 @@ loop-again c =
     let end-is = found-end k in
     let fuel : length (octets l) + 1 - (l .loop .n + 1) ≡ length (octets l) + 1 - l .loop .n - 1 = omega arith in (
       ap₂ (λ (b : ℕ) (y : List ℕ).
-          keepFrom b (a .s) (at-state (j .before .before .count .last .1 .0) (j .if2 .timers)) (octets l) (now (a .marks)) (end k) (l .loop .n + 1) y)
+          keepFrom b (a .s) (at-state (a .state .deficit) (j .before .before .count .last .1 .0) (j .if2 .timers)) (octets l) (now (a .marks)) (end k)
+          (l .loop .n + 1) y)
           fuel same
           ∙ ap₂ (λ (cs : List ℕ) (ts : List Slots).
-          keepFrom (length (octets l) + 1 - l .loop .n - 1) (a .s) (at-state cs ts) (octets l) (now (a .marks)) (end k) (l .loop .n + 1) m)
+          keepFrom (length (octets l) + 1 - l .loop .n - 1) (a .s) (at-state (a .state .deficit) cs ts) (octets l) (now (a .marks)) (end k) (l .loop .n + 1) m)
           (counters-now j) (timers-now j)
           ∙ sym (loop-kept _ _ _ _ (fine l) _ start-is _ end-is _ _ _ _ (more l) (good l) _ (i .4) g)
           ∙ i .0,

@@ -62,14 +62,14 @@ returns c =
     let o = k .before .answer .given .0 .0 in
     let ts = call k .args .state .timers in
     rw (k .before .answer .given .1)
-    (ap₂ at-state (s .before .count .ensures) (c .timers-after .ensures ∙ ap (λ (f : List ℕ). timersAfter o f ts) (c .before .frame-of .ensures)))
+    (ap₂ (at-state (call k .args .state .deficit)) (s .before .count .ensures) (c .timers-after .ensures ∙ ap (λ (f : List ℕ). timersAfter o f ts) (c .before .frame-of .ensures)))
 
 returns-2 : tie.Need-returns-2
 unfolding afterSight stateAfter
 returns-2 c =
     let s = c .before in
     let k = counting s in
-    rw (k .before .answer .given .1) (ap₂ at-state (s .before .count .ensures) (stays _ _ _ (sym (s .sets-timers .ensures) ∙ c .if1 .left)))
+    rw (k .before .answer .given .1) (ap₂ (at-state (call k .args .state .deficit)) (s .before .count .ensures) (stays _ _ _ (sym (s .sets-timers .ensures) ∙ c .if1 .left)))
 
 returns-3 : tie.Need-returns-3
 returns-3 c = let a = c .before .before .before .before .args in not-counted (now (a .octets)) (a .seen) (a .state) (c .match .keys2)

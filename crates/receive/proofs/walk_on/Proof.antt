@@ -27,11 +27,13 @@ use Rattle.receive.proofs.walk_on.Statement.{statement}
 use Rattle.receive.proofs.walk_on.Tie as tie
 
 abbrev Inv-loop : tie.InvT-loop
-Inv-loop t s octets marks counters₀ timers₀ n₀ at₀ counters timers n at =
-    (left s octets marks n (at-state counters timers) at ≡ walked s (at-state counters₀ timers₀) octets marks) × (at ≤ length octets) × (n ≤ at)
+Inv-loop t s state octets marks counters₀ timers₀ n₀ at₀ counters timers n at =
+    (left s octets marks n (at-state (state .deficit) counters timers) at ≡ walked s (at-state (state .deficit) counters₀ timers₀) octets marks)
+    × (at ≤ length octets)
+    × (n ≤ at)
 
 abbrev μ-loop : tie.MeasureT-loop
-μ-loop t s octets marks counters₀ timers₀ n₀ at₀ counters timers n at = length octets - at
+μ-loop t s state octets marks counters₀ timers₀ n₀ at₀ counters timers n at = length octets - at
 
 -- the places that others look back to: the call, from a turn of the loop; the turn, from where its Start is found; that, from where the end of its
 -- run is found; that, from where the outcome is known; and that, from the end of the turn
@@ -184,7 +186,7 @@ loop-again c =
     let o = settled c .outcome .ensures in
     let s = start-inside (starting k) in
     let e = end-inside k in (
-      ap₂ (λ (cs : List ℕ) (ts : List Slots). left (a .s) (now (a .octets)) (now (a .marks)) (l .loop .n + 1) (at-state cs ts) (end k))
+      ap₂ (λ (cs : List ℕ) (ts : List Slots). left (a .s) (now (a .octets)) (now (a .marks)) (l .loop .n + 1) (at-state (a .state .deficit) cs ts) (end k))
           (c .before .before .count .ensures ∙ ap (λ (x : Outcome). counted x (l .loop .counters)) o)
           (timers-now c ∙ ap (λ (x : Outcome). timersAfter x (frame c) (l .loop .timers)) o)
           ∙ sym (turn-ended _ _ _ _ _ _ _ (found-start (starting k)) even (end k) (found-end k) (e .0) (e .1))

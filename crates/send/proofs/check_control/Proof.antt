@@ -1,28 +1,31 @@
 -- `send::check_control` meets its contract: each way out passes the rows that did not hold and stops at the one that did. Assumes nothing.
-use Prim.Native.Nat.{ℕ}
+use Prim.Native.Nat.{ℕ, _≤_}
+use native.Mathlib.Omega.{arith}
 use mathlib.Core.Path.{_≡_, refl, sym, _∙_}
 use mathlib.Core.List.{List}
 use lib.ListN.{length}
 use denote.Ref.{now}
 use borrow.Author.Needs.{needs}
-use Rattle.line.specs.Line.{Symbol}
 use Rattle.line.specs.Table.{Table, first}
 use Rattle.line.proofs.Tables.{first-other}
 use Rattle.station.specs.declared.Checked.{Checked}
 use Rattle.station.specs.declared.Checked.the-variants.{Fine}
-use Rattle.station.specs.declared.Refusal.the-variants.{BadSettings, BadBuffers, BadPlace, OtherFlow, NoRoom}
+use Rattle.station.specs.declared.Refusal.the-variants.{BadSettings, BadBuffers, BadPlace, OtherFlow, NoRoom, HighDeficit}
+use Rattle.writing.specs.Gaps.{symbolsOn}
+use Rattle.writing.proofs.GapLaws.{size-is}
 use Rattle.send.specs.Sending.{noRoom, controlRefusals}
-use Rattle.send.proofs.Refusals.{after, row-holds, row-passed, inside, room-by}
+use Rattle.send.proofs.Refusals.{after, row-holds, row-passed, same-length, inside-port, room-by}
 use Rattle.send.proofs.check_control.Statement.{statement}
 use Rattle.send.proofs.check_control.Tie as tie
 
--- the table of any 84 symbols, and the place behind each row
-abbrev rows : tie.Start → List Symbol → Table Checked
-rows c new = let a = c .args in controlRefusals (a .s) (now (a .octets)) (now (a .marks)) (a .place) (a .asked) new
+-- the table of any frame of which the FCS covers 60 octets, and that its first n rows are passed
+abbrev rows : tie.Start → List ℕ → Table Checked
+rows c body = let a = c .args in controlRefusals (a .s) (a .port) (a .deficit) (now (a .octets)) (now (a .marks)) (a .place) (a .asked) body
 
-abbrev past : ℕ → tie.Start → List Symbol → Type 0
-past n c new = first (rows c new) ≡ first (after n (rows c new))
+abbrev past : ℕ → tie.Start → List ℕ → Type 0
+past n c body = first (rows c body) ≡ first (after n (rows c body))
 
+-- the start, seen from behind each row
 abbrev at1 : tie.Else1 → tie.Start
 at1 c = c .before .before .before .before
 
@@ -33,70 +36,99 @@ abbrev at3 : tie.Else3 → tie.Start
 at3 c = at2 (c .before .before)
 
 abbrev at4 : tie.Else4 → tie.Start
-at4 c = at3 (c .before)
+at4 c = at3 (c .before .before)
 
 abbrev at5 : tie.Else5 → tie.Start
-at5 c = at4 (c .before .before)
+at5 c = at4 (c .before)
 
-past-1 : (c : tie.Else1) (new : List Symbol) → past 1 (at1 c) new
-unfolding controlRefusals
-past-1 c new = row-passed BadSettings _ refl (c .before .bad-settings .ensures) (c .if1 .left)
+abbrev at6 : tie.Else6 → tie.Start
+at6 c = at5 (c .before .before .before)
 
-past-2 : (c : tie.Else2) (new : List Symbol) → past 2 (at2 c) new
+past-1 : (c : tie.Else1) (body : List ℕ) → past 1 (at1 c) body
 unfolding controlRefusals
-past-2 c new = row-passed BadBuffers _ (past-1 (c .before .before) new) (c .before .bad-buffers .ensures) (c .if2 .left)
+past-1 c body = row-passed BadSettings _ refl (c .before .bad-settings .ensures) (c .if1 .left)
 
-past-3 : (c : tie.Else3) (new : List Symbol) → past 3 (at3 c) new
+past-2 : (c : tie.Else2) (body : List ℕ) → past 2 (at2 c) body
 unfolding controlRefusals
-past-3 c new = row-passed BadPlace _ (past-2 (c .before .before) new) (c .before .bad-place .ensures) (c .if3 .left)
+past-2 c body = row-passed BadBuffers _ (past-1 (c .before .before) body) (c .before .bad-buffers .ensures) (c .if2 .left)
 
-past-4 : (c : tie.Else4) (new : List Symbol) → past 4 (at4 c) new
+past-3 : (c : tie.Else3) (body : List ℕ) → past 3 (at3 c) body
 unfolding controlRefusals
-past-4 c new = row-passed OtherFlow _ (past-3 (c .before) new) refl (c .if4 .left)
+past-3 c body = row-passed BadPlace _ (past-2 (c .before .before) body) (c .before .bad-start .ensures) (c .if3 .left)
+
+past-4 : (c : tie.Else4) (body : List ℕ) → past 4 (at4 c) body
+unfolding controlRefusals
+past-4 c body = row-passed HighDeficit _ (past-3 (c .before .before) body) (c .before .high-deficit .ensures) (c .if4 .left)
+
+past-5 : (c : tie.Else5) (body : List ℕ) → past 5 (at5 c) body
+unfolding controlRefusals
+past-5 c body = row-passed OtherFlow _ (past-4 (c .before) body) refl (c .if5 .left)
+
+-- the place lies inside the buffers, and these are not too long
+place-small : (c : tie.Else3) → let a = at3 c .args in (a .place ≤ length (now (a .octets))) × (a .place ≤ 65536)
+place-small c =
+    let p = inside-port _ _ _ (sym (c .before .bad-start .ensures) ∙ c .if3 .left) in
+    let b = c .before .before in
+    let l = same-length _ _ (sym (b .before .bad-buffers .ensures) ∙ b .if2 .left) .1 in
+    (p, omega arith)
 
 -- the room that is asked for is that of the symbols
-room : (c : tie.After-no-room) (new : List Symbol) → length new ≡ 84 → let a = at4 (c .before) .args in c .no-room .result ≡ noRoom (now (a .octets)) (a .place) new
-room c new e = let a = at4 (c .before) .args in c .no-room .ensures ∙ room-by (now (a .octets)) (a .place) _ new e
+room : (c : tie.After-no-room) (body : List ℕ) → length body ≡ 60
+    → let a = at5 (c .before .before) .args in c .no-room .result ≡ noRoom (now (a .octets)) (a .place) (symbolsOn (a .port) (a .deficit) (a .place) body)
+room c body e =
+    let a = at5 (c .before .before) .args in
+    c .no-room .ensures
+    ∙ room-by (now (a .octets)) (a .place) _ _ (size-is (a .port) (a .deficit) (a .place) body 60 e ∙ sym (c .before .frame-size .ensures))
 
-past-5 : (c : tie.Else5) (new : List Symbol) → length new ≡ 84 → past 5 (at5 c) new
+past-6 : (c : tie.Else6) (body : List ℕ) → length body ≡ 60 → past 6 (at6 c) body
 unfolding controlRefusals
-past-5 c new e = row-passed NoRoom _ (past-4 (c .before .before) new) (room (c .before) new e) (c .if5 .left)
+past-6 c body e = row-passed NoRoom _ (past-5 (c .before .before .before) body) (room (c .before) body e) (c .if6 .left)
 
 bad-settings-requires : tie.Need-bad-settings-requires
 bad-settings-requires c κs = search needs
 
 returns : tie.Need-returns
 unfolding controlRefusals
-returns c = λ new e. row-holds BadSettings _ refl (c .before .bad-settings .ensures) (c .if1 .taken)
+returns c = λ body e. row-holds BadSettings _ refl (c .before .bad-settings .ensures) (c .if1 .taken)
 
 bad-buffers-requires : tie.Need-bad-buffers-requires
 bad-buffers-requires c κs = search needs
 
 returns-2 : tie.Need-returns-2
 unfolding controlRefusals
-returns-2 c = λ new e. row-holds BadBuffers _ (past-1 (c .before .before) new) (c .before .bad-buffers .ensures) (c .if2 .taken)
+returns-2 c = λ body e. row-holds BadBuffers _ (past-1 (c .before .before) body) (c .before .bad-buffers .ensures) (c .if2 .taken)
 
-bad-place-requires : tie.Need-bad-place-requires
-bad-place-requires c κs = search needs
+bad-start-requires : tie.Need-bad-start-requires
+bad-start-requires c κs = search needs
 
 returns-3 : tie.Need-returns-3
 unfolding controlRefusals
-returns-3 c = λ new e. row-holds BadPlace _ (past-2 (c .before .before) new) (c .before .bad-place .ensures) (c .if3 .taken)
+returns-3 c = λ body e. row-holds BadPlace _ (past-2 (c .before .before) body) (c .before .bad-start .ensures) (c .if3 .taken)
+
+high-deficit-requires : tie.Need-high-deficit-requires
+high-deficit-requires c κs = search needs
 
 returns-4 : tie.Need-returns-4
 unfolding controlRefusals
-returns-4 c = λ new e. row-holds OtherFlow _ (past-3 (c .before) new) refl (c .if4 .taken)
-
-no-room-requires : tie.Need-no-room-requires
-no-room-requires c κs = let p3 = c .before in inside _ _ (sym (p3 .before .bad-place .ensures) ∙ p3 .if3 .left)
+returns-4 c = λ body e. row-holds HighDeficit _ (past-3 (c .before .before) body) (c .before .high-deficit .ensures) (c .if4 .taken)
 
 returns-5 : tie.Need-returns-5
 unfolding controlRefusals
-returns-5 c = λ new e. row-holds NoRoom _ (past-4 (c .before .before) new) (room (c .before) new e) (c .if5 .taken)
+returns-5 c = λ body e. row-holds OtherFlow _ (past-4 (c .before) body) refl (c .if5 .taken)
+
+frame-size-requires : tie.Need-frame-size-requires
+frame-size-requires c κs = (place-small (c .before .before .before) .1, omega arith)
+
+no-room-requires : tie.Need-no-room-requires
+no-room-requires c κs = place-small (c .before .before .before .before) .0
 
 returns-6 : tie.Need-returns-6
 unfolding controlRefusals
-returns-6 c = λ new e. sym (past-5 c new e ∙ first-other Fine)
+returns-6 c = λ body e. row-holds NoRoom _ (past-5 (c .before .before .before) body) (room (c .before) body e) (c .if6 .taken)
+
+returns-7 : tie.Need-returns-7
+unfolding controlRefusals
+returns-7 c = λ body e. sym (past-6 c body e ∙ first-other Fine)
 
 pub check-control-spec : {M : Type 1} → statement M
 check-control-spec =
@@ -106,9 +138,12 @@ check-control-spec =
     returns
     bad-buffers-requires
     returns-2
-    bad-place-requires
+    bad-start-requires
     returns-3
+    high-deficit-requires
     returns-4
-    no-room-requires
     returns-5
-    returns-6)
+    frame-size-requires
+    no-room-requires
+    returns-6
+    returns-7)

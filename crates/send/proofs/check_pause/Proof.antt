@@ -1,10 +1,9 @@
--- `send::check_pause` meets its contract: a pause frame is 84 symbols. Assumes nothing.
+-- `send::check_pause` meets its contract: a pause frame has 60 octets that its FCS covers. Assumes nothing.
 use mathlib.Core.Path.{_≡_}
 use lib.ListN.{length}
 use borrow.Author.Needs.{needs}
-use Rattle.writing.specs.Frames.{plainIdles}
 use Rattle.send.specs.Sending.{pauseChecked}
-use Rattle.writing.proofs.Sizes.{pause-size}
+use Rattle.writing.proofs.Sizes.{pause-body-size}
 use Rattle.send.proofs.Refusals.{in-mode}
 use Rattle.send.proofs.check_pause.Statement.{statement}
 use Rattle.send.proofs.check_pause.Tie as tie
@@ -26,7 +25,7 @@ returns : tie.Need-returns
 unfolding pauseChecked
 returns c = λ q.
     let s = start c in
-    in-mode _ _ _ _ _ (c .check-control .ensures _ (pause-size plainIdles (s .args .s) q (own-6 s))) (c .before .is-pause-mode .ensures)
+    in-mode _ _ _ _ _ _ _ (c .check-control .ensures _ (pause-body-size (s .args .s) q (own-6 s))) (c .before .is-pause-mode .ensures)
 
 pub check-pause-spec : {M : Type 1} → statement M
 check-pause-spec = tie.close (tie.spec is-pause-mode-requires check-control-requires returns)

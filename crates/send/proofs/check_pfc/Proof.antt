@@ -1,10 +1,9 @@
--- `send::check_pfc` meets its contract: a PFC frame is 84 symbols. Assumes nothing.
+-- `send::check_pfc` meets its contract: a PFC frame has 60 octets that its FCS covers. Assumes nothing.
 use mathlib.Core.Path.{_≡_}
 use lib.ListN.{length}
 use borrow.Author.Needs.{needs}
-use Rattle.writing.specs.Frames.{plainIdles}
 use Rattle.send.specs.Sending.{pfcChecked}
-use Rattle.writing.proofs.Sizes.{pfc-size}
+use Rattle.writing.proofs.Sizes.{pfc-body-size}
 use Rattle.send.proofs.Refusals.{in-mode}
 use Rattle.send.proofs.check_pfc.Statement.{statement}
 use Rattle.send.proofs.check_pfc.Tie as tie
@@ -26,7 +25,7 @@ returns : tie.Need-returns
 unfolding pfcChecked
 returns c = λ k eight.
     let s = start c in
-    in-mode _ _ _ _ _ (c .check-control .ensures _ (pfc-size plainIdles (s .args .s) k (own-6 s) eight)) (c .before .is-pfc-mode .ensures)
+    in-mode _ _ _ _ _ _ _ (c .check-control .ensures _ (pfc-body-size (s .args .s) k (own-6 s) eight)) (c .before .is-pfc-mode .ensures)
 
 pub check-pfc-spec : {M : Type 1} → statement M
 check-pfc-spec = tie.close (tie.spec is-pfc-mode-requires check-control-requires returns)

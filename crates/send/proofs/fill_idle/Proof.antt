@@ -31,7 +31,7 @@ same-length-2 c = search needs
 
 returns : tie.Need-returns
 unfolding idleSending
-returns c = call-refused _ _ _ _ _ _ _ (sym (c .before .before .before .before .check-idle .ensures) ∙ c .before .before .checked .given .1) (c .refused .ensures)
+returns c = call-refused _ _ _ _ _ _ _ _ (sym (c .before .before .before .before .check-idle .ensures) ∙ c .before .before .checked .given .1) (c .refused .ensures)
 
 enum-told : tie.Need-enum-told
 enum-told c = search needs
@@ -55,7 +55,7 @@ same-length-4 c = search needs
 
 returns-2 : tie.Need-returns-2
 unfolding idleSending
-returns-2 c = call-wrote _ _ _ _ _ _ (fine (c .before .before .before .before .before .before .before .before)) (c .before .before .before .before .before .idle-at .ensures) (c .wrote .ensures)
+returns-2 c = call-wrote _ _ _ _ _ _ _ (fine (c .before .before .before .before .before .before .before .before)) (c .before .before .before .before .before .idle-at .ensures) (c .wrote .ensures)
 
 pub fill-idle-spec : {M : Type 1} → statement M
 fill-idle-spec =

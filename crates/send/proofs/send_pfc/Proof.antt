@@ -1,22 +1,52 @@
--- `send::send_pfc` meets its contract: refused, or written. Assumes nothing.
+-- `send::send_pfc` meets its contract: refused, or written with the gap of its port. Assumes nothing.
 use native.Mathlib.Omega.{arith}
-use denote.Ref.{now}
-use lib.ListN.{length, length-map}
-use mathlib.Core.Path.{_≡_, sym, _∙_}
+use Prim.Native.Nat.{_+_}
+use mathlib.Core.Path.{_≡_, sym, ap, _∙_}
+use lib.ListN.{length}
 use borrow.Author.Needs.{needs}
-use Rattle.send.proofs.Refusals.{passed-control}
-use Rattle.send.proofs.Calls.{call-refused, call-wrote}
+use denote.Ref.{now}
 use Rattle.station.specs.declared.Checked.the-variants.{Fine}
+use Rattle.writing.specs.declared.Gap.{Gap}
+use Rattle.writing.specs.Frames.{pfcBody, pfcSymbols}
+use Rattle.writing.specs.Gaps.{gapOn}
+use Rattle.writing.proofs.GapLaws.{some-gap, gap-is}
+use Rattle.writing.proofs.Sizes.{length-mapped, pfc-body-size}
 use Rattle.send.specs.Sending.{pfcChecked, pfcSending}
+use Rattle.send.proofs.Refusals.{Framed, passed-control}
+use Rattle.send.proofs.Calls.{frame-refused, frame-wrote, room-with}
 use Rattle.send.proofs.send_pfc.Statement.{statement}
 use Rattle.send.proofs.send_pfc.Tie as tie
 
+-- the start, seen from where the table has answered, and that place from where the frame is written
+abbrev start : tie.After-enum-told → tie.Start
+start c = c .before .before .before .before .before .before .before
+
+abbrev answered : tie.After-gap-behind → tie.After-enum-told
+answered c = c .before
+
+own-6 : (c : tie.Start) → length (c .args .s .own .0) ≡ 6
+own-6 c = search needs
+
 -- the eight quanta of the struct
 eight : (c : tie.Start) → length (c .args .classes .quanta) ≡ 8
-eight c = sym (length-map (c .args .classes .quanta) _) ∙ c .good .1 .1 .1 .1 .1 .0 .1 .1 .1 .0 .1 .0 .1
+eight c = search (length-mapped, needs)
 
-fine : (c : tie.After-enum-told) → let a = c .before .before .before .before .before .before .before .args in pfcChecked (a .s) (now (a .octets)) (now (a .marks)) (a .place) (a .classes) ≡ Fine
-fine c = sym (c .before .before .check-pfc .ensures (c .before .before .before .before .before .before .before .args .classes) (eight (c .before .before .before .before .before .before .before))) ∙ c .enum-told .given .1
+fine : (c : tie.After-enum-told) → let a = start c .args in
+    pfcChecked (a .s) (a .port) (a .state .deficit) (now (a .octets)) (now (a .marks)) (a .place) (a .classes) ≡ Fine
+fine c = sym (c .before .before .check-pfc .ensures (start c .args .classes) (eight (start c))) ∙ c .enum-told .given .1
+
+known : (c : tie.After-enum-told) → let a = start c .args in
+    Framed (a .s) (a .port) (a .state .deficit) (now (a .octets)) (now (a .marks)) (a .place) (pfcBody (a .s) (a .classes))
+unfolding pfcChecked
+known c = passed-control _ _ _ _ _ _ _ _ (fine c) .1
+
+-- the gap is that of the port
+gap-of : (c : tie.After-gap-behind) → let a = start (answered c) .args in
+    c .gap-behind .result ≡ gapOn (a .port) (a .state .deficit) (a .place) (pfcBody (a .s) (a .classes))
+gap-of c =
+    let s = start (answered c) in
+    let a = s .args in
+    c .gap-behind .ensures ∙ gap-is (a .port) (a .state .deficit) (a .place) _ _ (pfc-body-size (a .s) (a .classes) (own-6 s) (eight s))
 
 check-pfc-requires : tie.Need-check-pfc-requires
 check-pfc-requires c κs = search needs
@@ -35,17 +65,36 @@ same-length-2 c = search needs
 
 returns : tie.Need-returns
 unfolding pfcSending
-returns c = call-refused _ _ _ _ _ _ _ (sym (c .before .before .before .before .check-pfc .ensures (c .before .before .before .before .before .before .before .before .before .args .classes) (eight (c .before .before .before .before .before .before .before .before .before))) ∙ c .before .before .checked .given .1) (c .refused .ensures)
+returns c =
+    let k = c .before .before .before .before in
+    let s = k .before .before .before .before .before in
+    frame-refused _ _ _ _ _ _ _ _ (sym (k .check-pfc .ensures (s .args .classes) (eight s)) ∙ c .before .before .checked .given .1) (c .refused .ensures)
 
 enum-told : tie.Need-enum-told
 enum-told c = search needs
 
-pfc-at-requires : tie.Need-pfc-at-requires
-unfolding pfcChecked
-pfc-at-requires c κs =
-    let k = passed-control _ _ _ _ _ _ (fine (c .before .before)) .2 in
-    let e = k .even in
+gap-behind-requires : tie.Need-gap-behind-requires
+gap-behind-requires c κs =
+    let k = known c in
     let r = k .room in
+    let s = k .small in
+    (omega arith, omega arith)
+
+sub-pfc-at : tie.Need-sub-pfc-at
+sub-pfc-at c =
+    let g = c .before .before .before in
+    let e = ap (λ (x : Gap). x .size) (g .gap-behind .ensures) in
+    let a = start (answered g) .args in
+    let k = some-gap (a .port) (a .place + 12 + 60) (a .state .deficit) in
+    omega arith
+
+pfc-at-requires : tie.Need-pfc-at-requires
+unfolding pfcSymbols
+pfc-at-requires c κs =
+    let g = c .before .before .before in
+    let k = known (answered g) in
+    let e = k .even in
+    let r = room-with _ _ _ _ (gap-of g) (k .room) in
     (omega arith, omega arith)
 
 wrote-requires : tie.Need-wrote-requires
@@ -58,8 +107,11 @@ same-length-4 : tie.Need-same-length-4
 same-length-4 c = search needs
 
 returns-2 : tie.Need-returns-2
-unfolding pfcSending
-returns-2 c = call-wrote _ _ _ _ _ _ (fine (c .before .before .before .before .before .before .before .before)) (c .before .before .before .before .before .pfc-at .ensures) (c .wrote .ensures)
+unfolding pfcSending pfcSymbols
+returns-2 c =
+    let w = c .before .before .before .before .before in
+    let g = w .before .before .before .before in
+    frame-wrote _ _ _ _ _ _ _ (g .gap-behind .result) (gap-of g) (fine (answered g)) (w .pfc-at .ensures) (c .wrote .ensures)
 
 pub send-pfc-spec : {M : Type 1} → statement M
 send-pfc-spec =
@@ -72,6 +124,8 @@ send-pfc-spec =
     same-length-2
     returns
     enum-told
+    gap-behind-requires
+    sub-pfc-at
     pfc-at-requires
     wrote-requires
     same-length-3

@@ -3,7 +3,7 @@ use borrow.Author.Needs.{needs}
 use mathlib.Core.Path.{ap}
 use mathlib.Core.List.{List}
 use Rattle.station.specs.declared.Slots.{Slots}
-use Rattle.station.specs.Station.{withTimers}
+use Rattle.station.specs.Station.{withTimers, withDeficit}
 use Rattle.send.specs.Sending.{stateSent}
 use Rattle.send.proofs.state_sent.Statement.{statement}
 use Rattle.send.proofs.state_sent.Tie as tie
@@ -17,7 +17,7 @@ lower-requires c κs = search needs
 
 returns : tie.Need-returns
 unfolding stateSent
-returns c = ap (λ (ts : List Slots). withTimers ts (start c .args .state)) (c .lower .ensures)
+returns c = ap (λ (ts : List Slots). withDeficit (start c .args .deficit) (withTimers ts (start c .args .state))) (c .lower .ensures)
 
 pub state-sent-spec : {M : Type 1} → statement M
 state-sent-spec = tie.close (tie.spec lower-requires returns)

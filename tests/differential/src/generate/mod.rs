@@ -11,8 +11,9 @@ mod tags;
 pub use captures::{capture, longest_capture, place, starts, tabled_capture, Symbols};
 pub use logs::{log, log_with_room, record, record_number, short_log};
 pub use logs::{reading_record, BEYOND_THE_LOG};
-pub use records::{client_record, settings_record, spoil, state_record};
-pub use sendings::{blank_line, sending, sending_place, timed, Sending};
+pub use records::{client_record, port_octet, settings_record, spoil, state_record};
+pub use sendings::{blank_line, port, sending, sending_place, timed, Sending};
+pub use sendings::{short_frame, timed_frame};
 pub use settings::{settings, state, valid_settings, BROADCAST, HIGHEST_BIT, RESERVED_GROUP};
 
 /// The most symbols that a call takes.

@@ -2,7 +2,7 @@
 //! stands for nothing.
 use crate::prng::Prng;
 use crate::raw;
-use reference::{Client, Flow, Form, Settings, State, TagKind};
+use reference::{Client, Flow, Form, Port, Settings, State, TagKind};
 
 /// An octet that is on: anything but 0.
 fn on(prng: &mut Prng) -> u8 {
@@ -72,7 +72,13 @@ pub fn client_record(prng: &mut Prng, client: &Client) -> raw::Client {
     record
 }
 
-/// Numbers that stand for this state: high bits and spare ones are anything.
+/// An octet that stands for this port.
+pub fn port_octet(prng: &mut Prng, port: Port) -> u8 {
+    flag(prng, port == Port::FourLane)
+}
+
+/// Numbers that stand for this state: high bits and spare ones are anything. The greatest deficit
+/// count stands for all that an octet cannot say, 0 to 3 if high bits are lost among them.
 pub fn state_record(prng: &mut Prng, state: &State) -> raw::State {
     let mut high = |low: u32| {
         let any = prng.number() as u32;
@@ -82,6 +88,21 @@ pub fn state_record(prng: &mut Prng, state: &State) -> raw::State {
     let mut record = [0; raw::STATE];
     record[raw::COUNTERS..][..11].copy_from_slice(&state.counters.map(&mut high));
     record[raw::TIMERS..][..8].copy_from_slice(&state.timers.map(&mut high));
+    record[raw::DEFICIT] = match state.deficit {
+        u8::MAX => {
+            let low = prng.below(4) as u64;
+            let any = prng.number() | 1 << 8;
+            prng.pick(&[
+                255,
+                1 << 8 | low,
+                1 << 32 | low,
+                1 << 63 | low,
+                u64::MAX,
+                any,
+            ])
+        }
+        count => count.into(),
+    };
     for spare in &mut record[raw::STATE_SPARE..] {
         let any = prng.number();
         *spare = prng.pick(&[0, 1, u64::MAX, any]);

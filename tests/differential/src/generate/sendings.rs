@@ -1,13 +1,13 @@
 //! Things to send, and the buffers they go to.
 use super::captures::{unequal, Symbols};
 use super::frames::quanta;
-use super::settings::{destination, state, HIGHEST_BIT};
+use super::settings::{deficit, destination, state, HIGHEST_BIT};
 use super::tags::tags;
 use super::{BEYOND_16_BITS, BEYOND_32_BITS, SYMBOLS};
 use crate::prng::Prng;
-use reference::{Client, Flow, Form, Settings, State};
+use reference::{Client, Flow, Form, Port, Settings, State};
 
-/// A sending call but for settings, state, buffers and place.
+/// A sending call but for settings, state, port, buffers and place.
 #[derive(Clone, Debug)]
 pub enum Sending {
     /// A client frame and its data.
@@ -31,16 +31,74 @@ impl Sending {
         }
     }
 
-    /// How many symbols it takes: Start, preamble, destination to FCS, Terminate and gap.
-    pub fn symbols(&self) -> usize {
+    /// How many symbols stand before its gap: Start, preamble, destination to FCS; or all Idles.
+    pub fn before_gap(&self) -> usize {
         match self {
             Sending::Client(client, data) => {
-                1 + 7 + 12 + 4 * client.tags.len() + 2 + data.len().max(46) + 4 + 1 + 11
+                1 + 7 + 12 + 4 * client.tags.len() + 2 + data.len().max(46) + 4
             }
-            Sending::Pause(_) | Sending::Pfc(..) => 84,
+            Sending::Pause(_) | Sending::Pfc(..) => 72,
             Sending::Idle(n) => *n,
         }
     }
+
+    /// Whether it is a frame, behind which a gap stands.
+    pub fn is_frame(&self) -> bool {
+        !matches!(self, Sending::Idle(_))
+    }
+
+    /// How many symbols it takes with a gap of 12, if it has one.
+    pub fn symbols(&self) -> usize {
+        self.before_gap() + if self.is_frame() { 12 } else { 0 }
+    }
+}
+
+/// The port of a call.
+pub fn port(prng: &mut Prng) -> Port {
+    prng.pick(&[Port::Plain, Port::Plain, Port::FourLane])
+}
+
+/// A short frame to the own address, which comes out as it goes in, or a control frame of the flow
+/// mode.
+pub fn short_frame(prng: &mut Prng, s: &Settings) -> Sending {
+    match (s.flow, prng.below(6)) {
+        (Flow::Pause, 0) => return Sending::Pause(quanta(prng)),
+        (Flow::Pfc, 0) => return pfc(prng),
+        _ => {}
+    }
+    let client = Client {
+        dest: s.own,
+        tags: if prng.one_in(4) {
+            tags(prng).into_iter().take(8).collect()
+        } else {
+            Vec::new()
+        },
+        form: prng.pick(&[Form::Length, Form::Type(0x0800)]),
+        class: prng.below(8) as u8,
+    };
+    let length = prng.between(40, 60);
+    Sending::Client(client, prng.octets(length))
+}
+
+/// A state whose timers run out about when this frame has ended, whatever its gap; the class of a
+/// client frame mostly does not hold it, and the deficit count is mostly allowed.
+pub fn timed_frame(prng: &mut Prng, call: &Sending) -> State {
+    let before_gap = call.before_gap() as u32;
+    let mut state = state(prng);
+    for timer in &mut state.timers {
+        *timer = before_gap + prng.between(8, 16) as u32;
+    }
+    if let Sending::Client(client, _) = call {
+        let own = state.timers.get_mut(usize::from(client.class));
+        if let Some(own) = own.filter(|_| !prng.one_in(16)) {
+            *own = 0;
+        }
+    }
+    state.deficit = match prng.below(8) {
+        0 => deficit(prng),
+        _ => prng.below(4) as u8,
+    };
+    state
 }
 
 /// Buffers to send into, filled with anything; most take a few short frames.
@@ -141,10 +199,16 @@ fn client(prng: &mut Prng, s: &Settings, room: usize) -> Sending {
 }
 
 /// Where to send: where the last call ended, so that the frame ends with the buffers, or one symbol
-/// too late for that, or beyond.
-pub fn sending_place(prng: &mut Prng, length: usize, last: usize, call: &Sending) -> usize {
+/// too late for that, or beyond. On the four-lane port mostly the next place that it accepts.
+pub fn sending_place(
+    prng: &mut Prng,
+    length: usize,
+    last: usize,
+    call: &Sending,
+    port: Port,
+) -> usize {
     let latest = length.saturating_sub(call.symbols());
-    match prng.below(24) {
+    let place = match prng.below(24) {
         0..=3 => latest,
         4..=5 => latest + 1,
         6 => length,
@@ -153,7 +217,11 @@ pub fn sending_place(prng: &mut Prng, length: usize, last: usize, call: &Sending
         10..=13 => last,
         14..=17 => 0,
         _ => prng.below(latest + 1),
+    };
+    if port == Port::FourLane && !prng.one_in(6) {
+        return place.checked_next_multiple_of(4).unwrap_or(place);
     }
+    place
 }
 
 /// A state whose timers run out about when this call has ended.

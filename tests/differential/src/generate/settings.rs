@@ -74,7 +74,20 @@ pub fn state(prng: &mut Prng) -> State {
             prng.pick(&[0, 0, 1, 64, 65_535 * 64, HIGHEST_BIT, u32::MAX, any])
         }),
     };
-    State { counters, timers }
+    State {
+        counters,
+        timers,
+        deficit: deficit(prng),
+    }
+}
+
+/// A deficit count, on both sides of 3.
+pub fn deficit(prng: &mut Prng) -> u8 {
+    match prng.below(16) {
+        0..=11 => prng.below(4) as u8,
+        12..=14 => prng.pick(&[4, 5]),
+        _ => u8::MAX,
+    }
 }
 
 /// Any address without the group bit.

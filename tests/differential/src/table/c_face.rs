@@ -6,10 +6,10 @@ use crate::seen::{CSeen, FrameSeen, Kind, ReadingSeen};
 use reference::Form;
 
 /// What may stand for 1 and does not equal it: even, of the highest bit alone, odd.
-const ON: [u8; 3] = [2, 128, 255];
+pub const ON: [u8; 3] = [2, 128, 255];
 
 /// The calls that take a state.
-const CALLS: [&str; 7] = ["read", "walk", "walk_log", "client", "pause", "PFC", "idle"];
+pub const CALLS: [&str; 7] = ["read", "walk", "walk_log", "client", "pause", "PFC", "idle"];
 
 pub fn rows(t: &mut Table) {
     flags(t);
@@ -139,16 +139,16 @@ fn high_bits(t: &mut Table) {
         t.c(format!("C: {call}: all high bits written as 0"), move |c| {
             c.name() == call
                 && c.refusal() == 0
-                && c.before[..raw::STATE_SPARE].iter().any(|&n| high(n))
-                && !c.after.iter().any(|&n| high(n))
+                && c.before[..raw::DEFICIT].iter().any(|&n| high(n))
+                && !c.after[..raw::DEFICIT].iter().any(|&n| high(n))
         });
     }
     for (end, none) in [("none", true), ("open", false)] {
         t.c(
             format!("C: read: {end}: high bits written as 0"),
             move |c| {
-                c.before[..raw::STATE_SPARE].iter().any(|&n| high(n))
-                    && !c.after.iter().any(|&n| high(n))
+                c.before[..raw::DEFICIT].iter().any(|&n| high(n))
+                    && !c.after[..raw::DEFICIT].iter().any(|&n| high(n))
                     && c.read(|r| if none { r.none() } else { r.open() })
             },
         );
@@ -167,7 +167,7 @@ fn refused_states(t: &mut Table) {
         let high = |part: &[u64]| part.iter().any(|&n| n >> 32 != 0);
         c.before == c.after
             && high(&c.before[raw::COUNTERS..raw::TIMERS])
-            && high(&c.before[raw::TIMERS..raw::STATE_SPARE])
+            && high(&c.before[raw::TIMERS..raw::DEFICIT])
             && c.before[raw::STATE_SPARE..].iter().any(|&n| n != 0)
     };
     for call in CALLS {
@@ -176,7 +176,7 @@ fn refused_states(t: &mut Table) {
             move |c| c.name() == call && c.refusal() > 0 && stays(c),
         );
     }
-    for refusal in 1..=11 {
+    for refusal in (1..=11).chain([19]) {
         t.c(
             format!("C: refusal {refusal}: every number stays"),
             move |c| c.refusal() == refusal && stays(c),
@@ -248,7 +248,7 @@ fn tags(t: &mut Table) {
                 let beyond = &record[raw::TAGS + raw::TAG * n..];
                 usize::from(record[raw::TAG_COUNT]) == n
                     && beyond.iter().any(|&octet| octet != 0)
-                    && w.wrote() == Some(w.call.symbols())
+                    && w.wrote() == w.needed()
             })
         });
     }

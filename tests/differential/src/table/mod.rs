@@ -5,12 +5,13 @@ mod control;
 mod frames;
 mod keeping;
 mod log;
+mod ports;
 mod reading;
 mod sending;
 mod tags;
 
 use crate::coverage::{Row, When};
-use crate::seen::{CSeen, FcsSeen, ReadingSeen, SendingSeen, WalkSeen};
+use crate::seen::{CSeen, FcsSeen, ReadingSeen, RowSeen, SendingSeen, WalkSeen};
 use crate::seen_log::{GoingOnSeen, KeepSeen, LogSeen};
 use std::collections::BTreeSet;
 
@@ -22,6 +23,7 @@ pub(crate) fn rows() -> Vec<Row> {
     tags::rows(&mut table);
     control::rows(&mut table);
     sending::rows(&mut table);
+    ports::rows(&mut table);
     log::rows(&mut table);
     keeping::rows(&mut table);
     c_face::rows(&mut table);
@@ -86,6 +88,10 @@ impl Table {
 
     fn c(&mut self, name: impl Into<String>, test: impl Fn(&CSeen) -> bool + 'static) {
         self.row(name, When::C(Box::new(test)));
+    }
+
+    fn line(&mut self, name: impl Into<String>, test: impl Fn(&RowSeen) -> bool + 'static) {
+        self.row(name, When::Row(Box::new(test)));
     }
 
     fn fcs(&mut self, name: impl Into<String>, test: impl Fn(&FcsSeen) -> bool + 'static) {

@@ -88,7 +88,7 @@ fn buffers(t: &mut Table, kind: Kind, call: &str) {
         w.wrote().is_some_and(|n| n > 0 && n == w.room())
     });
     row("one symbol short: refusal 8", |w| {
-        w.refusal() == 8 && w.room() + 1 == w.call.symbols()
+        w.refusal() == 8 && w.needed() == Some(w.room() + 1)
     });
     row("up to the end of 65536 symbols: written", |w| {
         w.wrote().is_some_and(|n| n > 0 && w.place + n == SYMBOLS)
@@ -246,7 +246,7 @@ fn data(t: &mut Table, n: usize) {
     });
     let name = format!("client, {}: one symbol short: refusal 8", tags(n));
     t.sending(name, move |w| {
-        w.refusal() == 8 && w.client(Some(n), |_, _| w.room() + 1 == w.call.symbols())
+        w.refusal() == 8 && w.client(Some(n), |_, _| w.needed() == Some(w.room() + 1))
     });
 }
 
