@@ -80,6 +80,11 @@ fn places(t: &mut Table, kind: Kind, call: &str) {
             w.kind() == kind && w.four_lanes() && w.place % 4 == past && answered
         });
     }
+    let name = format!("{call}, four lanes: no multiple of four, and 19 holds: refusal 3");
+    t.sending(name, move |w| {
+        let inside = w.place < w.lengths.0 && w.holds(19);
+        w.kind() == kind && inside && w.refusal() == 3
+    });
     let name = format!("{call}, four lanes: a multiple of four beyond the length: refusal 3");
     t.sending(name, move |w| {
         let beyond = w.place > w.lengths.0 && w.place % 4 == 0;
