@@ -12,10 +12,13 @@ use Rattle.flow.proofs.lower.Statement.{statement}
 use Rattle.flow.proofs.lower.Tie as tie
 
 abbrev Inv-loop : tie.InvT-loop
-Inv-loop n timers₀ k₀ timers k = (k ≤ 8) × (length timers ≡ 8) × (rest (loweredBy n) k timers ≡ each (loweredBy n) 0 timers₀)
+Inv-loop n timers₀ «by» k₀ timers k = (k ≤ 8) × (length timers ≡ 8) × (rest (loweredBy n) k timers ≡ each (loweredBy n) 0 timers₀)
 
 abbrev μ-loop : tie.MeasureT-loop
-μ-loop n timers₀ k₀ timers k = 8 - k
+μ-loop n timers₀ «by» k₀ timers k = 8 - k
+
+cut-requires : tie.Need-cut-requires Inv-loop μ-loop
+cut-requires c κs = search needs
 
 loop-holds : tie.Need-loop-holds Inv-loop μ-loop
 loop-holds c = (search needs, search needs, rest-begin _ _)
@@ -44,8 +47,8 @@ loop-less c = search needs
 loop-again : tie.Need-loop-again Inv-loop μ-loop
 loop-again c =
     let l = c .before .before .before in
-    let n = l .before .args .n in
-    let one : c .lower-one .result ≡ loweredBy n (l .loop .k) (getD (l .loop .timers) (l .loop .k) (record { 0 = 0 })) = ap (λ (x : ℕ). record { 0 = x }) (c .lower-one .ensures) in (
+    let n = l .before .before .args .n in
+    let one : c .lower-one .result ≡ loweredBy n (l .loop .k) (getD (l .loop .timers) (l .loop .k) (record { 0 = 0 })) = ap (λ (x : ℕ). record { 0 = x }) (c .lower-one .ensures n (l .before .cut .ensures)) in (
       search needs,
       search needs,
       rw one (rest-step (loweredBy n) (l .loop .k) (l .loop .timers) (record { 0 = 0 }) (omega arith)) ∙ l .loop .inv .2,
@@ -54,7 +57,7 @@ loop-again c =
 returns : tie.Need-returns Inv-loop μ-loop
 returns c =
     let l = c .before in
-    let a = l .before .args in
+    let a = l .before .before .args in
     sym (rest-end (loweredBy (a .n)) (l .loop .k) (l .loop .timers) (omega arith)) ∙ l .loop .inv .2 ∙ sym (lowered-each (a .n) (a .t2))
 
 pub lower-spec : {M : Type 1} → statement M
@@ -63,6 +66,7 @@ lower-spec =
     (tie.spec
     Inv-loop
     μ-loop
+    cut-requires
     loop-holds
     mul-s
     array-copy-out-s
