@@ -121,6 +121,18 @@ fn put_tags(octets: &mut [u8], at: usize, tags: [Tag; 8], count: u8) -> usize
     at + 4 * k
 }
 
+// The tags of a client frame. Most frames have none: then the array is not looked at.
+fn put_own_tags(octets: &mut [u8], at: usize, client: Client) -> usize
+    requires { ⌜ (client .count ≤ 8) × (at + 4 * client .count ≤ length (now octets)) ⌝ }
+    ensures { λ r. ⌜ Put (now (octets .entry)) at (tagOctets (take (client .count) (client .tags))) r (now (octets .exit)) ⌝ }
+{
+    if client.count == 0 {
+        return at;
+    }
+    let tags = client.tags;
+    put_tags(octets, at, tags, client.count)
+}
+
 // The field.
 fn field_sent(form: Form, d: &[u8]) -> u16
     requires { ⌜ length (now d) < 65536 ⌝ }
@@ -154,11 +166,10 @@ fn put_client(octets: &mut [u8], s: Settings, client: Client, d: &[u8]) -> usize
     requires { ⌜ (8 + length (clientBody s client (now d)) ≤ length (now octets)) × (length (now d) < 65536) × (client .count ≤ 8) ⌝ }
     ensures { λ r. ⌜ Put (now (octets .entry)) 0 (lead ++ clientBody s client (now (d .entry))) r (now (octets .exit)) ⌝ }
 {
-    let tags = client.tags;
     let form = client.form;
     let field = field_sent(form, d);
     let a = put_head(octets, client.dest, s.own);
-    let b = put_tags(octets, a, tags, client.count);
+    let b = put_own_tags(octets, a, client);
     let c = put_number(octets, b, field);
     put_data(octets, c, d)
 }
@@ -244,12 +255,18 @@ pub fn gap_for(port: Port, at: usize, count: u64) -> Gap
     }
 }
 
+// How many Idles the gap of a plain port has: `put_gap` fills with this very number, of which the compiler makes a few stores.
+const PLAIN_IDLES: usize = 11;
+
 // The gap: Terminate and Idles.
 fn put_gap(octets: &mut [u8], at: usize, idles: usize) -> usize
     requires { ⌜ at + (idles + 1) ≤ length (now octets) ⌝ }
     ensures { λ r. ⌜ Put (now (octets .entry)) at (gapOctets idles) r (now (octets .exit)) ⌝ }
 {
     let a = put(octets, at, &[0xFD]);
+    if idles == PLAIN_IDLES {
+        return fill(octets, a, PLAIN_IDLES, 0x07);
+    }
     fill(octets, a, idles, 0x07)
 }
 

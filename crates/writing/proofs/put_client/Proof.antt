@@ -27,14 +27,14 @@ field-sent-requires c κs = search needs
 
 put-head-requires : tie.Need-put-head-requires
 put-head-requires c κs =
-    let s = c .before .before .before .before .before in
+    let s = c .before .before .before .before in
     let a = s .args in
     let body = client-body-size (a .s) (a .client) (now (a .d)) (dest s) (own s) in
     omega arith
 
-put-tags-requires : tie.Need-put-tags-requires
-put-tags-requires c κs =
-    let s = c .before .before .before .before .before .before .before .before .before in
+put-own-tags-requires : tie.Need-put-own-tags-requires
+put-own-tags-requires c κs =
+    let s = c .before .before .before .before .before .before .before .before in
     let a = s .args in
     let body = client-body-size (a .s) (a .client) (now (a .d)) (dest s) (own s) in
     let head = head-size (a .client .dest .0) (a .s .own) (dest s) (own s) in
@@ -45,7 +45,7 @@ put-tags-requires c κs =
 put-number-requires : tie.Need-put-number-requires
 unfolding tagsSent
 put-number-requires c κs =
-    let s = c .before .before .before .before .before .before .before .before .before .before .before .before .before in
+    let s = c .before .before .before .before .before .before .before .before .before .before .before .before in
     let a = s .args in
     let body = client-body-size (a .s) (a .client) (now (a .d)) (dest s) (own s) in
     let head = head-size (a .client .dest .0) (a .s .own) (dest s) (own s) in
@@ -56,7 +56,7 @@ put-number-requires c κs =
 put-data-requires : tie.Need-put-data-requires
 unfolding tagsSent
 put-data-requires c κs =
-    let s = c .before .before .before .before .before .before .before .before .before .before .before .before .before .before .before .before .before in
+    let s = c .before .before .before .before .before .before .before .before .before .before .before .before .before .before .before .before in
     let a = s .args in
     let body = client-body-size (a .s) (a .client) (now (a .d)) (dest s) (own s) in
     let head = head-size (a .client .dest .0) (a .s .own) (dest s) (own s) in
@@ -64,7 +64,7 @@ put-data-requires c κs =
     let count = tags-count (a .client) (tags s) (s .pre .2) in
     let start = s .pre .0 in
     let front = c .before .before .before .before .before .before .before .before .before .before .before .put-head .ensures .goes in
-    let tagged = c .before .before .before .before .before .before .before .put-tags .ensures .goes in
+    let tagged = c .before .before .before .before .before .before .before .put-own-tags .ensures .goes in
     let numbered = rw two at (c .before .before .before .put-number .ensures .goes) in
     omega (arith, padded-size (now (a .d)))
 
@@ -74,9 +74,9 @@ same-length c = search needs
 returns : tie.Need-returns
 unfolding tagsSent
 returns c =
-    let a = c .before .before .before .before .before .before .before .before .before .before .before .before .before .before .before .before .before .before .before .before .args in
+    let a = c .before .before .before .before .before .before .before .before .before .before .before .before .before .before .before .before .before .before .before .args in
     let number = rw (c .before .before .before .before .before .before .before .before .before .before .before .before .before .before .before .before .field-sent .ensures) at (c .before .before .before .before .before .before .put-number .ensures) in
-    rw (client-pieces (a .s) (a .client) (now (a .d))) at (c .before .before .before .before .before .before .before .before .before .before .before .before .before .before .put-head .ensures ⨾ c .before .before .before .before .before .before .before .before .before .before .put-tags .ensures ⨾ number ⨾ c .before .before .put-data .ensures)
+    rw (client-pieces (a .s) (a .client) (now (a .d))) at (c .before .before .before .before .before .before .before .before .before .before .before .before .before .before .put-head .ensures ⨾ c .before .before .before .before .before .before .before .before .before .before .put-own-tags .ensures ⨾ number ⨾ c .before .before .put-data .ensures)
 
 pub put-client-spec : {M : Type 1} → statement M
 put-client-spec =
@@ -84,7 +84,7 @@ put-client-spec =
     (tie.spec
     field-sent-requires
     put-head-requires
-    put-tags-requires
+    put-own-tags-requires
     put-number-requires
     put-data-requires
     same-length
