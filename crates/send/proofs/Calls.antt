@@ -14,6 +14,7 @@ use Rattle.writing.specs.declared.Gap.{Gap}
 use Rattle.writing.specs.Frames.{onLine}
 use Rattle.writing.specs.Gaps.{gapOn, symbolsOn}
 use Rattle.writing.specs.Pieces.{Laid}
+use Rattle.writing.proofs.GapLaws.{some-gap}
 use Rattle.send.specs.declared.Sent.{Sent}
 use Rattle.send.specs.Sending.{sending, stateSent, refusedAt, wroteUpTo, sendChecked, frameSending}
 
@@ -44,6 +45,14 @@ module _ (k : Checked) (st : State) (port : Port) (os ms : List ℕ) (place : �
   frame-wrote g same h l e =
       call-wrote k st os ms place (onLine (g .size - 1) body) (g .count) h l e
       ∙ ap (λ (x : Gap). sendChecked k st os ms place (onLine (x .size - 1) body) (x .count)) same
+
+-- such a gap has its Terminate
+pub has-terminate : (port : Port) (count place : ℕ) (body : List ℕ) {g : Gap} → g ≡ gapOn port count place body → 1 ≤ g .size
+unfolding gapOn
+has-terminate port count place body e =
+    let k = some-gap port (place + 12 + length body) count in
+    let same = ap (λ (x : Gap). x .size) e in
+    omega arith
 
 -- the room of the frame's symbols is that of the symbols with this gap
 pub room-with : (port : Port) (count place : ℕ) (body : List ℕ) {n : ℕ} {g : Gap} → g ≡ gapOn port count place body

@@ -1,7 +1,7 @@
 -- The tables of refusals row by row: what a call that is not refused knows, and how the code's tests are the rows'. Assumes nothing.
 use Prim.Native.Nat.{ℕ, zero, suc, _+_, _-_, _%_, _≤_}
 use native.Mathlib.Omega.{arith}
-use mathlib.Core.Path.{_≡_, sym, ap, _∙_}
+use mathlib.Core.Path.{_≡_, refl, sym, ap, _∙_}
 use mathlib.Core.Bool.{Bool, true, false, not, _||_}
 use mathlib.Core.List.{List}
 use lib.ListN.{length}
@@ -21,10 +21,14 @@ use Rattle.station.specs.declared.Checked.the-variants.{Fine, Refused}
 use Rattle.station.specs.Station.{isGroup, badSettings, badBuffers, badPlace, badStart, highDeficit}
 use Rattle.station.proofs.Refusals.{fine-row, or-false, not-false}
 use Rattle.writing.specs.declared.Client.{Client}
+use Rattle.writing.specs.declared.Gap.{Gap}
 use Rattle.writing.specs.declared.Form.{Form}
 use Rattle.writing.specs.declared.Form.the-variants.{ByLength, ByType}
 use Rattle.writing.specs.Frames.{clientBody, idleSymbols}
-use Rattle.writing.specs.Gaps.{symbolsOn}
+use Rattle.writing.specs.Gaps.{gapOn, symbolsOn}
+use Rattle.send.specs.declared.Framing.{Framing}
+use Rattle.send.specs.declared.Framing.the-variants.{Goes}
+use Rattle.send.specs.Framings.{withGap}
 use Rattle.send.specs.Sending.{badClass, badType, manyTags, longData, noRoom, clientRefusals, controlRefusals, idleRefusals, clientChecked, idleChecked}
 
 -- ---- a table whose first n rows do not hold, and its next row, whose test the code answered by r
@@ -40,6 +44,27 @@ row-holds x rows h e was = sym (h ∙ first-here (Refused x) rows (sym e ∙ was
 
 pub row-passed : {a : Checked} {b r : Bool} (x : Refusal) (rows : Table Checked) → a ≡ first (b ⇒ Refused x ∣ rows) → r ≡ b → r ≡ false → a ≡ first rows
 row-passed x rows h e was = h ∙ first-next (Refused x) rows (sym e ∙ was)
+
+-- the same of a frame's check, which gives the gap if no row holds
+pub frame-stops : {a : Checked} {b r : Bool} (g : Gap) (x : Refusal) (rows : Table Checked) → a ≡ first (b ⇒ Refused x ∣ rows) → r ≡ b → r ≡ true
+    → Framing.Refused x ≡ withGap g a
+unfolding withGap
+frame-stops g x rows h e was = ap (withGap g) (row-holds x rows h e was)
+
+pub frame-goes : {a : Checked} {g h : Gap} → g ≡ h → a ≡ Fine → Goes g ≡ withGap h a
+unfolding withGap
+frame-goes {a} {g} {h} same e = ap Goes same ∙ ap (withGap h) (sym e)
+
+-- and what its answer tells of the table and of the gap
+pub stopped : (g : Gap) (k : Checked) (x : Refusal) → Framing.Refused x ≡ withGap g k → k ≡ Refused x
+unfolding withGap
+stopped g Fine x e = cc
+stopped g (Refused y) x e = cc
+
+pub goes : (g : Gap) (k : Checked) (h : Gap) → Goes h ≡ withGap g k → (k ≡ Fine) × (h ≡ g)
+unfolding withGap
+goes g Fine h e = (refl, cc)
+goes g (Refused y) h e = (cc, cc)
 
 -- ---- what a row that does not hold tells
 
@@ -108,8 +133,9 @@ unfolding noRoom
 room-by os place need new e = ap (λ (n : ℕ). ltb (length os - place) n) (sym e)
 
 -- the flow mode, as the code asked for it
-pub in-mode : (s : Settings) (port : Port) (count : ℕ) (os ms : List ℕ) (place : ℕ) (body : List ℕ) {r : Checked} {b asked : Bool}
-    → r ≡ first (controlRefusals s port count os ms place b body) → b ≡ asked → r ≡ first (controlRefusals s port count os ms place asked body)
+pub in-mode : (s : Settings) (port : Port) (count : ℕ) (os ms : List ℕ) (place : ℕ) (body : List ℕ) {r : Framing} {b asked : Bool}
+    → r ≡ withGap (gapOn port count place body) (first (controlRefusals s port count os ms place b body)) → b ≡ asked
+    → r ≡ withGap (gapOn port count place body) (first (controlRefusals s port count os ms place asked body))
 in-mode s port count os ms place body h e = rw e at h
 
 -- ---- what a call that is not refused knows

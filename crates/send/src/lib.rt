@@ -17,7 +17,9 @@ ghost use lib.ListN.{length};
 ghost use Rattle.line.specs.Table.{first};
 ghost use Rattle.station.specs.declared.Quanta.{Quanta};
 ghost use Rattle.writing.specs.declared.Classes.{Classes};
-ghost use Rattle.writing.specs.Gaps.{gapAt};
+ghost use Rattle.writing.specs.Frames.{clientBody, pauseBody, pfcBody};
+ghost use Rattle.writing.specs.Gaps.{gapAt, gapOn};
+ghost use Rattle.send.specs.Framings.{withGap};
 ghost use Rattle.send.specs.Sending.{refusedAt, wroteUpTo, stateSent, badClass, badType, manyTags, longData, held, clientChecked, controlRefusals, pauseChecked, pfcChecked, idleChecked, sending, clientSending, pauseSending, pfcSending, idleSending};
 
 // What a sending call answers; the place and the state stand beside it.
@@ -31,6 +33,12 @@ pub struct Sent {
     // the place after what was written; of a refusal the place of the call
     pub place: usize,
     pub state: State,
+}
+
+// What the refusals of a frame come to: one of them, or the gap behind the frame, which is reckoned once.
+enum Framing {
+    Goes(Gap),
+    Refused(Refusal),
 }
 
 // ---- the refusals, lowest number first
@@ -120,15 +128,6 @@ fn gap_behind(port: Port, deficit: u64, place: usize, size: usize) -> Gap
     writing::gap_for(port, place + 12 + size, deficit)
 }
 
-// How many symbols the frame is: Start, preamble, what the FCS covers, FCS and gap.
-fn frame_size(port: Port, deficit: u64, place: usize, size: usize) -> usize
-    requires { ⌜ (place ≤ 65536) × (size ≤ 131072) ⌝ }
-    ensures { λ r. ⌜ r ≡ 12 + size + gapAt port (place + 12 + size) deficit .size ⌝ }
-{
-    let gap = gap_behind(port, deficit, place, size);
-    12 + size + gap.size
-}
-
 // The refusals of sending a client frame.
 fn check_client(
     s: Settings,
@@ -139,42 +138,44 @@ fn check_client(
     place: usize,
     client: Client,
     d: &[u8],
-) -> Checked
-    ensures { λ r. ⌜ r ≡ clientChecked s state port (now (octets .entry)) (now (marks .entry)) place client (now (d .entry)) ⌝ }
+) -> Framing
+    ensures { λ r. ⌜ r ≡ withGap (gapOn port (state .deficit) place (clientBody s client (now (d .entry))))
+        (clientChecked s state port (now (octets .entry)) (now (marks .entry)) place client (now (d .entry))) ⌝ }
 {
     if station::bad_settings(s) {
-        return Checked::Refused(Refusal::BadSettings);
+        return Framing::Refused(Refusal::BadSettings);
     }
     if station::bad_buffers(octets, marks) {
-        return Checked::Refused(Refusal::BadBuffers);
+        return Framing::Refused(Refusal::BadBuffers);
     }
     if station::bad_start(port, octets, place) {
-        return Checked::Refused(Refusal::BadPlace);
+        return Framing::Refused(Refusal::BadPlace);
     }
     if station::high_deficit(port, state.deficit) {
-        return Checked::Refused(Refusal::HighDeficit);
+        return Framing::Refused(Refusal::HighDeficit);
     }
     if bad_class(client) {
-        return Checked::Refused(Refusal::BadClass);
+        return Framing::Refused(Refusal::BadClass);
     }
     let form = client.form;
     if bad_type(form) {
-        return Checked::Refused(Refusal::BadType);
+        return Framing::Refused(Refusal::BadType);
     }
     if many_tags(client) {
-        return Checked::Refused(Refusal::ManyTags);
+        return Framing::Refused(Refusal::ManyTags);
     }
     if long_data(s.limit, form, d) {
-        return Checked::Refused(Refusal::LongData);
+        return Framing::Refused(Refusal::LongData);
     }
     let size = client_size(client.count, d.len());
-    if no_room(octets, place, frame_size(port, state.deficit, place, size)) {
-        return Checked::Refused(Refusal::NoRoom);
+    let gap = gap_behind(port, state.deficit, place, size);
+    if no_room(octets, place, 12 + size + gap.size) {
+        return Framing::Refused(Refusal::NoRoom);
     }
     if held(state, client.class) {
-        return Checked::Refused(Refusal::Held);
+        return Framing::Refused(Refusal::Held);
     }
-    Checked::Fine
+    Framing::Goes(gap)
 }
 
 // The refusals of sending a pause or PFC frame, in the flow mode asked for or in another.
@@ -186,29 +187,31 @@ fn check_control(
     marks: &[u8],
     place: usize,
     asked: bool,
-) -> Checked
+) -> Framing
     ensures { λ r. ⌜ ((body : List ℕ) → length body ≡ 60
-        → r ≡ first (controlRefusals s port deficit (now (octets .entry)) (now (marks .entry)) place asked body)) ⌝ }
+        → r ≡ withGap (gapOn port deficit place body)
+        (first (controlRefusals s port deficit (now (octets .entry)) (now (marks .entry)) place asked body))) ⌝ }
 {
     if station::bad_settings(s) {
-        return Checked::Refused(Refusal::BadSettings);
+        return Framing::Refused(Refusal::BadSettings);
     }
     if station::bad_buffers(octets, marks) {
-        return Checked::Refused(Refusal::BadBuffers);
+        return Framing::Refused(Refusal::BadBuffers);
     }
     if station::bad_start(port, octets, place) {
-        return Checked::Refused(Refusal::BadPlace);
+        return Framing::Refused(Refusal::BadPlace);
     }
     if station::high_deficit(port, deficit) {
-        return Checked::Refused(Refusal::HighDeficit);
+        return Framing::Refused(Refusal::HighDeficit);
     }
     if !asked {
-        return Checked::Refused(Refusal::OtherFlow);
+        return Framing::Refused(Refusal::OtherFlow);
     }
-    if no_room(octets, place, frame_size(port, deficit, place, CONTROL)) {
-        return Checked::Refused(Refusal::NoRoom);
+    let gap = gap_behind(port, deficit, place, CONTROL);
+    if no_room(octets, place, 12 + CONTROL + gap.size) {
+        return Framing::Refused(Refusal::NoRoom);
     }
-    Checked::Fine
+    Framing::Goes(gap)
 }
 
 // The refusals of sending a pause frame.
@@ -219,8 +222,9 @@ fn check_pause(
     octets: &[u8],
     marks: &[u8],
     place: usize,
-) -> Checked
-    ensures { λ r. ⌜ ((q : Quanta) → r ≡ pauseChecked s port deficit (now (octets .entry)) (now (marks .entry)) place q) ⌝ }
+) -> Framing
+    ensures { λ r. ⌜ ((q : Quanta) → r ≡ withGap (gapOn port deficit place (pauseBody s q))
+        (pauseChecked s port deficit (now (octets .entry)) (now (marks .entry)) place q)) ⌝ }
 {
     let mode = s.flow;
     check_control(
@@ -242,8 +246,9 @@ fn check_pfc(
     octets: &[u8],
     marks: &[u8],
     place: usize,
-) -> Checked
-    ensures { λ r. ⌜ ((k : Classes) → length (k .quanta) ≡ 8 → r ≡ pfcChecked s port deficit (now (octets .entry)) (now (marks .entry)) place k) ⌝ }
+) -> Framing
+    ensures { λ r. ⌜ ((k : Classes) → length (k .quanta) ≡ 8 → r ≡ withGap (gapOn port deficit place (pfcBody s k))
+        (pfcChecked s port deficit (now (octets .entry)) (now (marks .entry)) place k)) ⌝ }
 {
     let mode = s.flow;
     check_control(
@@ -328,13 +333,13 @@ pub fn send_client(
         ≡ clientSending s state port (now (octets .entry)) (now (marks .entry)) place client (now («data» .entry)) ⌝ }
 {
     let checked = check_client(s, state, port, octets, marks, place, client, data);
-    if let Checked::Refused(x) = checked {
-        return refused(x, place, state);
+    match checked {
+        Framing::Refused(x) => refused(x, place, state),
+        Framing::Goes(gap) => {
+            let next = writing::client_at(octets, marks, place, s, client, data, gap.size - 1);
+            wrote(state, place, next, gap.count)
+        }
     }
-    let size = client_size(client.count, data.len());
-    let gap = gap_behind(port, state.deficit, place, size);
-    let next = writing::client_at(octets, marks, place, s, client, data, gap.size - 1);
-    wrote(state, place, next, gap.count)
 }
 
 // A pause frame, whatever the timers say.
@@ -351,12 +356,13 @@ pub fn send_pause(
         ≡ pauseSending s state port (now (octets .entry)) (now (marks .entry)) place quanta ⌝ }
 {
     let checked = check_pause(s, port, state.deficit, octets, marks, place);
-    if let Checked::Refused(x) = checked {
-        return refused(x, place, state);
+    match checked {
+        Framing::Refused(x) => refused(x, place, state),
+        Framing::Goes(gap) => {
+            let next = writing::pause_at(octets, marks, place, s, quanta, gap.size - 1);
+            wrote(state, place, next, gap.count)
+        }
     }
-    let gap = gap_behind(port, state.deficit, place, CONTROL);
-    let next = writing::pause_at(octets, marks, place, s, quanta, gap.size - 1);
-    wrote(state, place, next, gap.count)
 }
 
 // A PFC frame, whatever the timers say.
@@ -373,12 +379,13 @@ pub fn send_pfc(
         ≡ pfcSending s state port (now (octets .entry)) (now (marks .entry)) place classes ⌝ }
 {
     let checked = check_pfc(s, port, state.deficit, octets, marks, place);
-    if let Checked::Refused(x) = checked {
-        return refused(x, place, state);
+    match checked {
+        Framing::Refused(x) => refused(x, place, state),
+        Framing::Goes(gap) => {
+            let next = writing::pfc_at(octets, marks, place, s, classes, gap.size - 1);
+            wrote(state, place, next, gap.count)
+        }
     }
-    let gap = gap_behind(port, state.deficit, place, CONTROL);
-    let next = writing::pfc_at(octets, marks, place, s, classes, gap.size - 1);
-    wrote(state, place, next, gap.count)
 }
 
 // Idle fill: n Idles, whatever the timers say.

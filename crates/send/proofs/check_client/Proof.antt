@@ -11,12 +11,13 @@ use Rattle.station.specs.declared.Checked.{Checked}
 use Rattle.station.specs.declared.Checked.the-variants.{Fine}
 use Rattle.station.specs.declared.Refusal.the-variants.{BadSettings, BadBuffers, BadPlace, BadClass, BadType, LongData, NoRoom, Held, ManyTags, HighDeficit}
 use Rattle.writing.specs.Frames.{clientBody}
-use Rattle.writing.specs.Gaps.{symbolsOn}
+use Rattle.writing.specs.declared.Gap.{Gap}
+use Rattle.writing.specs.Gaps.{gapOn, symbolsOn}
 use Rattle.send.specs.Sending.{noRoom, clientRefusals, clientChecked}
-use Rattle.writing.proofs.GapLaws.{size-is}
+use Rattle.writing.proofs.GapLaws.{some-gap, gap-is, size-is}
 use Rattle.writing.proofs.Sizes.{length-mapped, client-body-size}
 use Rattle.writing.proofs.TagLaws.{tags-count}
-use Rattle.send.proofs.Refusals.{after, row-holds, row-passed, limit-from, same-length, inside-port, class-to-7, tags-to-8, short-data, room-by}
+use Rattle.send.proofs.Refusals.{after, row-passed, frame-stops, frame-goes, limit-from, same-length, inside-port, class-to-7, tags-to-8, short-data, room-by}
 use Rattle.send.proofs.check_client.Statement.{statement}
 use Rattle.send.proofs.check_client.Tie as tie
 
@@ -43,10 +44,14 @@ abbrev else7 : tie.Else8 → tie.Else7
 else7 c = c .before .before
 
 abbrev else8 : tie.Else9 → tie.Else8
-else8 c = c .before .before .before .before
+else8 c = c .before .before .before .before .before
 
 abbrev else9 : tie.Else10 → tie.Else9
 else9 c = c .before .before
+
+-- that where the gap was reckoned, seen from behind row 9
+abbrev reckoned : tie.Else9 → tie.After-gap-behind
+reckoned c = c .before .before .before
 
 -- and those behind rows 1, 3 and 5, seen from behind row 8
 abbrev fifth : tie.Else8 → tie.Else5
@@ -156,6 +161,13 @@ data-short c =
 few-tags : (c : tie.Else8) → at8 c .args .client .count ≤ 8
 few-tags c = let p7 = else7 c in tags-to-8 (at8 c .args .client) (sym (p7 .before .many-tags .ensures) ∙ p7 .if7 .left)
 
+body-small : (c : tie.After-client-size) → c .client-size .result ≤ 131072
+body-small c =
+    let n = data-short (c .before) in
+    let t = few-tags (c .before) in
+    let e = c .client-size .ensures in
+    omega arith
+
 -- the octets that the FCS covers are as many as were reckoned
 body-is : (c : tie.After-client-size) → let a = at8 (c .before) .args in length (clientBody (a .s) (a .client) (now (a .d))) ≡ c .client-size .result
 body-is c =
@@ -164,14 +176,29 @@ body-is c =
     let counted = ap (λ (n : ℕ). 14 + 4 * n + (length (now (a .d)) + (46 - length (now (a .d))))) (tags-count (a .client) (tags-8 s) (few-tags (c .before))) in
     client-body-size (a .s) (a .client) (now (a .d)) (dest-6 s) (own-6 s) ∙ counted ∙ sym (c .client-size .ensures)
 
+-- the gap is that of the port
+gap-of : (c : tie.After-gap-behind) → let a = at8 (c .before .before) .args in
+    c .gap-behind .result ≡ gapOn (a .port) (a .state .deficit) (a .place) (clientBody (a .s) (a .client) (now (a .d)))
+gap-of c = let a = at8 (c .before .before) .args in c .gap-behind .ensures ∙ gap-is (a .port) (a .state .deficit) (a .place) _ _ (body-is (c .before))
+
+-- and short
+short-gap : (c : tie.After-gap-behind) → c .gap-behind .result .size ≤ 16
+short-gap c =
+    let a = at8 (c .before .before) .args in
+    let e = ap (λ (g : Gap). g .size) (c .gap-behind .ensures) in
+    let k = some-gap (a .port) (a .place + 12 + c .before .client-size .result) (a .state .deficit) in
+    omega arith
+
 -- the room that is asked for is that of the frame's symbols
-room : (c : tie.After-no-room) → let a = at8 (c .before .before .before) .args in
+room : (c : tie.After-no-room) → let a = at8 (c .before .before .before .before) .args in
     c .no-room .result ≡ noRoom (now (a .octets)) (a .place) (symbolsOn (a .port) (a .state .deficit) (a .place) (clientBody (a .s) (a .client) (now (a .d))))
 room c =
-    let k = c .before .before in
+    let g = c .before .before in
+    let k = g .before in
     let a = at8 (k .before) .args in
     let size = size-is (a .port) (a .state .deficit) (a .place) (clientBody (a .s) (a .client) (now (a .d))) _ (body-is k) in
-    c .no-room .ensures ∙ room-by (now (a .octets)) (a .place) _ _ (size ∙ sym (c .before .frame-size .ensures))
+    let need = ap (λ (x : Gap). 12 + k .client-size .result + x .size) (g .gap-behind .ensures) in
+    c .no-room .ensures ∙ room-by (now (a .octets)) (a .place) _ _ (size ∙ sym need)
 
 past-9 : (c : tie.Else9) → past 9 (at9 c)
 unfolding clientRefusals
@@ -186,85 +213,89 @@ bad-settings-requires c κs = search needs
 
 returns : tie.Need-returns
 unfolding clientChecked clientRefusals
-returns c = row-holds BadSettings _ refl (c .before .bad-settings .ensures) (c .if1 .taken)
+returns c = frame-stops _ BadSettings _ refl (c .before .bad-settings .ensures) (c .if1 .taken)
 
 bad-buffers-requires : tie.Need-bad-buffers-requires
 bad-buffers-requires c κs = search needs
 
 returns-2 : tie.Need-returns-2
 unfolding clientChecked clientRefusals
-returns-2 c = row-holds BadBuffers _ (past-1 (c .before .before)) (c .before .bad-buffers .ensures) (c .if2 .taken)
+returns-2 c = frame-stops _ BadBuffers _ (past-1 (c .before .before)) (c .before .bad-buffers .ensures) (c .if2 .taken)
 
 bad-start-requires : tie.Need-bad-start-requires
 bad-start-requires c κs = search needs
 
 returns-3 : tie.Need-returns-3
 unfolding clientChecked clientRefusals
-returns-3 c = row-holds BadPlace _ (past-2 (c .before .before)) (c .before .bad-start .ensures) (c .if3 .taken)
+returns-3 c = frame-stops _ BadPlace _ (past-2 (c .before .before)) (c .before .bad-start .ensures) (c .if3 .taken)
 
 high-deficit-requires : tie.Need-high-deficit-requires
 high-deficit-requires c κs = search needs
 
 returns-4 : tie.Need-returns-4
 unfolding clientChecked clientRefusals
-returns-4 c = row-holds HighDeficit _ (past-3 (c .before .before)) (c .before .high-deficit .ensures) (c .if4 .taken)
+returns-4 c = frame-stops _ HighDeficit _ (past-3 (c .before .before)) (c .before .high-deficit .ensures) (c .if4 .taken)
 
 bad-class-requires : tie.Need-bad-class-requires
 bad-class-requires c κs = search needs
 
 returns-5 : tie.Need-returns-5
 unfolding clientChecked clientRefusals
-returns-5 c = row-holds BadClass _ (past-4 (c .before .before)) (c .before .bad-class .ensures) (c .if5 .taken)
+returns-5 c = frame-stops _ BadClass _ (past-4 (c .before .before)) (c .before .bad-class .ensures) (c .if5 .taken)
 
 bad-type-requires : tie.Need-bad-type-requires
 bad-type-requires c κs = search needs
 
 returns-6 : tie.Need-returns-6
 unfolding clientChecked clientRefusals
-returns-6 c = row-holds BadType _ (past-5 (c .before .before)) (c .before .bad-type .ensures) (c .if6 .taken)
+returns-6 c = frame-stops _ BadType _ (past-5 (c .before .before)) (c .before .bad-type .ensures) (c .if6 .taken)
 
 many-tags-requires : tie.Need-many-tags-requires
 many-tags-requires c κs = search needs
 
 returns-7 : tie.Need-returns-7
 unfolding clientChecked clientRefusals
-returns-7 c = row-holds ManyTags _ (past-6 (c .before .before)) (c .before .many-tags .ensures) (c .if7 .taken)
+returns-7 c = frame-stops _ ManyTags _ (past-6 (c .before .before)) (c .before .many-tags .ensures) (c .if7 .taken)
 
 long-data-requires : tie.Need-long-data-requires
 long-data-requires c κs = valid (else1 (else2 (else3 (else4 (else5 (else6 c)))))) .0
 
 returns-8 : tie.Need-returns-8
 unfolding clientChecked clientRefusals
-returns-8 c = row-holds LongData _ (past-7 (c .before .before)) (c .before .long-data .ensures) (c .if8 .taken)
+returns-8 c = frame-stops _ LongData _ (past-7 (c .before .before)) (c .before .long-data .ensures) (c .if8 .taken)
 
 client-size-requires : tie.Need-client-size-requires
 client-size-requires c κs = let n = data-short c in omega arith
 
-frame-size-requires : tie.Need-frame-size-requires
-frame-size-requires c κs =
-    let p = c .before in
-    let n = data-short p in
-    let t = few-tags p in
-    let e = c .client-size .ensures in
-    (place-small (third p) .1, omega arith)
+gap-behind-requires : tie.Need-gap-behind-requires
+gap-behind-requires c κs = (place-small (third (c .before)) .1, body-small c)
+
+add-no-room : tie.Need-add-no-room
+add-no-room c = let n = body-small (c .before) in omega arith
+
+add-no-room-2 : tie.Need-add-no-room-2
+add-no-room-2 c =
+    let n = body-small (c .before .before) in
+    let g = short-gap (c .before) in
+    omega arith
 
 no-room-requires : tie.Need-no-room-requires
-no-room-requires c κs = place-small (third (c .before .before)) .0
+no-room-requires c κs = place-small (third (c .before .before .before)) .0
 
 returns-9 : tie.Need-returns-9
 unfolding clientChecked clientRefusals
-returns-9 c = row-holds NoRoom _ (past-8 (c .before .before .before .before)) (room (c .before)) (c .if9 .taken)
+returns-9 c = frame-stops _ NoRoom _ (past-8 (c .before .before .before .before .before)) (room (c .before)) (c .if9 .taken)
 
 held-requires : tie.Need-held-requires
 held-requires c κs = let p5 = fifth (else8 c) in class-to-7 _ (sym (p5 .before .bad-class .ensures) ∙ p5 .if5 .left)
 
 returns-10 : tie.Need-returns-10
 unfolding clientChecked clientRefusals
-returns-10 c = row-holds Held _ (past-9 (c .before .before)) (c .before .held .ensures) (c .if10 .taken)
+returns-10 c = frame-stops _ Held _ (past-9 (c .before .before)) (c .before .held .ensures) (c .if10 .taken)
 
 returns-11 : tie.Need-returns-11
 unfolding clientChecked clientRefusals
-returns-11 c = sym (past-10 c ∙ first-other Fine)
+returns-11 c = frame-goes (gap-of (reckoned (else9 c))) (past-10 c ∙ first-other Fine)
 
 pub check-client-spec : {M : Type 1} → statement M
 check-client-spec =
@@ -287,7 +318,9 @@ check-client-spec =
     long-data-requires
     returns-8
     client-size-requires
-    frame-size-requires
+    gap-behind-requires
+    add-no-room
+    add-no-room-2
     no-room-requires
     returns-9
     held-requires

@@ -1,7 +1,7 @@
 -- `send::check_control` meets its contract: each way out passes the rows that did not hold and stops at the one that did. Assumes nothing.
-use Prim.Native.Nat.{ℕ, _≤_}
+use Prim.Native.Nat.{ℕ, _+_, _≤_}
 use native.Mathlib.Omega.{arith}
-use mathlib.Core.Path.{_≡_, refl, sym, _∙_}
+use mathlib.Core.Path.{_≡_, refl, sym, ap, _∙_}
 use mathlib.Core.List.{List}
 use lib.ListN.{length}
 use denote.Ref.{now}
@@ -11,10 +11,11 @@ use Rattle.line.proofs.Tables.{first-other}
 use Rattle.station.specs.declared.Checked.{Checked}
 use Rattle.station.specs.declared.Checked.the-variants.{Fine}
 use Rattle.station.specs.declared.Refusal.the-variants.{BadSettings, BadBuffers, BadPlace, OtherFlow, NoRoom, HighDeficit}
-use Rattle.writing.specs.Gaps.{symbolsOn}
-use Rattle.writing.proofs.GapLaws.{size-is}
+use Rattle.writing.specs.declared.Gap.{Gap}
+use Rattle.writing.specs.Gaps.{gapOn, symbolsOn}
+use Rattle.writing.proofs.GapLaws.{some-gap, gap-is, size-is}
 use Rattle.send.specs.Sending.{noRoom, controlRefusals}
-use Rattle.send.proofs.Refusals.{after, row-holds, row-passed, same-length, inside-port, room-by}
+use Rattle.send.proofs.Refusals.{after, row-passed, frame-stops, frame-goes, same-length, inside-port, room-by}
 use Rattle.send.proofs.check_control.Statement.{statement}
 use Rattle.send.proofs.check_control.Tie as tie
 
@@ -42,7 +43,7 @@ abbrev at5 : tie.Else5 → tie.Start
 at5 c = at4 (c .before)
 
 abbrev at6 : tie.Else6 → tie.Start
-at6 c = at5 (c .before .before .before)
+at6 c = at5 (c .before .before .before .before)
 
 past-1 : (c : tie.Else1) (body : List ℕ) → past 1 (at1 c) body
 unfolding controlRefusals
@@ -72,63 +73,84 @@ place-small c =
     let l = same-length _ _ (sym (b .before .bad-buffers .ensures) ∙ b .if2 .left) .1 in
     (p, omega arith)
 
+-- the gap is that of the port
+gap-of : (c : tie.After-gap-behind) (body : List ℕ) → length body ≡ 60
+    → let a = at5 (c .before) .args in c .gap-behind .result ≡ gapOn (a .port) (a .deficit) (a .place) body
+gap-of c body e = let a = at5 (c .before) .args in c .gap-behind .ensures ∙ gap-is (a .port) (a .deficit) (a .place) body 60 e
+
+-- and short
+short-gap : (c : tie.After-gap-behind) → c .gap-behind .result .size ≤ 16
+short-gap c =
+    let a = at5 (c .before) .args in
+    let e = ap (λ (g : Gap). g .size) (c .gap-behind .ensures) in
+    let k = some-gap (a .port) (a .place + 12 + 60) (a .deficit) in
+    omega arith
+
 -- the room that is asked for is that of the symbols
 room : (c : tie.After-no-room) (body : List ℕ) → length body ≡ 60
-    → let a = at5 (c .before .before) .args in c .no-room .result ≡ noRoom (now (a .octets)) (a .place) (symbolsOn (a .port) (a .deficit) (a .place) body)
+    → let a = at5 (c .before .before .before) .args in c .no-room .result ≡ noRoom (now (a .octets)) (a .place) (symbolsOn (a .port) (a .deficit) (a .place) body)
 room c body e =
-    let a = at5 (c .before .before) .args in
+    let g = c .before .before in
+    let a = at5 (g .before) .args in
+    let need = ap (λ (x : Gap). 12 + 60 + x .size) (g .gap-behind .ensures) in
     c .no-room .ensures
-    ∙ room-by (now (a .octets)) (a .place) _ _ (size-is (a .port) (a .deficit) (a .place) body 60 e ∙ sym (c .before .frame-size .ensures))
+    ∙ room-by (now (a .octets)) (a .place) _ _ (size-is (a .port) (a .deficit) (a .place) body 60 e ∙ sym need)
 
 past-6 : (c : tie.Else6) (body : List ℕ) → length body ≡ 60 → past 6 (at6 c) body
 unfolding controlRefusals
-past-6 c body e = row-passed NoRoom _ (past-5 (c .before .before .before) body) (room (c .before) body e) (c .if6 .left)
+past-6 c body e = row-passed NoRoom _ (past-5 (c .before .before .before .before) body) (room (c .before) body e) (c .if6 .left)
 
 bad-settings-requires : tie.Need-bad-settings-requires
 bad-settings-requires c κs = search needs
 
 returns : tie.Need-returns
 unfolding controlRefusals
-returns c = λ body e. row-holds BadSettings _ refl (c .before .bad-settings .ensures) (c .if1 .taken)
+returns c = λ body e. frame-stops _ BadSettings _ refl (c .before .bad-settings .ensures) (c .if1 .taken)
 
 bad-buffers-requires : tie.Need-bad-buffers-requires
 bad-buffers-requires c κs = search needs
 
 returns-2 : tie.Need-returns-2
 unfolding controlRefusals
-returns-2 c = λ body e. row-holds BadBuffers _ (past-1 (c .before .before) body) (c .before .bad-buffers .ensures) (c .if2 .taken)
+returns-2 c = λ body e. frame-stops _ BadBuffers _ (past-1 (c .before .before) body) (c .before .bad-buffers .ensures) (c .if2 .taken)
 
 bad-start-requires : tie.Need-bad-start-requires
 bad-start-requires c κs = search needs
 
 returns-3 : tie.Need-returns-3
 unfolding controlRefusals
-returns-3 c = λ body e. row-holds BadPlace _ (past-2 (c .before .before) body) (c .before .bad-start .ensures) (c .if3 .taken)
+returns-3 c = λ body e. frame-stops _ BadPlace _ (past-2 (c .before .before) body) (c .before .bad-start .ensures) (c .if3 .taken)
 
 high-deficit-requires : tie.Need-high-deficit-requires
 high-deficit-requires c κs = search needs
 
 returns-4 : tie.Need-returns-4
 unfolding controlRefusals
-returns-4 c = λ body e. row-holds HighDeficit _ (past-3 (c .before .before) body) (c .before .high-deficit .ensures) (c .if4 .taken)
+returns-4 c = λ body e. frame-stops _ HighDeficit _ (past-3 (c .before .before) body) (c .before .high-deficit .ensures) (c .if4 .taken)
 
 returns-5 : tie.Need-returns-5
 unfolding controlRefusals
-returns-5 c = λ body e. row-holds OtherFlow _ (past-4 (c .before) body) refl (c .if5 .taken)
+returns-5 c = λ body e. frame-stops _ OtherFlow _ (past-4 (c .before) body) refl (c .if5 .taken)
 
-frame-size-requires : tie.Need-frame-size-requires
-frame-size-requires c κs = (place-small (c .before .before .before) .1, omega arith)
+gap-behind-requires : tie.Need-gap-behind-requires
+gap-behind-requires c κs = (place-small (c .before .before .before) .1, omega arith)
+
+add-no-room : tie.Need-add-no-room
+add-no-room c = search needs
+
+add-no-room-2 : tie.Need-add-no-room-2
+add-no-room-2 c = let g = short-gap (c .before) in omega arith
 
 no-room-requires : tie.Need-no-room-requires
-no-room-requires c κs = place-small (c .before .before .before .before) .0
+no-room-requires c κs = place-small (c .before .before .before .before .before) .0
 
 returns-6 : tie.Need-returns-6
 unfolding controlRefusals
-returns-6 c = λ body e. row-holds NoRoom _ (past-5 (c .before .before .before) body) (room (c .before) body e) (c .if6 .taken)
+returns-6 c = λ body e. frame-stops _ NoRoom _ (past-5 (c .before .before .before .before) body) (room (c .before) body e) (c .if6 .taken)
 
 returns-7 : tie.Need-returns-7
 unfolding controlRefusals
-returns-7 c = λ body e. sym (past-6 c body e ∙ first-other Fine)
+returns-7 c = λ body e. frame-goes (gap-of (c .before .before .before) body e) (past-6 c body e ∙ first-other Fine)
 
 pub check-control-spec : {M : Type 1} → statement M
 check-control-spec =
@@ -143,7 +165,9 @@ check-control-spec =
     high-deficit-requires
     returns-4
     returns-5
-    frame-size-requires
+    gap-behind-requires
+    add-no-room
+    add-no-room-2
     no-room-requires
     returns-6
     returns-7)

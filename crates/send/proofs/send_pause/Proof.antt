@@ -1,48 +1,44 @@
 -- `send::send_pause` meets its contract: refused, or written with the gap of its port. Assumes nothing.
 use native.Mathlib.Omega.{arith}
-use Prim.Native.Nat.{_+_}
-use mathlib.Core.Path.{_≡_, sym, ap, _∙_}
-use lib.ListN.{length}
+use mathlib.Core.Path.{_≡_, sym, _∙_}
 use borrow.Author.Needs.{needs}
 use denote.Ref.{now}
 use Rattle.station.specs.declared.Checked.the-variants.{Fine}
 use Rattle.writing.specs.declared.Gap.{Gap}
 use Rattle.writing.specs.Frames.{pauseBody, pauseSymbols}
 use Rattle.writing.specs.Gaps.{gapOn}
-use Rattle.writing.proofs.GapLaws.{some-gap, gap-is}
-use Rattle.writing.proofs.Sizes.{pause-body-size}
 use Rattle.send.specs.Sending.{pauseChecked, pauseSending}
-use Rattle.send.proofs.Refusals.{Framed, passed-control}
-use Rattle.send.proofs.Calls.{frame-refused, frame-wrote, room-with}
+use Rattle.send.proofs.Refusals.{Framed, passed-control, stopped, goes}
+use Rattle.send.proofs.Calls.{frame-refused, frame-wrote, has-terminate, room-with}
 use Rattle.send.proofs.send_pause.Statement.{statement}
 use Rattle.send.proofs.send_pause.Tie as tie
 
--- the start, seen from where the table has answered, and that place from where the frame is written
-abbrev start : tie.After-enum-told → tie.Start
-start c = c .before .before .before .before .before .before .before
+-- the places: the start, seen from where the check has answered; and, where the frame goes, that place from before and behind its writing
+abbrev start : tie.After-check-pause → tie.Start
+start c = c .before .before .before .before .before
 
-abbrev answered : tie.After-gap-behind → tie.After-enum-told
-answered c = c .before
+abbrev answered : tie.After-checked2 → tie.After-check-pause
+answered c = c .before .before
 
-own-6 : (c : tie.Start) → length (c .args .s .own .0) ≡ 6
-own-6 c = search needs
+abbrev going : tie.After-struct-known → tie.After-checked2
+going c = c .before .before .before .before
 
-fine : (c : tie.After-enum-told) → let a = start c .args in
-    pauseChecked (a .s) (a .port) (a .state .deficit) (now (a .octets)) (now (a .marks)) (a .place) (a .quanta) ≡ Fine
-fine c = sym (c .before .before .check-pause .ensures (start c .args .quanta)) ∙ c .enum-told .given .1
+abbrev laid : tie.After-wrote → tie.After-pause-at
+laid c = c .before .before .before .before .before
 
-known : (c : tie.After-enum-told) → let a = start c .args in
+-- the gap that the check gave: no row of the table holds, and it is the port's
+abbrev gap : tie.After-checked2 → Gap
+gap c = c .checked2 .given .0 .0
+
+told : (c : tie.After-checked2) → let a = start (answered c) .args in
+    (pauseChecked (a .s) (a .port) (a .state .deficit) (now (a .octets)) (now (a .marks)) (a .place) (a .quanta) ≡ Fine)
+    × (gap c ≡ gapOn (a .port) (a .state .deficit) (a .place) (pauseBody (a .s) (a .quanta)))
+told c = goes _ _ _ (sym (c .checked2 .given .1) ∙ answered c .check-pause .ensures (start (answered c) .args .quanta))
+
+known : (c : tie.After-checked2) → let a = start (answered c) .args in
     Framed (a .s) (a .port) (a .state .deficit) (now (a .octets)) (now (a .marks)) (a .place) (pauseBody (a .s) (a .quanta))
 unfolding pauseChecked
-known c = passed-control _ _ _ _ _ _ _ _ (fine c) .1
-
--- the gap is that of the port
-gap-of : (c : tie.After-gap-behind) → let a = start (answered c) .args in
-    c .gap-behind .result ≡ gapOn (a .port) (a .state .deficit) (a .place) (pauseBody (a .s) (a .quanta))
-gap-of c =
-    let s = start (answered c) in
-    let a = s .args in
-    c .gap-behind .ensures ∙ gap-is (a .port) (a .state .deficit) (a .place) _ _ (pause-body-size (a .s) (a .quanta) (own-6 s))
+known c = passed-control _ _ _ _ _ _ _ _ (told c .0) .1
 
 check-pause-requires : tie.Need-check-pause-requires
 check-pause-requires c κs = search needs
@@ -53,6 +49,23 @@ enum-known-checked c = search needs
 refused-requires : tie.Need-refused-requires
 refused-requires c κs = search needs
 
+enum-known-checked-2 : tie.Need-enum-known-checked-2
+enum-known-checked-2 c = search needs
+
+sub-pause-at : tie.Need-sub-pause-at
+sub-pause-at c = has-terminate _ _ _ _ (told (going c) .1)
+
+pause-at-requires : tie.Need-pause-at-requires
+unfolding pauseSymbols
+pause-at-requires c κs =
+    let k = known (going c) in
+    let e = k .even in
+    let r = room-with _ _ _ _ (told (going c) .1) (k .room) in
+    (omega arith, omega arith)
+
+wrote-requires : tie.Need-wrote-requires
+wrote-requires c κs = search needs
+
 same-length : tie.Need-same-length
 same-length c = search needs
 
@@ -62,39 +75,9 @@ same-length-2 c = search needs
 returns : tie.Need-returns
 unfolding pauseSending
 returns c =
-    let k = c .before .before .before .before in
-    let s = k .before .before .before .before .before in
-    frame-refused _ _ _ _ _ _ _ _ (sym (k .check-pause .ensures (s .args .quanta)) ∙ c .before .before .checked .given .1) (c .refused .ensures)
-
-enum-told : tie.Need-enum-told
-enum-told c = search needs
-
-gap-behind-requires : tie.Need-gap-behind-requires
-gap-behind-requires c κs =
-    let k = known c in
-    let r = k .room in
-    let s = k .small in
-    (omega arith, omega arith)
-
-sub-pause-at : tie.Need-sub-pause-at
-sub-pause-at c =
-    let g = c .before .before .before in
-    let e = ap (λ (x : Gap). x .size) (g .gap-behind .ensures) in
-    let a = start (answered g) .args in
-    let k = some-gap (a .port) (a .place + 12 + 60) (a .state .deficit) in
-    omega arith
-
-pause-at-requires : tie.Need-pause-at-requires
-unfolding pauseSymbols
-pause-at-requires c κs =
-    let g = c .before .before .before in
-    let k = known (answered g) in
-    let e = k .even in
-    let r = room-with _ _ _ _ (gap-of g) (k .room) in
-    (omega arith, omega arith)
-
-wrote-requires : tie.Need-wrote-requires
-wrote-requires c κs = search needs
+    let k = c .before .before in
+    let s = k .before .before in
+    frame-refused _ _ _ _ _ _ _ _ (stopped _ _ _ (sym (k .checked .given .1) ∙ s .check-pause .ensures (start s .args .quanta))) (c .refused .ensures)
 
 same-length-3 : tie.Need-same-length-3
 same-length-3 c = search needs
@@ -105,9 +88,9 @@ same-length-4 c = search needs
 returns-2 : tie.Need-returns-2
 unfolding pauseSending pauseSymbols
 returns-2 c =
-    let w = c .before .before .before .before .before in
-    let g = w .before .before .before .before in
-    frame-wrote _ _ _ _ _ _ _ (g .gap-behind .result) (gap-of g) (fine (answered g)) (w .pause-at .ensures) (c .wrote .ensures)
+    let w = laid c in
+    let g = going (w .before) in
+    frame-wrote _ _ _ _ _ _ _ (gap g) (told g .1) (told g .0) (w .pause-at .ensures) (c .wrote .ensures)
 
 pub send-pause-spec : {M : Type 1} → statement M
 send-pause-spec =
@@ -116,14 +99,13 @@ send-pause-spec =
     check-pause-requires
     enum-known-checked
     refused-requires
-    same-length
-    same-length-2
-    returns
-    enum-told
-    gap-behind-requires
+    enum-known-checked-2
     sub-pause-at
     pause-at-requires
     wrote-requires
+    same-length
+    same-length-2
+    returns
     same-length-3
     same-length-4
     returns-2)
