@@ -72,7 +72,7 @@ static uint32_t (*const fenhamper_layout)(void) __attribute__((used)) = fenhampe
 #define FENHAMPER_OUTCOMES 11        /* 1 to 11, a counter each */
 #define FENHAMPER_RECORD_SIZE 16     /* octets of a record of a log */
 #define FENHAMPER_STACK_READ 1024    /* octets of stack that a call takes at most: fenhamper_read, fenhamper_log_.. */
-#define FENHAMPER_STACK_SEND 640     /* the sending calls and Idle fill */
+#define FENHAMPER_STACK_SEND 512     /* the sending calls and Idle fill */
 #define FENHAMPER_STACK_WALK 18432   /* fenhamper_walk and fenhamper_walk_log */
 
 /* ---- settings */

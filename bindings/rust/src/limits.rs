@@ -52,8 +52,8 @@ pub const RECORD_SIZE: usize = sys::RECORD_SIZE;
 /// Octets of stack that a reading takes at most: 1024.
 pub const STACK_READ: usize = 1024;
 
-/// Octets of stack that a sending call or an Idle fill takes at most: 640.
-pub const STACK_SEND: usize = 640;
+/// Octets of stack that a sending call or an Idle fill takes at most: 512.
+pub const STACK_SEND: usize = 512;
 
 /// Octets of stack that a walk takes at most, one that keeps its readings too: 18,432, of which
 /// 16,384 are for tables.
