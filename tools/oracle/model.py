@@ -1,4 +1,4 @@
-"""An independent model of document 01 with items 1 to 5 of document 02, written from their text alone and not from the definitions in crates/*/specs.
+"""An independent model of document 01 with items 1 to 6 of document 02, written from their text alone and not from the definitions in crates/*/specs.
 
 Each piece stands under the sentence of the documents that it renders. The check is zlib's crc32, not a loop of our own, and a log's record is laid
 out by struct.
@@ -59,10 +59,15 @@ class State:
 
 
 def counted(state: State, outcome: int) -> State:
-    """"Each outcome has a 32-bit counter that rolls over to zero" """
+    """"Each outcome has a 32-bit counter that rolls over to zero"; item 6: "Make all eleven 64 bits" """
     counters = list(state.counters)
-    counters[outcome - 1] = (counters[outcome - 1] + 1) % 2**32
+    counters[outcome - 1] = (counters[outcome - 1] + 1) % 2**64
     return replace(state, counters=counters)
+
+
+def screen(state: State) -> List[int]:
+    """"The management screen goes on showing the 32-bit values, each the remainder of the wide one." """
+    return [counter % 2**32 for counter in state.counters]
 
 
 # ---- Refusals
@@ -297,9 +302,10 @@ def walk(s: Settings, state: State, octets: List[int], marks: List[int], place: 
         readings.append(reading(s, readings[-1].state, octets, marks, readings[-1].next))
     last = readings[-1]
     if last.kind != "refused":
-        # "the eleven counters together have risen, modulo 2^32, by the number of Start symbols in the capture, less one if the walk ended `open`"
+        # "the eleven counters together have risen, …, by the number of Start symbols in the capture, less one if the walk ended `open`";
+        # item 6: "Demand 2 and the sum over Starts then hold modulo 2^64."
         starts = sum(is_start(o, m) for o, m in zip(octets[place:], marks[place:])) - (last.kind == "open")
-        assert (sum(last.state.counters) - sum(state.counters) - starts) % 2**32 == 0
+        assert (sum(last.state.counters) - sum(state.counters) - starts) % 2**64 == 0
     return readings
 
 
@@ -677,7 +683,7 @@ def printed(data: bytes) -> bytes:
 
 
 def try_logged_walks():
-    before = State([2**32 - 1] * 11, [5] * 8)  # a state that any counting and any setting would change
+    before = State([2**64 - 1] * 11, [5] * 8)  # a state that any counting and any setting would change
     used, hole = [0xA7] * 16, [0xA7] * 4 + [0] + [0xA7] * 11
     idle, start, terminate = (IDLE, 1), (START, 1), (TERMINATE, 1)
     two = [idle, start, start, terminate]  # a cut one at 1, a bad preamble at 2
@@ -711,7 +717,7 @@ def try_logged_walks():
             walks = walks_on(PRINTING, before, octets, marks, 0, sizes)
             assert len(walks) == len(sizes) and (walks[-1].end, walks[-1].next) == end
             assert [r for walked in walks for r in read_back(walked.log)] == [cut, bad]
-            assert walks[-1].state == State([0, 0] + [2**32 - 1] * 9, [5] * 8)
+            assert walks[-1].state == State([0, 0] + [2**64 - 1] * 9, [5] * 8)
         # Holes are filled in order.
         for log, filled in [(used + hole + used + hole, [used, cut.octets(), used, bad.octets()]),
                             (hole + used + hole + hole, [cut.octets(), used, bad.octets(), hole]), (used + hole, [used, cut.octets()])]:
@@ -807,3 +813,21 @@ def try_four_lanes():
 
 
 try_four_lanes()
+
+
+# ---- The wide counters and the screen, tried on both sides of their limits
+
+
+def try_counters():
+    # A cut Start and a bad preamble, from each side of 2^32 and of 2^64: the sum is held by the walk.
+    for before, after, shown in [
+            (0, 1, 1), (2**31 - 1, 2**31, 2**31), (2**32 - 2, 2**32 - 1, 2**32 - 1), (2**32 - 1, 2**32, 0), (2**32, 2**32 + 1, 1),
+            (2**33 - 1, 2**33, 0), (2**64 - 2**32 - 1, 2**64 - 2**32, 0), (2**64 - 2, 2**64 - 1, 2**32 - 1), (2**64 - 1, 0, 0)]:
+        last = walk(PRINTING, State([before] * 11), [START, START, TERMINATE], [1] * 3)[-1].state
+        assert last.counters == [after] * 2 + [before] * 9 and screen(last) == [shown] * 2 + [before % 2**32] * 9
+        # The screen rises as a counter of 32 bits does.
+        assert shown == (screen(State([before] * 11))[0] + 1) % 2**32
+    assert screen(State()) == [0] * 11 and screen(State([n * 2**32 + n for n in range(11)])) == list(range(11))
+
+
+try_counters()

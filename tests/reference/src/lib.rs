@@ -1,4 +1,4 @@
-//! A reference implementation of document 01, with items 1 to 5 of document 02: the
+//! A reference implementation of document 01, with items 1 to 6 of document 02: the
 //! work of an Ethernet MAC on line symbols kept in memory.
 //!
 //! Written from those documents alone, to be compared with the proved program.
@@ -25,4 +25,4 @@ pub use port::Port;
 pub use print::print;
 pub use receive::{read, walk, Answer, Reading, Walked};
 pub use send::{fill_idle, send_client, send_pause, send_pfc, Client, Form, Sent, Tag, TagKind};
-pub use settings::{Flow, Settings, State};
+pub use settings::{screen, Flow, Settings, State};

@@ -1,4 +1,4 @@
-//! Settings and state, with the "Address rule" and the timers.
+//! Settings and state, with the "Address rule", the counters and the timers.
 
 use crate::line::{is_group, BROADCAST};
 
@@ -90,8 +90,9 @@ pub(crate) enum Outcome {
 /// What lasts from call to call; a fresh state is all zeros.
 #[derive(Clone, Copy, Debug, Default, PartialEq, Eq)]
 pub struct State {
-    /// One counter for each outcome; outcome 1 is at index 0.
-    pub counters: [u32; 11],
+    /// One counter for each outcome; outcome 1 is at index 0. They are wide
+    /// by "Counters that outlast a weekend", item 6 of document 02.
+    pub counters: [u64; 11],
     /// One timer for each class, in slots.
     pub timers: [u32; 8],
     /// The deficit count of the four-lane port. Any value can stand here;
@@ -105,7 +106,7 @@ fn slots(quanta: u16) -> u32 {
 }
 
 impl State {
-    /// Counts one Start with this outcome, modulo 2^32.
+    /// Counts one Start with this outcome, modulo 2^64.
     pub(crate) fn count(&mut self, outcome: Outcome) {
         let counter = &mut self.counters[outcome as usize - 1];
         *counter = counter.wrapping_add(1);
@@ -132,6 +133,12 @@ impl State {
             *timer = timer.saturating_sub(passed);
         }
     }
+}
+
+/// "The management screen goes on showing the 32-bit values, each the
+/// remainder of the wide one."
+pub fn screen(state: &State) -> [u32; 11] {
+    state.counters.map(|counter| (counter % (1 << 32)) as u32)
 }
 
 /// Does bit n of a class octet name class n?

@@ -561,7 +561,7 @@ fn a_reading_as_wide_as_its_record() {
 
 /// A state in which every counter and every timer would show a change.
 const BEFORE: State = State {
-    counters: [u32::MAX; 11],
+    counters: [u64::MAX; 11],
     timers: [5; 8],
     deficit: 9,
 };
@@ -1054,7 +1054,7 @@ fn a_long_walk() {
         let mut state = State::default();
         let logged = walk_checked(&PLAIN, &capture, &mut state, 0, &mut log);
         assert_eq!(logged, ended(end, records, records));
-        assert_eq!(state.counters[0], records as u32);
+        assert_eq!(state.counters[0], records as u64);
         for (number, fields) in read_back(&log).into_iter().enumerate() {
             let cut = Record {
                 place: number as u32,

@@ -1,7 +1,8 @@
-//! The rules of document 01 and of items 1 to 5 of document 02, one module for each
+//! The rules of document 01 and of items 1 to 6 of document 02, one module for each
 //! part.
 
 mod bench;
+mod counters;
 mod fcs;
 mod four_lanes;
 mod hand;

@@ -393,18 +393,6 @@ fn place_is_where_the_search_begins() {
 }
 
 #[test]
-fn counters_roll_over() {
-    let mut state = State {
-        counters: [u32::MAX; 11],
-        ..State::default()
-    };
-    let seen = see_with(&PLAIN, &mut state, &good());
-    assert_eq!(seen.outcome, 11);
-    assert_eq!(state.counters[10], 0);
-    assert_eq!(state.counters[..10], [u32::MAX; 10]);
-}
-
-#[test]
 fn marks_other_than_0_are_control() {
     for mark in [1, 2, 0x80, 0xFF] {
         let mut capture = Capture::new().frame(&good());

@@ -110,17 +110,17 @@ fn check_walk(s: &Settings, capture: &Capture, before: State) -> Option<State> {
         .counters
         .iter()
         .zip(before.counters)
-        .fold(0u32, |sum, (after, before)| {
+        .fold(0u64, |sum, (after, before)| {
             sum.wrapping_add(after.wrapping_sub(before))
         });
-    assert_eq!(risen, starts as u32);
+    assert_eq!(risen, starts as u64);
     Some(after)
 }
 
 #[test]
 fn captures_of_all_sorts() {
     let mut dice = Dice::new(1);
-    let mut total = [0u32; 11];
+    let mut total = [0u64; 11];
     for _ in 0..3_000 {
         let s = dice.settings();
         let mut capture = Capture::new();
@@ -133,7 +133,7 @@ fn captures_of_all_sorts() {
             }
         }
         let before = State {
-            counters: [u32::MAX - 1; 11],
+            counters: [u64::MAX - 1; 11],
             timers: [5; 8],
             deficit: 200,
         };

@@ -108,7 +108,7 @@ fn clients_on(port: Port) {
     };
     assert_eq!(walked, ended);
     let mut counters = [0; 11];
-    counters[10] = expected.len() as u32;
+    counters[10] = expected.len() as u64;
     assert_eq!(bench.state.counters, counters);
 }
 
