@@ -42,7 +42,7 @@ struct walked {
 const char *NAME(setup)(void);
 
 /* Reads Start after Start from place 0 on and counts their outcomes. */
-struct walked NAME(walk)(uint16_t limit, uint32_t counters[OUTCOMES], const uint8_t *octets, const uint8_t *marks, size_t length);
+struct walked NAME(walk)(uint16_t limit, uint64_t counters[OUTCOMES], const uint8_t *octets, const uint8_t *marks, size_t length);
 
 #ifdef ZLIB
 
@@ -197,7 +197,7 @@ static int outcome(size_t limit, const uint8_t *run, size_t length, uint8_t by)
   return control ? CONTROL_DROPPED : HANDED_OUT;
 }
 
-struct walked NAME(walk)(uint16_t limit, uint32_t counters[OUTCOMES], const uint8_t *octets, const uint8_t *marks, size_t length)
+struct walked NAME(walk)(uint16_t limit, uint64_t counters[OUTCOMES], const uint8_t *octets, const uint8_t *marks, size_t length)
 {
   struct walked walked = {0, 0};
   size_t at = 0;

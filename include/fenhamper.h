@@ -71,9 +71,9 @@ static uint32_t (*const fenhamper_layout)(void) __attribute__((used)) = fenhampe
 #define FENHAMPER_CLASSES 8          /* 0 to 7, a timer each */
 #define FENHAMPER_OUTCOMES 11        /* 1 to 11, a counter each */
 #define FENHAMPER_RECORD_SIZE 16     /* octets of a record of a log */
-#define FENHAMPER_STACK_READ 1024    /* octets of stack that a call takes at most: fenhamper_read, fenhamper_log_.. */
+#define FENHAMPER_STACK_READ 1280    /* octets of stack that a call takes at most: fenhamper_read, fenhamper_log_.. */
 #define FENHAMPER_STACK_SEND 512     /* the sending calls and Idle fill */
-#define FENHAMPER_STACK_WALK 18432   /* fenhamper_walk and fenhamper_walk_log */
+#define FENHAMPER_STACK_WALK 18944   /* fenhamper_walk and fenhamper_walk_log */
 
 /* ---- settings */
 
@@ -115,7 +115,7 @@ FENHAMPER_HOLDS(offsetof(fenhamper_settings, spare) == 38);
 
 /*
  * What a station keeps from call to call, read and written by every call that takes it. A fresh state is all zeros.
- * Of each counter and timer the low 32 bits are read, and the rest is written as 0; the deficit count is read whole.
+ * Of each timer the low 32 bits are read, and the rest is written as 0; counters and the deficit count are read whole.
  * A refused call leaves the whole record as it was, to the bit.
  */
 typedef struct fenhamper_state {
@@ -387,6 +387,9 @@ uint32_t fenhamper_fcs_update(uint32_t from, const uint8_t *octets, size_t lengt
 /* All zeros: counters, timers and what is spare. */
 void fenhamper_fresh_state(fenhamper_state *state);
 
+/* The 32-bit values of the management screen: of each counter the low 32 bits, in the order of the outcomes. */
+void fenhamper_screen(const fenhamper_state *state, uint32_t shown[FENHAMPER_OUTCOMES]);
+
 /* ---- making records */
 
 /*
@@ -514,7 +517,7 @@ static inline fenhamper_sent fenhamper_line_idle(fenhamper_state *state, fenhamp
 
 /* ---- taking answers apart */
 
-/* How many Starts had this outcome, modulo 2^32. */
+/* How many Starts had this outcome, modulo 2^64. */
 static inline uint64_t fenhamper_counter(const fenhamper_state *state, fenhamper_outcome outcome) {
   return outcome >= FENHAMPER_CUT && outcome <= FENHAMPER_HANDED_OUT ? state->counters[outcome - 1] : 0;
 }

@@ -12,13 +12,13 @@ pub struct Walked {
 }
 
 type Setup = unsafe extern "C" fn() -> *const c_char;
-type Walk = unsafe extern "C" fn(u16, &mut [u32; 11], *const u8, *const u8, usize) -> Walked;
+type Walk = unsafe extern "C" fn(u16, &mut [u64; 11], *const u8, *const u8, usize) -> Walked;
 
 extern "C" {
     fn baseline_slicing_setup() -> *const c_char;
     fn baseline_slicing_walk(
         limit: u16,
-        counters: &mut [u32; 11],
+        counters: &mut [u64; 11],
         octets: *const u8,
         marks: *const u8,
         length: usize,
@@ -30,7 +30,7 @@ extern "C" {
     fn baseline_zlib_setup() -> *const c_char;
     fn baseline_zlib_walk(
         limit: u16,
-        counters: &mut [u32; 11],
+        counters: &mut [u64; 11],
         octets: *const u8,
         marks: *const u8,
         length: usize,
@@ -64,7 +64,7 @@ impl Reader {
         return None;
     }
 
-    pub fn walk(&self, limit: u16, counters: &mut [u32; 11], line: &Line) -> Walked {
+    pub fn walk(&self, limit: u16, counters: &mut [u64; 11], line: &Line) -> Walked {
         let length = line.octets.len().min(line.marks.len());
         // SAFETY: both pointers are to `length` octets, and the tables were made by `ready`.
         unsafe {

@@ -69,7 +69,7 @@ impl Effort {
 }
 
 /// Runs each rival once; all must give the same. Gives what they left behind.
-pub fn agree(job: &str, rivals: &mut Rivals) -> Vec<u32> {
+pub fn agree(job: &str, rivals: &mut Rivals) -> Vec<u64> {
     let once = |rival: &mut Box<dyn Rival + '_>| {
         rival.ready();
         (rival.run(), rival.kept())

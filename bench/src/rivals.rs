@@ -16,7 +16,7 @@ pub trait Rival {
     /// Does the job once, and sums up what it gave.
     fn run(&mut self) -> Tally;
     /// What it left behind in all runs so far: counters, or symbols.
-    fn kept(&self) -> Vec<u32>;
+    fn kept(&self) -> Vec<u64>;
     /// Makes ready for a run what is no part of the job, such as an empty log; false where there is
     /// nothing to do.
     fn ready(&mut self) -> bool {
@@ -173,9 +173,8 @@ impl Rival for Proved<'_> {
         }
     }
 
-    fn kept(&self) -> Vec<u32> {
-        // a counter is 32 bits wide: nothing is lost
-        self.state.counters().map(|counter| counter as u32).to_vec()
+    fn kept(&self) -> Vec<u64> {
+        self.state.counters().to_vec()
     }
 
     fn ready(&mut self) -> bool {
@@ -236,7 +235,7 @@ impl Rival for Independent<'_> {
         }
     }
 
-    fn kept(&self) -> Vec<u32> {
+    fn kept(&self) -> Vec<u64> {
         self.state.counters.to_vec()
     }
 }
@@ -246,7 +245,7 @@ pub struct InC<'a> {
     reader: Reader,
     line: &'a Line,
     limit: u16,
-    counters: [u32; 11],
+    counters: [u64; 11],
 }
 
 impl<'a> InC<'a> {
@@ -272,16 +271,16 @@ impl Rival for InC<'_> {
         }
     }
 
-    fn kept(&self) -> Vec<u32> {
+    fn kept(&self) -> Vec<u64> {
         self.counters.to_vec()
     }
 }
 
 // Symbols as numbers, to be compared.
-fn symbols(line: &Line) -> Vec<u32> {
+fn symbols(line: &Line) -> Vec<u64> {
     let pairs = line.octets.iter().zip(&line.marks);
     pairs
-        .map(|(&octet, &mark)| u32::from(octet) << 8 | u32::from(mark))
+        .map(|(&octet, &mark)| u64::from(octet) << 8 | u64::from(mark))
         .collect()
 }
 
@@ -343,7 +342,7 @@ impl Rival for ProvedSender<'_> {
         }
     }
 
-    fn kept(&self) -> Vec<u32> {
+    fn kept(&self) -> Vec<u64> {
         symbols(&self.line)
     }
 }
@@ -401,7 +400,7 @@ impl Rival for IndependentSender<'_> {
         }
     }
 
-    fn kept(&self) -> Vec<u32> {
+    fn kept(&self) -> Vec<u64> {
         symbols(&self.line)
     }
 }

@@ -11,7 +11,7 @@ use crate::rivals::{Proved, ProvedSender, Rival, OWN};
 const LIMIT: u16 = 1518;
 
 // All readers of one capture give the same; what they counted.
-fn same(name: &str, line: &Line, limit: u16) -> Vec<u32> {
+fn same(name: &str, line: &Line, limit: u16) -> Vec<u64> {
     let mut walks: Rivals = vec![
         Box::new(Proved::new(By::Walk, line, limit)),
         Box::new(Proved::new(By::WalkLog, line, limit)),

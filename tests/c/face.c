@@ -180,6 +180,28 @@ static void counters_go_by_the_outcome(void) {
   CHECK(fenhamper_counter(&state, (fenhamper_outcome)0) == 0 && fenhamper_counter(&state, (fenhamper_outcome)12) == 0);
 }
 
+/* Counters go on beyond 32 bits and roll over at 64; the screen shows the low half of each. */
+static void counters_are_of_64_bits(void) {
+  uint32_t shown[FENHAMPER_OUTCOMES];
+  uint64_t n;
+  fenhamper_settings s = fenhamper_settings_for(own);
+  fenhamper_line line = fresh_line();
+  for (n = 0; n < FENHAMPER_OUTCOMES; n++) state.counters[n] = n << 32 | (100 + n);
+  fenhamper_screen(&state, shown);
+  for (n = 0; n < FENHAMPER_OUTCOMES; n++) CHECK(shown[n] == 100 + n);
+  /* Start, Start, Terminate: cut, bad preamble */
+  octets[0] = octets[1] = 0xFB;
+  octets[2] = 0xFD;
+  marks[0] = marks[1] = marks[2] = 1;
+  state.counters[FENHAMPER_CUT - 1] = UINT32_MAX;
+  state.counters[FENHAMPER_BAD_PREAMBLE - 1] = UINT64_MAX;
+  CHECK(fenhamper_capture_walk(&s, &state, fenhamper_captured(line, 3)).starts == 2);
+  CHECK(fenhamper_counter(&state, FENHAMPER_CUT) == UINT64_C(1) << 32);
+  CHECK(fenhamper_counter(&state, FENHAMPER_BAD_PREAMBLE) == 0);
+  fenhamper_screen(&state, shown);
+  CHECK(shown[FENHAMPER_CUT - 1] == 0 && shown[FENHAMPER_BAD_PREAMBLE - 1] == 0 && shown[FENHAMPER_HANDED_OUT - 1] == 110);
+}
+
 static void every_number_has_a_name(void) {
   CHECK(strcmp(fenhamper_outcome_name(FENHAMPER_WRONG_FCS), "wrong FCS") == 0);
   CHECK(strcmp(fenhamper_refusal_name(FENHAMPER_HELD), "held") == 0);
@@ -549,6 +571,7 @@ int main(void) {
   a_reading_says_whose_frame_it_is();
   a_refused_call_leaves_all();
   counters_go_by_the_outcome();
+  counters_are_of_64_bits();
   every_number_has_a_name();
   a_part_is_kept_inside();
   gaps_are_twelve_on_average();

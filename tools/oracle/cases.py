@@ -302,8 +302,10 @@ def reading_hits(c, r):
             hits.add(f"reading: pause of {f.number(16)} quanta")
         if n == 11 and not r.data:
             hits.add("reading: no data handed out by 11")
-        if c.state.counters[n - 1] == 2**32 - 1:
+        if c.state.counters[n - 1] == 2**64 - 1:
             hits.add("reading: a counter rolls over")
+        if c.state.counters[n - 1] == 2**32 - 1:
+            hits.add("reading: a counter passes 2^32")
     return hits
 
 
@@ -367,7 +369,7 @@ def some_settings(r, **given):
 
 
 def some_state(r, free=None):
-    counters = [r.choice([0, 2**32 - 1, r.randrange(2**32)]) for _ in range(11)]
+    counters = [r.choice([0, 2**32 - 1, 2**64 - 1, r.randrange(2**64)]) for _ in range(11)]
     timers = [r.choice([0, 1, 83, 84, 85, 64, 4194240, r.randrange(5000)]) for _ in range(8)]
     if free is not None and free < 8:
         timers[free] = 0
@@ -775,7 +777,7 @@ MUST = (
     + [f"reading: 0x8808 behind {n}, an ordinary type" for n in ("1 tag", "2 tags")]
     + [f"reading: field {x}, {t}" for t in ("untagged", "1 tag") for x in ("0 kept", "45 kept", "45 broken", "46 kept", "46 broken", "47 kept", "47 broken",
        "1501 broken", "1535 broken")] + ["reading: field 1500 kept, untagged", "reading: field 1500 broken, untagged", "reading: field 1536, a type"]
-    + ["reading: length field, checking off", "reading: data 0xFB in the run", "reading: a counter rolls over"]
+    + ["reading: length field, checking off", "reading: data 0xFB in the run", "reading: a counter rolls over", "reading: a counter passes 2^32"]
     + ["reading: PFC class named", "reading: PFC class not named"] + [f"reading: pause of {n} quanta" for n in (0, 1, 65535)]
     + [f"reading: ended by {x}" for x in ("Idle", "Start", "Error", "Sequence", "another control octet")]
     + [f"reading: outcome {a} before {b}" for a, b in [(1, 2), (2, 3), (3, 5), (4, 5), (5, 6), (6, 7), (7, 10), (8, 10), (9, 10)]]

@@ -1,11 +1,12 @@
 """The readings on the tape of crates/cases (tape.py): captures of each outcome and of both sides of each limit, built by this file's own code."""
 from dataclasses import replace
 
-from model import START, TERMINATE, IDLE, PREAMBLE, RESERVED_GROUP, BROADCAST, Settings, State, fcs, high_first, reading, walk
-from tape import MOST_READINGS, READINGS, TAPE, checksum
+from model import START, TERMINATE, IDLE, PREAMBLE, RESERVED_GROUP, BROADCAST, Settings, State, fcs, high_first, reading, screen, walk
+from tape import MOST_READINGS, READINGS, TAPE, changed, checksum
 
 FRESH = State()
-USED = State(counters=[2**32 - 1] * 11, timers=[1000] * 8)
+USED = State(counters=[2**64 - 1] * 11, timers=[1000] * 8)
+SOAKED = State(counters=[2**32 - 1] * 11, timers=[0] * 8)
 SOURCE = [2, 0, 0, 0, 0, 9]
 TAG = [0x81, 0x00, 0x20, 0x05]
 
@@ -59,7 +60,8 @@ def every(name, s, octets, marks, state=FRESH, worn=False):
         before = r.state
     last = readings[-1]
     end = f"walk refused {last.refusal}" if last.kind == "refused" else f"walk {len(readings) - 1} open {int(last.kind == 'open')}"
-    TAPE.tell(name, end, last.refusal, state, last.state, worn)
+    shown = "screen" + changed(screen(state), screen(last.state), 1)
+    TAPE.tell(name, f"{end} {shown}", last.refusal, state, last.state, worn)
 
 
 def symbols(name, octets, marks):
@@ -243,6 +245,7 @@ def control_cases():
     pause("pause, zero quanta", s, RESERVED_GROUP, 0, USED)
     pause("pause, two quanta", s, RESERVED_GROUP, 2, USED)
     case("filtered, counter rolls over", s, frame(to=station(2)), USED)
+    case("filtered, counter passes 2^32", s, frame(to=station(2)), SOAKED)
     s = settings(flow="PFC")
     pfc("PFC, classes 1 and 6", s, RESERVED_GROUP, 0b01000010, USED)
     some = [octet for q in [0, 0, 9, 0, 9, 9, 9, 9] for octet in high_first(q)]

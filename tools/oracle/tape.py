@@ -53,12 +53,12 @@ def client_octets(c):
 
 
 def state_numbers(state, worn=False, deficit=None):
-    """Counters, timers, the deficit count and what is kept for later. A worn state has ones above the 32 bits of each counter and timer, in the count and in
-    what is kept: but for the count no call looks at them, and a refused one leaves them. A count that is given stands in place of the state's."""
+    """Counters, timers, the deficit count and what is kept for later. A worn state has ones above the 32 bits of each timer, in the count and in what is
+    kept: but for the count no call looks at them, and a refused one leaves them. A count that is given stands in place of the state's."""
     above = ONES - 0xFFFFFFFF if worn else 0
     if deficit is None:
         deficit = ONES if worn else state.deficit
-    return [above + n for n in list(state.counters) + list(state.timers)] + [deficit] + [ONES if worn else 0] * 4
+    return list(state.counters) + [above + n for n in state.timers] + [deficit] + [ONES if worn else 0] * 4
 
 
 class Tape:

@@ -49,12 +49,12 @@ pub const OUTCOMES: usize = sys::OUTCOMES;
 /// Octets of a record of a log: 16.
 pub const RECORD_SIZE: usize = sys::RECORD_SIZE;
 
-/// Octets of stack that a reading takes at most: 1024.
-pub const STACK_READ: usize = 1024;
+/// Octets of stack that a reading takes at most: 1280.
+pub const STACK_READ: usize = 1280;
 
 /// Octets of stack that a sending call or an Idle fill takes at most: 512.
 pub const STACK_SEND: usize = 512;
 
-/// Octets of stack that a walk takes at most, one that keeps its readings too: 18,432, of which
+/// Octets of stack that a walk takes at most, one that keeps its readings too: 18,944, of which
 /// 16,384 are for tables.
-pub const STACK_WALK: usize = 18432;
+pub const STACK_WALK: usize = 18944;

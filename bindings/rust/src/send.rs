@@ -607,10 +607,9 @@ mod tests {
         // one that is not refused leaves it in the header's form
         assert_eq!(sys::fill_idle(&mut state, o, m, 0, 1).refusal, 0);
         let low = u64::from(u32::MAX);
-        assert!(
-            state.counters == [low; 11] && state.timers == [low - 1; 8] && state.spare == [0; 4]
-        );
-        // but for the deficit count, which is kept whole
+        assert!(state.timers == [low - 1; 8] && state.spare == [0; 4]);
+        // counters and the deficit count are kept whole
+        assert_eq!(state.counters, [u64::MAX; 11]);
         assert_eq!(state.deficit, u64::MAX);
     }
 }

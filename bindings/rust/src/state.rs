@@ -29,7 +29,7 @@ pub struct State {
 
 impl State {
     /// A state with these counters, in the order of the outcomes, and these timers, in slots, in
-    /// the order of the classes. The library reads the low 32 bits of each.
+    /// the order of the classes. Of each timer the library reads the low 32 bits.
     ///
     /// ```
     /// use fenhamper::{Outcome, State};
@@ -73,7 +73,7 @@ impl State {
         self
     }
 
-    /// How many Starts had this outcome, modulo 2^32.
+    /// How many Starts had this outcome, modulo 2^64.
     #[must_use]
     pub fn counter(&self, outcome: Outcome) -> u64 {
         self.record.counters[usize::from(outcome.number() - 1)]
@@ -83,6 +83,20 @@ impl State {
     #[must_use]
     pub fn counters(&self) -> [u64; OUTCOMES] {
         Outcome::ALL.map(|outcome| self.counter(outcome))
+    }
+
+    /// The 32-bit values of the management screen, in the order of the outcomes: of each counter
+    /// the low 32 bits.
+    ///
+    /// ```
+    /// use fenhamper::State;
+    ///
+    /// let state = State::with([(5 << 32) + 7; 11], [0; 8]);
+    /// assert_eq!(state.screen(), [7; 11]);
+    /// ```
+    #[must_use]
+    pub fn screen(&self) -> [u32; OUTCOMES] {
+        sys::screen(&self.record)
     }
 
     /// The timer of a class, in slots; none for a class above 7.

@@ -264,6 +264,7 @@ extern "C" {
     fn fenhamper_fcs(octets: *const u8, length: usize) -> u32;
     fn fenhamper_fcs_update(from: u32, octets: *const u8, length: usize) -> u32;
     fn fenhamper_fresh_state(state: &mut State);
+    fn fenhamper_screen(state: &State, shown: &mut [u32; OUTCOMES]);
 }
 
 // An archive of another layout has no such symbol, and does not link.
@@ -517,4 +518,11 @@ pub fn fresh_state() -> State {
     // SAFETY: only the state passes, and it is lent alone.
     unsafe { fenhamper_fresh_state(&mut state) };
     state
+}
+
+pub fn screen(state: &State) -> [u32; OUTCOMES] {
+    let mut shown = [0; OUTCOMES];
+    // SAFETY: the state and the values pass, and the values are lent alone.
+    unsafe { fenhamper_screen(state, &mut shown) };
+    shown
 }

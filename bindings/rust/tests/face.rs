@@ -507,15 +507,15 @@ fn nothing_is_enough() {
 
 #[test]
 fn a_counter_rolls_over() {
-    let mut state = State::with([u64::from(u32::MAX); 11], [0; 8]);
-    Capture::new(&[0xFB, 0x07], &[1, 1])
-        .walk(&Settings::default(), &mut state)
-        .unwrap();
-    assert_eq!(
-        (
-            state.counter(Outcome::Cut),
-            state.counter(Outcome::BadPreamble)
-        ),
-        (0, u64::from(u32::MAX))
-    );
+    let narrow = u64::from(u32::MAX);
+    for (before, after) in [(u64::MAX, 0), (narrow, narrow + 1)] {
+        let mut state = State::with([before; 11], [0; 8]);
+        Capture::new(&[0xFB, 0x07], &[1, 1])
+            .walk(&Settings::default(), &mut state)
+            .unwrap();
+        assert_eq!(state.counter(Outcome::Cut), after);
+        assert_eq!(state.counter(Outcome::BadPreamble), before);
+        // the screen's value of 32 bits rolls over in both
+        assert_eq!(state.screen()[..2], [0, u32::MAX]);
+    }
 }

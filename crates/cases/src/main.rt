@@ -245,6 +245,24 @@ fn left(turns: u64, which: u64) -> u64
     if which == 0 { turns - 1 } else { 0 }
 }
 
+fn wide(n: u32) -> u64 {
+    n as u64
+}
+
+// The values of the management screen that differ.
+fn screens(before: &[u64; 24], after: &[u64; 24]) {
+    let mut first = [0u32; 11];
+    let mut last = [0u32; 11];
+    fenhamper::fenhamper_screen(before, &mut first);
+    fenhamper::fenhamper_screen(after, &mut last);
+    io::write_all(1, b" screen");
+    let mut k: usize = 0;
+    while k < 11 {
+        pair(k + 1, wide(first[k]), wide(last[k]));
+        k += 1;
+    }
+}
+
 fn walked(a: &[u64; 4]) {
     told(b" walk 1 open 2||| walk refused 0", which(a[0], 0), a);
 }
@@ -254,6 +272,7 @@ fn walk(s: &[u8; 48], before: &[u64; 24], o: &[u8], m: &[u8]) {
     let mut a = [0u64; 4];
     fenhamper::fenhamper_walk(s, &mut state, o, m, &mut a);
     walked(&a);
+    screens(before, &state);
     changes(before, &state);
 }
 

@@ -56,16 +56,13 @@ each-all d (x ∷ xs) =
     ∙ each-same (λ (i : ℕ). getD (x ∷ xs) (i + 1) d) (λ (i : ℕ). getD xs i d) (λ (i : ℕ). rw add-one) 0 (length xs)
     ∙ each-all d xs)
 
--- ---- a state that crosses back: numbers of 32 bits are their own low 32 bits, and the deficit count is read whole
+-- ---- a state that crosses back: counters and deficit count cross whole, and a timer of 32 bits is its own low 32 bits
 
-pub state-crosses : (st : State) → length (st .counters) ≡ 11 → length (st .timers) ≡ 8 → ((i : ℕ) → getD (st .counters) i 0 % 4294967296 ≡ getD (st .counters) i 0)
+pub state-crosses : (st : State) → length (st .counters) ≡ 11 → length (st .timers) ≡ 8
     → ((i : ℕ) → timer (st .timers) i .0 % 4294967296 ≡ timer (st .timers) i .0) → stateOf (stateNumbers st) ≡ st
 unfolding stateOf countersOf timersOf stateNumbers each lowAt timer
-state-crosses st eleven eight counters timers =
-    let cs : countersOf (stateNumbers st) ≡ st .counters =
-    each-same (λ (i : ℕ). getD (st .counters) i 0 % 4294967296) (λ (i : ℕ). getD (st .counters) i 0) counters 0 11
-    ∙ rw eleven at (each-all 0 (st .counters))
-    in
+state-crosses st eleven eight timers =
+    let cs : countersOf (stateNumbers st) ≡ st .counters = rw eleven at (each-all 0 (st .counters)) in
     let ts : timersOf (stateNumbers st) ≡ st .timers =
     each-same (λ (i : ℕ). record { 0 = timer (st .timers) i .0 % 4294967296 }) (timer (st .timers)) (λ (i : ℕ). ap (λ (n : ℕ). record { 0 = n }) (timers i)) 0 8
     ∙ rw eight at (each-all (record { 0 = 0 }) (st .timers))

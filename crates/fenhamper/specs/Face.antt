@@ -82,13 +82,13 @@ settingsOf o =
       passing = isOn o 34;
     }
 
--- "Of each counter and timer the low 32 bits are read"
+-- "Of each timer the low 32 bits are read"
 unfoldable pub lowAt : List ℕ → ℕ → ℕ
 lowAt l i = getD l i 0 % 4294967296
 
--- a state, of 24 numbers: counters, then timers, then the deficit count, which is read whole
+-- a state, of 24 numbers: counters, then timers, then the deficit count; "counters and the deficit count are read whole"
 unfoldable pub countersOf : List ℕ → List ℕ
-countersOf l = each (lowAt l) 0 11
+countersOf l = each (λ (i : ℕ). getD l i 0) 0 11
 
 unfoldable pub timersOf : List ℕ → List Slots
 timersOf l = each (λ (i : ℕ). record { 0 = lowAt l i }) 11 8

@@ -33,7 +33,7 @@ ghost use lib.Dec.{eqb};
 ghost use Rattle.line.specs.Octets.{lowFirst};
 ghost use Rattle.fcs.specs.Fcs.{fcsOf};
 ghost use Rattle.crc.specs.Crc.{crcOver};
-ghost use Rattle.station.specs.Station.{fresh};
+ghost use Rattle.station.specs.Station.{fresh, screenOf};
 ghost use Rattle.flow.specs.Timers.{timer};
 ghost use Rattle.receive.specs.Reading.{reading};
 ghost use Rattle.receive.specs.Walk.{walked};
@@ -117,25 +117,26 @@ fn settings(o: &[u8; 48]) -> Settings
     }
 }
 
-// Of each number the low 32 bits.
-fn counters(n: &[u64; 24]) -> [u32; 11]
+// A counter crosses whole.
+fn counters(n: &[u64; 24]) -> [u64; 11]
     ensures { λ r. ⌜ r ≡ countersOf (now (n .entry)) ⌝ }
 {
     [
-        (n[0] % 4294967296) as u32,
-        (n[1] % 4294967296) as u32,
-        (n[2] % 4294967296) as u32,
-        (n[3] % 4294967296) as u32,
-        (n[4] % 4294967296) as u32,
-        (n[5] % 4294967296) as u32,
-        (n[6] % 4294967296) as u32,
-        (n[7] % 4294967296) as u32,
-        (n[8] % 4294967296) as u32,
-        (n[9] % 4294967296) as u32,
-        (n[10] % 4294967296) as u32,
+        n[0],
+        n[1],
+        n[2],
+        n[3],
+        n[4],
+        n[5],
+        n[6],
+        n[7],
+        n[8],
+        n[9],
+        n[10],
     ]
 }
 
+// Of each number the low 32 bits.
 fn timers(n: &[u64; 24]) -> [Slots; 8]
     ensures { λ r. ⌜ r ≡ timersOf (now (n .entry)) ⌝ }
 {
@@ -301,17 +302,17 @@ fn state_numbers(state: State) -> [u64; 24]
     let c = state.counters;
     let t = state.timers;
     [
-        c[0] as u64,
-        c[1] as u64,
-        c[2] as u64,
-        c[3] as u64,
-        c[4] as u64,
-        c[5] as u64,
-        c[6] as u64,
-        c[7] as u64,
-        c[8] as u64,
-        c[9] as u64,
-        c[10] as u64,
+        c[0],
+        c[1],
+        c[2],
+        c[3],
+        c[4],
+        c[5],
+        c[6],
+        c[7],
+        c[8],
+        c[9],
+        c[10],
         slots(t, 0),
         slots(t, 1),
         slots(t, 2),
@@ -477,6 +478,13 @@ pub extern "C" fn fenhamper_fresh_state(state: &mut [u64; 24])
     ensures { λ _. ⌜ now (state .exit) ≡ stateNumbers fresh ⌝ }
 {
     *state = state_numbers(station::fresh_state());
+}
+
+#[no_mangle]
+pub extern "C" fn fenhamper_screen(state: &[u64; 24], shown: &mut [u32; 11])
+    ensures { λ _. ⌜ now (shown .exit) ≡ screenOf (stateOf (now (state .entry)) .counters) ⌝ }
+{
+    *shown = station::screen(counters(state));
 }
 
 #[no_mangle]

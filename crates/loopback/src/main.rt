@@ -114,16 +114,14 @@ fn word(w: &[u8]) {
     io::write_all(1, w);
 }
 
-fn number(w: &[u8], n: usize) {
+fn count(w: &[u8], n: u64) {
     word(w);
     io::write_all(1, b" ");
-    io::print_decimal(1, n as u64);
+    io::print_decimal(1, n);
 }
 
-fn count(w: &[u8], n: u32) {
-    word(w);
-    io::write_all(1, b" ");
-    io::print_decimal(1, n as u64);
+fn number(w: &[u8], n: usize) {
+    count(w, n as u64);
 }
 
 // Status word, and length and check of the client data.

@@ -1,5 +1,6 @@
--- Claim 4, demand 2: after a walk the eleven counters together have risen by the number of Start symbols, less one if open, modulo 2^32, and each
--- counter by the number of Starts with its outcome. The statements are `walk-counts`, `counters-rise` and `counter-rises`. Assumes nothing.
+-- Claim 4, demand 2: after a walk the eleven counters together have risen by the number of Start symbols, less one if open, modulo 2^64, and each
+-- counter by the number of Starts with its outcome, on the screen modulo 2^32. The statements are `walk-counts`, `counters-rise`, `counter-rises` and
+-- `screen-rises`. Assumes nothing.
 use Prim.Native.Nat.{ℕ, zero, suc, _+_, _-_, _%_, _^_, _≤_, _<_}
 use native.Mathlib.Omega.{arith}
 use native.Mathlib.Nat.{not-suc-le-zero, le-of-suc-le-suc, mod-add-mod}
@@ -17,8 +18,9 @@ use Rattle.station.specs.declared.Settings.{Settings}
 use Rattle.station.specs.declared.State.{State}
 use Rattle.station.specs.declared.Outcome.{Outcome}
 use Rattle.station.specs.Numbers.{outcomeNumber}
-use Rattle.station.specs.Station.{counterSize, counter, counted, total}
+use Rattle.station.specs.Station.{counterSize, counter, counted, total, shownSize, screenOf}
 use Rattle.station.proofs.Counters.{row}
+use Rattle.station.proofs.Shown.{shown-sum, counter-shown}
 use Rattle.receive.specs.declared.Reading.{Reading}
 use Rattle.receive.specs.declared.Walked.{Walked}
 use Rattle.receive.specs.declared.Walked.the-variants.{Ended}
@@ -30,7 +32,7 @@ use Rattle.mac.specs.Demand2.{Readable, isUnended, lastUnended, oneIf, h
 use Rattle.receive.proofs.Walks.{through, walk-through}
 use Rattle.mac.proofs.Walk.{OpenLast, open-last, not-last}
 
--- ---- remainders, for any width (item 6 of document 02 makes it 2 ^ 64)
+-- ---- remainders, for any width
 
 more : (w a b k : ℕ) → a % w ≡ b % w → (a + k) % w ≡ (b + k) % w
 more w a b k e = sym (mod-add-mod a w k) ∙ ap (λ (x : ℕ). (x + k) % w) e ∙ mod-add-mod b w k
@@ -169,10 +171,18 @@ module _ (s : Settings) (st : State) (os ms : List ℕ) (fine : Readable s os ms
   pub walk-counts : walked s st os ms .answer ≡ Ended (startCount c - oneIf (lastUnended met)) (lastUnended met)
   walk-counts = rises .count ∙ ap (λ (n : ℕ). Ended n (lastUnended met)) (let e : 0 + countedOnes met ≡ countedOnes met = omega arith in e ∙ ones)
 
-  -- "the eleven counters together have risen, modulo 2^32, by the number of Start symbols in the capture, less one if the walk ended `open`"
+  -- "the eleven counters together have risen … by the number of Start symbols in the capture, less one if the walk ended `open`"; document 02, item 6:
+  -- "Demand 2 and the sum over Starts then hold modulo 2^64"
   pub counters-rise : total (walked s st os ms .state .counters) % counterSize ≡ (total (st .counters) + (startCount c - oneIf (lastUnended met))) % counterSize
   counters-rise = rises .sum ∙ ap (λ (n : ℕ). (total (st .counters) + n) % counterSize) ones
 
   -- and each single counter by the number of Starts with its outcome
   pub counter-rises : (o : Outcome) → counter o (walked s st os ms .state .counters) % counterSize ≡ (counter o (st .counters) + startsWith s o met) % counterSize
   counter-rises o = rises .each o
+
+  -- document 02, item 6: "The management screen goes on showing the 32-bit values": each rises by that number modulo 2^32
+  pub screen-rises : (o : Outcome) → counter o (screenOf (walked s st os ms .state .counters)) ≡ (counter o (screenOf (st .counters)) + startsWith s o met) % shownSize
+  screen-rises o =
+      counter-shown o (walked s st os ms .state .counters)
+      ∙ shown-sum (counter o (walked s st os ms .state .counters)) (counter o (st .counters)) (startsWith s o met) (counter-rises o)
+      ∙ ap (λ (x : ℕ). (x + startsWith s o met) % shownSize) (sym (counter-shown o (st .counters)))

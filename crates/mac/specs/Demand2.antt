@@ -67,7 +67,7 @@ lastUnended [] = false
 lastUnended (m ∷ []) = isUnended (m .follows)
 lastUnended (m ∷ n ∷ ms) = lastUnended (n ∷ ms)
 
--- ---- "its counter rises by one modulo 2^32"
+-- ---- "its counter rises by one modulo" 2^64
 
 -- "less one if the walk ended `open`"
 unfoldable pub oneIf : Bool → ℕ

@@ -1,5 +1,5 @@
--- Demand 2, of each Start: "Each Start in a capture, but for a last one whose run hasn't ended, gets the one outcome …, its counter rises by one modulo
--- 2^32, and what is handed out is that frame's client data and status word." The theorem is `each-start` of proofs/Each.antt.
+-- Demand 2, of each Start: "Each Start in a capture, but for a last one whose run hasn't ended, gets the one outcome …, its counter rises by one …,
+-- and what is handed out is that frame's client data and status word."; by document 02, item 6, modulo 2^64. The theorem is `each-start` of proofs/Each.antt.
 use Prim.Native.Nat.{ℕ, _+_, _%_}
 use mathlib.Core.Path.{_≡_}
 use mathlib.Core.List.{List, [], _∷_}
@@ -24,7 +24,7 @@ pub record Gets (s : Settings) (os : List ℕ) (st : State) (place : ℕ) (f : L
   pub answer : r .answer ≡ Counted o (status s o f) (handedPart s o (place + 8) f)
   -- "what is handed out is that frame's client data": its octets; none by outcomes 1 to 10
   pub hands : partOf os (answerPart (r .answer)) ≡ byOutcome o [] [] [] [] (clientData (s .checking) f)
-  -- "its counter rises by one modulo 2^32", and no other does
+  -- "its counter rises by one modulo" 2^64, and no other does
   pub rises : counter o (r .state .counters) ≡ (counter o (st .counters) + 1) % counterSize
   pub others : (p : Outcome) → (outcomeNumber p ≡ outcomeNumber o → ⊥) → counter p (r .state .counters) ≡ counter p (st .counters)
 

@@ -1,2 +1,3 @@
 pub mod Counters
 pub mod Refusals
+pub mod Shown

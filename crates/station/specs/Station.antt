@@ -1,7 +1,7 @@
 -- Settings and state: the counters and the fresh state ("Reading one Start"), the flow mode ("Sending"), refusals 1 to 3.
 use Prim.Native.Nat.{ℕ, _+_, _-_, _%_, _^_}
 use mathlib.Core.Bool.{Bool, true, false, not, _&&_, _||_}
-use mathlib.Core.List.{List, [], _∷_}
+use mathlib.Core.List.{List, [], _∷_, map}
 use lib.ListN.{length, getD, set, replicate}
 use lib.Dec.{eqb, ltb, leb}
 use Rattle.station.specs.declared.Settings.{Settings}
@@ -16,9 +16,9 @@ use Rattle.station.specs.Numbers.{outcomeNumber}
 
 -- ---- Reading one Start
 
--- "Each outcome has a 32-bit counter that rolls over to zero"
+-- "Each outcome has a … counter that rolls over to zero"; document 02, item 6: "Make all eleven 64 bits"
 abbrev pub counterSize : ℕ
-counterSize = 2 ^ 32
+counterSize = 2 ^ 64
 
 -- the counter of an outcome
 unfoldable pub counter : Outcome → List ℕ → ℕ
@@ -32,6 +32,16 @@ counted o cs = set cs (outcomeNumber o - 1) ((counter o cs + 1) % counterSize)
 unfoldable pub total : List ℕ → ℕ
 total [] = 0
 total (c ∷ cs) = c + total cs
+
+-- document 02, item 6: "The management screen goes on showing the 32-bit values, each the remainder of the wide one."
+abbrev pub shownSize : ℕ
+shownSize = 2 ^ 32
+
+abbrev pub shown : ℕ → ℕ
+shown n = n % shownSize
+
+unfoldable pub screenOf : List ℕ → List ℕ
+screenOf cs = map shown cs
 
 -- "The state is these eleven counters and the eight timers below", and, by document 02, item 5, the deficit count, which "is part of the state": a
 -- state with other counters, one with other timers, and one with another deficit count. Nothing else of it changes.

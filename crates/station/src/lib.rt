@@ -2,7 +2,7 @@
 // Struct fields have no underscore, so that the definitions read them with no quotes; what each stands for is said beside it.
 ghost use mathlib.Core.Path.{_≡_};
 ghost use Rattle.station.specs.Numbers.{outcomeNumber, refusalNumber};
-ghost use Rattle.station.specs.Station.{badSettings, badBuffers, badPlace, badStart, highDeficit, counted, fresh, isPauseMode, isPfcMode};
+ghost use Rattle.station.specs.Station.{badSettings, badBuffers, badPlace, badStart, highDeficit, counted, fresh, screenOf, isPauseMode, isPfcMode};
 
 // Six octets.
 pub struct Address(pub [u8; 6]);
@@ -43,7 +43,7 @@ pub enum Port {
 
 pub struct State {
     // in the order of the outcomes
-    pub counters: [u32; 11],
+    pub counters: [u64; 11],
     // one for each class
     pub timers: [Slots; 8],
     // the deficit count of the four-lane port: how many symbols its gaps are short of 12 each, 3 at most (above 3: refusal 19)
@@ -116,7 +116,7 @@ pub fn fresh_state() -> State
     ensures { λ r. ⌜ r ≡ fresh ⌝ }
 {
     State {
-        counters: [0u32; 11],
+        counters: [0u64; 11],
         timers: [Slots(0); 8],
         deficit: 0,
     }
@@ -162,12 +162,25 @@ pub fn refusal_number(r: Refusal) -> u8
 
 // Counts an outcome: its counter goes up by one and rolls over to zero. The counters stay where they are: a walk that copied them for each Start
 // would take three times as long over Starts alone.
-pub fn count(o: Outcome, counters: &mut [u32; 11])
+pub fn count(o: Outcome, counters: &mut [u64; 11])
     ensures { λ _. ⌜ now (counters .exit) ≡ counted o (now (counters .entry)) ⌝ }
 {
     let i = (outcome_number(o) - 1) as usize;
     let n = counters[i];
-    counters[i] = std::num::wrapping_add_u32(n, 1);
+    counters[i] = std::num::wrapping_add_u64(n, 1);
+}
+
+// The 32-bit values that the management screen shows: of each counter the remainder.
+pub fn screen(counters: [u64; 11]) -> [u32; 11]
+    ensures { λ r. ⌜ r ≡ screenOf counters ⌝ }
+{
+    let mut shown = [0u32; 11];
+    let mut k: usize = 0;
+    while k < 11 {
+        shown[k] = (counters[k] % 4294967296) as u32;
+        k += 1;
+    }
+    shown
 }
 
 // Refusal 2.

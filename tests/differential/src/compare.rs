@@ -228,6 +228,8 @@ impl Bench {
             Ok(_) => {}
             Err(refusal) => self.refused("read", *refusal, inputs)?,
         }
+        let screens = (library_state.screen(), reference::screen(state));
+        self.same(("read", "screen"), screens, inputs)?;
         let states = (library_state, face::state(state));
         self.same(("read", "state"), states, inputs)?;
         let (symbols, states) = ((octets, marks, place), (&before, &*state));
@@ -305,6 +307,8 @@ impl Bench {
         if let Err(refusal) = answer {
             self.refused("walk", refusal, inputs)?;
         }
+        let screens = (library_state.screen(), reference::screen(state));
+        self.same(("walk", "screen"), screens, inputs)?;
         let states = (library_state, face::state(state));
         self.same(("walk", "state"), states, inputs)?;
         self.coverage.walk(&WalkSeen {

@@ -41,6 +41,8 @@ impl Bench {
         let refused = matches!(expected.answer, Answer::Refused(_));
         let states = (*numbers, after(refused, &before, &state));
         self.same(("read in C", "state"), states, inputs)?;
+        let screens = (raw::screen(numbers), reference::screen(&state));
+        self.same(("read in C", "screen"), screens, inputs)?;
         let (symbols, states) = ((octets, marks, place), (&state_before, &state));
         let seen = ReadingSeen::new(By::Read, &s, symbols, states, expected);
         self.coverage.c(&CSeen {

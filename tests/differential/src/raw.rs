@@ -41,6 +41,9 @@ pub const TAG_KIND: usize = 0;
 pub const TAG_SPARE: usize = 1;
 pub const TAG_CONTROL: usize = 2;
 
+/// Outcomes, each with a counter.
+pub const OUTCOMES: usize = 11;
+
 /// Numbers of a state, and the places in them.
 pub const STATE: usize = 24;
 pub const COUNTERS: usize = 0;
@@ -180,6 +183,7 @@ extern "C" {
         record: &mut Record,
     ) -> u32;
     fn fenhamper_log_used(log: *const u8, log_length: usize, used: &mut usize) -> u32;
+    fn fenhamper_screen(state: &State, shown: &mut [u32; OUTCOMES]);
     fn fenhamper_client_data(
         octets_length: usize,
         place: usize,
@@ -353,6 +357,14 @@ pub fn client_data(octets_length: usize, place: usize, length: usize) -> [u64; 2
     // SAFETY: only numbers pass, but for the part written.
     unsafe { fenhamper_client_data(octets_length, place, length, &mut part) };
     part
+}
+
+/// The screen's values.
+pub fn screen(state: &State) -> [u32; OUTCOMES] {
+    let mut shown = [u32::MAX / 3; OUTCOMES];
+    // SAFETY: the state and the values pass, and the values are lent alone.
+    unsafe { fenhamper_screen(state, &mut shown) };
+    shown
 }
 
 pub fn send_client(

@@ -64,12 +64,12 @@ pub fn port(octet: u8) -> Port {
     }
 }
 
-/// "Of each counter and timer the low 32 bits are read; the deficit count is read whole". The
+/// "Of each timer the low 32 bits are read; counters and the deficit count are read whole". The
 /// reference's is an octet: the greatest stands for what it cannot say, which is above 3 alike.
 /// Spare numbers mean nothing.
 pub fn state(record: &raw::State) -> State {
     State {
-        counters: from_fn(|i| record[raw::COUNTERS + i] as u32),
+        counters: from_fn(|i| record[raw::COUNTERS + i]),
         timers: from_fn(|i| record[raw::TIMERS + i] as u32),
         deficit: u8::try_from(record[raw::DEFICIT]).unwrap_or(u8::MAX),
     }
@@ -79,7 +79,7 @@ pub fn state(record: &raw::State) -> State {
 /// say stays as it was.
 pub fn state_written(before: &raw::State, state: &State) -> raw::State {
     let mut record = [0; raw::STATE];
-    record[raw::COUNTERS..][..11].copy_from_slice(&state.counters.map(u64::from));
+    record[raw::COUNTERS..][..11].copy_from_slice(&state.counters);
     record[raw::TIMERS..][..8].copy_from_slice(&state.timers.map(u64::from));
     record[raw::DEFICIT] = if before[raw::DEFICIT] > u64::from(u8::MAX) {
         before[raw::DEFICIT]

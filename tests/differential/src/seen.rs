@@ -333,7 +333,7 @@ impl WalkSeen<'_> {
     }
 
     /// How many Starts had this outcome.
-    pub fn risen(&self, outcome: u8) -> u32 {
+    pub fn risen(&self, outcome: u8) -> u64 {
         let i = usize::from(outcome - 1);
         self.after.counters[i].wrapping_sub(self.before.counters[i])
     }

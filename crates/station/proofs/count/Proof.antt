@@ -21,8 +21,8 @@ mul-n c = search needs
 element-copy-out-n : tie.Need-element-copy-out-n
 element-copy-out-n c = omega (arith, row (c .before .args .o))
 
-wrapping-add-u32-requires : tie.Need-wrapping-add-u32-requires
-wrapping-add-u32-requires c κs = search needs
+wrapping-add-u64-requires : tie.Need-wrapping-add-u64-requires
+wrapping-add-u64-requires c κs = search needs
 
 mul-counters : tie.Need-mul-counters
 mul-counters c = search needs
@@ -32,7 +32,7 @@ element-write-counters c = omega (arith, row (c .before .before .before .args .o
 
 returns : tie.Need-returns
 unfolding counted counter
-returns c = rw (c .wrapping-add-u32 .ensures, c .before .before .outcome-number .ensures)
+returns c = rw (c .wrapping-add-u64 .ensures, c .before .before .outcome-number .ensures)
 
 pub count-spec : {M : Type 1} → statement M
 count-spec =
@@ -43,7 +43,7 @@ count-spec =
     cast-i
     mul-n
     element-copy-out-n
-    wrapping-add-u32-requires
+    wrapping-add-u64-requires
     mul-counters
     element-write-counters
     returns)

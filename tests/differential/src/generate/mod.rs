@@ -14,7 +14,9 @@ pub use logs::{reading_record, BEYOND_THE_LOG};
 pub use records::{client_record, port_octet, settings_record, spoil, state_record};
 pub use sendings::{blank_line, port, sending, sending_place, timed, Sending};
 pub use sendings::{short_frame, timed_frame};
-pub use settings::{settings, state, valid_settings, BROADCAST, HIGHEST_BIT, RESERVED_GROUP};
+pub use settings::{
+    settings, state, valid_settings, BROADCAST, COUNTER_BIT, HIGHEST_BIT, RESERVED_GROUP,
+};
 
 /// The most symbols that a call takes.
 pub const SYMBOLS: usize = 65_536;

@@ -77,8 +77,8 @@ pub fn port_octet(prng: &mut Prng, port: Port) -> u8 {
     flag(prng, port == Port::FourLane)
 }
 
-/// Numbers that stand for this state: high bits and spare ones are anything. The greatest deficit
-/// count stands for all that an octet cannot say, 0 to 3 if high bits are lost among them.
+/// Numbers that stand for this state: high bits of timers and spare ones are anything. The greatest
+/// deficit count stands for all that an octet cannot say, 0 to 3 if high bits are lost among them.
 pub fn state_record(prng: &mut Prng, state: &State) -> raw::State {
     let mut high = |low: u32| {
         let any = prng.number() as u32;
@@ -86,7 +86,7 @@ pub fn state_record(prng: &mut Prng, state: &State) -> raw::State {
         u64::from(high) << 32 | u64::from(low)
     };
     let mut record = [0; raw::STATE];
-    record[raw::COUNTERS..][..11].copy_from_slice(&state.counters.map(&mut high));
+    record[raw::COUNTERS..][..11].copy_from_slice(&state.counters);
     record[raw::TIMERS..][..8].copy_from_slice(&state.timers.map(&mut high));
     record[raw::DEFICIT] = match state.deficit {
         u8::MAX => {

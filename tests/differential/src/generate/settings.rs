@@ -55,16 +55,31 @@ pub fn valid_settings(prng: &mut Prng) -> Settings {
 
 /// A number whose highest bit alone is set.
 pub const HIGHEST_BIT: u32 = 1 << 31;
+/// The same of a counter.
+pub const COUNTER_BIT: u64 = 1 << 63;
 
-/// Any state: counters about to roll over or to reach their highest bit, timers of all sorts.
+/// Any state: counters about to roll over, to reach their highest bit or to pass 2^32, timers of all
+/// sorts.
 pub fn state(prng: &mut Prng) -> State {
-    let counters = match prng.below(5) {
+    let narrow = u64::from(u32::MAX);
+    let counters = match prng.below(6) {
         0 => [0; 11],
-        1 => [u32::MAX; 11],
-        2 => [HIGHEST_BIT - 1; 11],
+        1 => [u64::MAX; 11],
+        2 => [COUNTER_BIT - 1; 11],
+        3 => [narrow; 11],
         _ => [(); 11].map(|()| {
-            let any = prng.number() as u32;
-            prng.pick(&[0, 1, HIGHEST_BIT, u32::MAX - 1, u32::MAX, any])
+            let any = prng.number();
+            let high = any & !narrow;
+            prng.pick(&[
+                0,
+                1,
+                narrow,
+                high | narrow,
+                COUNTER_BIT,
+                u64::MAX - 1,
+                u64::MAX,
+                any,
+            ])
         }),
     };
     let timers = match prng.below(3) {

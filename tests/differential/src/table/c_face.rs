@@ -3,6 +3,7 @@ use super::Table;
 use crate::generate::{BROADCAST, HIGHEST_BIT, RESERVED_GROUP};
 use crate::raw;
 use crate::seen::{CSeen, FrameSeen, Kind, ReadingSeen};
+use core::ops::Range;
 use reference::Form;
 
 /// What may stand for 1 and does not equal it: even, of the highest bit alone, odd.
@@ -10,6 +11,9 @@ pub const ON: [u8; 3] = [2, 128, 255];
 
 /// The calls that take a state.
 pub const CALLS: [&str; 7] = ["read", "walk", "walk_log", "client", "pause", "PFC", "idle"];
+
+/// The timers among a state's numbers.
+const TIMERS: Range<usize> = raw::TIMERS..raw::DEFICIT;
 
 pub fn rows(t: &mut Table) {
     flags(t);
@@ -91,22 +95,21 @@ fn spare_octets(t: &mut Table) {
     });
 }
 
-/// Of counters and timers the low 32 bits are read, and the rest is written as 0; spare numbers are
-/// not looked at, and written as 0.
+/// Counters are read whole; of timers the low 32 bits are read, and the rest is written as 0; spare
+/// numbers are not looked at, and written as 0.
 fn high_bits(t: &mut Table) {
     let high = |number: u64| number >> 32 != 0;
     for outcome in 1..=11 {
         let i = raw::COUNTERS + usize::from(outcome - 1);
-        let name =
-            format!("C: counter of outcome {outcome} has high bits: counted by its low ones");
+        let name = format!("C: counter of outcome {outcome} has high bits: counted with them");
         t.c(name, move |c| {
-            let next = (c.before[i] as u32).wrapping_add(1);
-            high(c.before[i]) && c.after[i] == u64::from(next) && c.read(|r| r.outcome == outcome)
+            let next = c.before[i].wrapping_add(1);
+            high(c.before[i]) && c.after[i] == next && c.read(|r| r.outcome == outcome)
         });
-        let name = format!("C: counter of outcome {outcome} at 2^32 - 1 and high bits: 0");
+        let name = format!("C: counter of outcome {outcome}, low bits all ones: a high one rises");
         t.c(name, move |c| {
-            let most = high(c.before[i]) && c.before[i] as u32 == u32::MAX;
-            most && c.after[i] == 0 && c.read(|r| r.outcome == outcome)
+            let most = c.before[i] as u32 == u32::MAX && c.before[i] != u64::MAX;
+            most && c.after[i] == c.before[i] + 1 && c.read(|r| r.outcome == outcome)
         });
     }
     let its_timer = |c: &CSeen| {
@@ -123,11 +126,10 @@ fn high_bits(t: &mut Table) {
     for call in ["client", "pause", "PFC", "idle"] {
         let name = format!("C: {call}: a timer at 2^31 and high bits: lowered by the symbols");
         t.c(name, move |c| {
-            let timers = raw::TIMERS..raw::TIMERS + 8;
             c.name() == call
                 && c.sent(|w| {
                     let n = w.wrote().unwrap_or(0) as u64;
-                    timers.into_iter().any(|i| {
+                    TIMERS.into_iter().any(|i| {
                         let low = u64::from(HIGHEST_BIT);
                         let at = high(c.before[i]) && c.before[i] as u32 == HIGHEST_BIT;
                         n > 1 && at && c.after[i] == low - n
@@ -136,19 +138,22 @@ fn high_bits(t: &mut Table) {
         });
     }
     for call in CALLS {
-        t.c(format!("C: {call}: all high bits written as 0"), move |c| {
-            c.name() == call
-                && c.refusal() == 0
-                && c.before[..raw::DEFICIT].iter().any(|&n| high(n))
-                && !c.after[..raw::DEFICIT].iter().any(|&n| high(n))
-        });
+        t.c(
+            format!("C: {call}: all high bits of timers written as 0"),
+            move |c| {
+                c.name() == call
+                    && c.refusal() == 0
+                    && c.before[TIMERS].iter().any(|&n| high(n))
+                    && !c.after[TIMERS].iter().any(|&n| high(n))
+            },
+        );
     }
     for (end, none) in [("none", true), ("open", false)] {
         t.c(
-            format!("C: read: {end}: high bits written as 0"),
+            format!("C: read: {end}: high bits of timers written as 0"),
             move |c| {
-                c.before[..raw::DEFICIT].iter().any(|&n| high(n))
-                    && !c.after[..raw::DEFICIT].iter().any(|&n| high(n))
+                c.before[TIMERS].iter().any(|&n| high(n))
+                    && !c.after[TIMERS].iter().any(|&n| high(n))
                     && c.read(|r| if none { r.none() } else { r.open() })
             },
         );

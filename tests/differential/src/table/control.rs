@@ -1,6 +1,6 @@
 //! Control frames, timers set, status words and counters.
 use super::{tags, Table};
-use crate::generate::{BROADCAST, HIGHEST_BIT, RESERVED_GROUP};
+use crate::generate::{BROADCAST, COUNTER_BIT, RESERVED_GROUP};
 use crate::seen::FrameSeen;
 use reference::Flow;
 
@@ -206,15 +206,16 @@ fn statuses(t: &mut Table) {
     }
 }
 
-/// Each counter's step from 2^32 - 1, and into its highest bit.
+/// Each counter's step from 2^64 - 1, into its highest bit, and past 32 bits.
 fn counters(t: &mut Table) {
     for (step, from, to) in [
-        ("rolls over to 0", u32::MAX, 0),
+        ("rolls over to 0", u64::MAX, 0),
         (
-            "goes on from 2^31 - 1 to 2^31",
-            HIGHEST_BIT - 1,
-            HIGHEST_BIT,
+            "goes on from 2^63 - 1 to 2^63",
+            COUNTER_BIT - 1,
+            COUNTER_BIT,
         ),
+        ("goes on from 2^32 - 1 to 2^32", (1 << 32) - 1, 1 << 32),
     ] {
         for outcome in 1..=11 {
             let name = format!("counter of outcome {outcome} {step}");

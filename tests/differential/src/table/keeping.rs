@@ -118,7 +118,7 @@ fn fullness(t: &mut Table) {
         },
     );
     t.keep("walk_log: full: as many counted as appended", |k| {
-        let counted: u32 = (1..=11).map(|outcome| k.risen(outcome)).sum();
+        let counted: u64 = (1..=11).map(|outcome| k.risen(outcome)).sum();
         k.further.is_some() && counted > 0 && counted as usize == k.logged.appended
     });
     t.keep("walk_log: full at once: the state stays", |k| {
