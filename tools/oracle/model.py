@@ -1,4 +1,4 @@
-"""An independent model of document 01 with items 1 to 6 of document 02, written from their text alone and not from the definitions in crates/*/specs.
+"""An independent model of document 01 with items 1 to 7 of document 02, written from their text alone and not from the definitions in crates/*/specs.
 
 Each piece stands under the sentence of the documents that it renders. The check is zlib's crc32, not a loop of our own, and a log's record is laid
 out by struct.
@@ -176,6 +176,18 @@ class Frame:
         # "Else the destination must equal the own address or a listed one, all six octets."
         return self.destination == s.own or self.destination in s.listed[:s.count]
 
+    def address(self, s: Settings) -> int:
+        """Item 7: "1 own, 2 to 5 the first listed entry that matches, 6 broadcast, 7 promiscuous only, 0 not accepted" """
+        tests = [(1, self.destination == s.own)] + [(2 + n, self.destination == entry) for n, entry in enumerate(s.listed[:s.count])]
+        if self.destination == BROADCAST:  # "broadcast is 6 if its setting is on, else 7 or 0, listed or not"
+            tests = [(6, s.broadcast)]
+        if self.control and self.destination == RESERVED_GROUP:  # "Every control frame to the reserved group says 8, listed or not."
+            tests = [(8, True)]
+        # "Own address and list are tried before promiscuous"
+        number = next(number for number, holds in tests + [(7, s.promiscuous), (0, True)] if holds)
+        assert (number == 0) == self.filtered(s)  # "Accepted and refused stay as they are."
+        return number
+
     def named_here(self, s: Settings) -> bool:
         """"to the reserved group or the own address" """
         return self.destination in (RESERVED_GROUP, s.own)
@@ -239,6 +251,7 @@ class Reading:
     status: int = 0
     part: Tuple[int, int] = (0, 0)  # where it begins, and its length
     data: List[int] = field(default_factory=list)
+    address: int = 0  # item 7: "The reading carries the number, with 0 for outcomes 1 to 7"
 
 
 def find(octets, marks, place, test) -> Optional[int]:
@@ -287,6 +300,7 @@ def reading(s: Settings, state: State, octets: List[int], marks: List[int], plac
     answer = Reading("counted", start, end, counted(state, outcome), outcome=outcome)
     if outcome >= 8:
         f = Frame(run[7:])
+        answer.address = f.address(s)
         answer.status = f.status(s, outcome)
         answer.state = replace(answer.state, timers=f.timers_after(outcome, state.timers))
         if outcome == 11:  # "Client data is a part of the captured octets themselves"; "Outcomes 1 to 10 hand out an empty part."
@@ -311,7 +325,8 @@ def walk(s: Settings, state: State, octets: List[int], marks: List[int], place: 
 
 # ---- The reading log (item 4)
 
-# "place (4 octets, low first), outcome (1), zero (1), octets handed out (2, low first), status word (8, low first)"
+# "place (4 octets, low first), outcome (1), zero (1), octets handed out (2, low first), status word (8, low first)"; item 7: "the log's zero octet
+# holds it from then on", the number of the address that let the frame in
 RECORD = struct.Struct("<IBBHQ")
 assert RECORD.size == 16  # "one record of 16 octets per counted Start, no header"
 
@@ -320,7 +335,7 @@ class Record(NamedTuple):
     """"the five fields at those widths" """
     place: int
     outcome: int
-    zero: int
+    address: int
     handed: int
     status: int
 
@@ -370,7 +385,7 @@ class Appending:
 
 def appending(log: List[int], r: Record) -> Appending:
     """"appending takes the first unused one"; 11 is given with outcome 0 too, since that "never gives 12" and no more is said of it.
-    Open point: no value of a field is refused, and the zero octet is written as given, as reading back "gives what was appended"."""
+    Open point: no value of a field is refused, and each is written as given, as reading back "gives what was appended"."""
     refusal = first((11, bad_log(log)), (12, r.used() and not unused_numbers(log)))
     if refusal or not r.used():  # "with outcome 0, …, it appends nothing"
         return Appending(refusal or 0, None, log)
@@ -385,7 +400,7 @@ def fields_of(r: Reading) -> Record:
     """"outcome 0, which stands for `none`, `open` and a refused reading"; open point: with zeros beside it, which are never written."""
     if r.kind != "counted":
         return Record(0, 0, 0, 0, 0)
-    return Record(r.start, r.outcome, 0, len(r.data), r.status)
+    return Record(r.start, r.outcome, r.address, len(r.data), r.status)
 
 
 def reading_appending(log: List[int], r: Reading) -> Appending:
@@ -831,3 +846,52 @@ def try_counters():
 
 
 try_counters()
+
+
+# ---- Which address let it in, tried with every order of the list
+
+
+def try_addresses():
+    groups = [[1, 0, 0x5E, 0, 0, n] for n in range(1, 5)]
+    other, own = [2, 0, 0, 0, 0, 9], PRINTING.own
+
+    def said(s, destination, header=(0x0800,), opcode=2):
+        covered = destination + other + [octet for number in header for octet in high_first(number)] + high_first(opcode) + [0] * 44
+        line = on_line(covered)
+        r = reading(s, State(), [octet for octet, _ in line], [mark for _, mark in line], 0)
+        return r.outcome, r.address
+
+    for promiscuous in (False, True):
+        none = (11, 7) if promiscuous else (7, 0)  # what is said where nothing matches
+        for broadcast in (False, True):
+            # Lists of each length, with equal entries, the own address, broadcast and the reserved group among them.
+            for listed in [[], groups, groups[::-1], [groups[0]] * 4, [groups[1], groups[0], groups[0], groups[1]], [own] * 4, [own, groups[0], own],
+                           [BROADCAST] * 4, [groups[3], BROADCAST], [RESERVED_GROUP] * 4, [other, RESERVED_GROUP]]:
+                for count in {0, len(listed) // 2, len(listed)}:
+                    s = replace(PRINTING, listed=listed, count=count, promiscuous=promiscuous, broadcast=broadcast)
+                    for destination in groups + [other, RESERVED_GROUP]:
+                        entries = [(11, 2 + n) for n in range(count) if listed[n] == destination]
+                        assert said(s, destination) == (entries + [none])[0]
+                        # "A tagged 0x8808 is an ordinary type."
+                        assert said(s, destination, (CUSTOMER, 0, CONTROL)) == (entries + [none])[0]
+                    assert said(s, own) == (11, 1) and said(s, BROADCAST) == ((11, 6) if broadcast else none)
+                    # Control frames: to the reserved group, to the own address, to others.
+                    for flow, opcode, outcome in [("none", 1, 10), ("pause", 1, 8), ("PFC", 0x0101, 9), ("PFC", 1, 10)]:
+                        assert said(replace(s, flow=flow), RESERVED_GROUP, (CONTROL,), opcode) == (outcome, 8)
+                    assert said(s, own, (CONTROL,)) == (10, 1) and said(replace(s, flow="pause"), own, (CONTROL,), 1) == (8, 1)
+                    for destination in [groups[0], other, BROADCAST]:
+                        outcome, number = said(s, destination)
+                        assert said(s, destination, (CONTROL,)) == (10 if outcome == 11 else 7, number)
+                        assert said(replace(s, pass_control=True), destination, (CONTROL,)) == (outcome, number)
+    # Outcomes 1 to 6 say 0, also of the own address; the log's octet, by the walk that keeps its readings and by appending a reading.
+    line = on_line(own + other + high_first(0x0800) + [7] * 46)
+    octets, marks = [octet for octet, _ in line], [mark for _, mark in line]
+    log = logged_walk(PRINTING, State(), octets, marks, 0, [0] * 16).log
+    assert log[5] == 1 and log == reading_appending([0] * 16, reading(PRINTING, State(), octets, marks, 0)).log
+    for wrong, by in [(octets[:72] + [ERROR], 1), (octets[:5] + [0] + octets[6:], 2), (octets[:30] + [0] + octets[31:], 5)]:
+        r = reading(PRINTING, State(), wrong, marks[:len(wrong)], 0)
+        log = logged_walk(PRINTING, State(), wrong, marks[:len(wrong)], 0, [0] * 16).log
+        assert (r.outcome, r.address) == (by, 0) and log[4:6] == [by, 0]
+
+
+try_addresses()

@@ -1,4 +1,4 @@
-//! A reference implementation of document 01, with items 1 to 6 of document 02: the
+//! A reference implementation of document 01, with items 1 to 7 of document 02: the
 //! work of an Ethernet MAC on line symbols kept in memory.
 //!
 //! Written from those documents alone, to be compared with the proved program.

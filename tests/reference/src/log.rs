@@ -1,6 +1,6 @@
 //! "A reading log", item 4 of document 02: records of 16 octets in a lent
 //! buffer. Every call but the walk gives the number of its refusal as the
-//! error.
+//! error. By item 7 "the log's zero octet holds" which address let a frame in.
 
 use crate::check::Check;
 use crate::receive::{check, read, Answer, Reading};
@@ -19,8 +19,8 @@ pub struct Record {
     pub place: u32,
     /// Number of the outcome.
     pub outcome: u8,
-    /// Zero in the record of a reading.
-    pub zero: u8,
+    /// Which address let it in: the octet that was zero before item 7.
+    pub address: u8,
     /// Octets handed out.
     pub handed: u16,
     /// The status word.
@@ -29,12 +29,13 @@ pub struct Record {
 
 impl Record {
     /// "place (4 octets, low first), outcome (1), zero (1), octets handed out
-    /// (2, low first), status word (8, low first)".
+    /// (2, low first), status word (8, low first)", the address in the place
+    /// of the zero.
     pub fn to_octets(&self) -> [u8; 16] {
         let mut octets = [0; RECORD_LEN];
         octets[..4].copy_from_slice(&self.place.to_le_bytes());
         octets[OUTCOME_AT] = self.outcome;
-        octets[5] = self.zero;
+        octets[5] = self.address;
         octets[6..8].copy_from_slice(&self.handed.to_le_bytes());
         octets[8..].copy_from_slice(&self.status.to_le_bytes());
         octets
@@ -42,11 +43,11 @@ impl Record {
 
     /// "Records are read as they stand": no octet is refused.
     pub fn from_octets(octets: &[u8; 16]) -> Self {
-        let [p0, p1, p2, p3, outcome, zero, h0, h1, status @ ..] = *octets;
+        let [p0, p1, p2, p3, outcome, address, h0, h1, status @ ..] = *octets;
         Record {
             place: u32::from_le_bytes([p0, p1, p2, p3]),
             outcome,
-            zero,
+            address,
             handed: u16::from_le_bytes([h0, h1]),
             status: u64::from_le_bytes(status),
         }
@@ -64,13 +65,14 @@ impl Record {
                 outcome,
                 status,
                 len,
+                address,
                 ..
             } => Record {
                 // A capture has at most 65,536 symbols and a frame at most
                 // 9,650 octets, so both numbers have their room.
                 place: reading.start as u32,
                 outcome,
-                zero: 0,
+                address,
                 handed: len as u16,
                 status,
             },
@@ -105,8 +107,8 @@ pub fn first_unused(log: &[u8]) -> Result<usize, u8> {
 /// Open point: outcome 0 doesn't hide a wrong log length, as only 12 is named.
 ///
 /// Open point: no value of a field is refused. An outcome above 11 is written,
-/// and the octet that is zero for a reading is written as given, so that
-/// reading back "gives what was appended".
+/// and so is an address above 8, so that reading back "gives what was
+/// appended".
 pub fn append(log: &mut [u8], record: &Record) -> Result<Option<usize>, u8> {
     refusal::log(log)?;
     if record.outcome == 0 {

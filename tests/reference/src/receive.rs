@@ -1,11 +1,12 @@
-//! "Reading one Start", "Control frames" and the walk over a capture.
+//! "Reading one Start", "Control frames" and the walk over a capture; "Which
+//! address let it in?", item 7 of document 02.
 
 use crate::check::Check;
 use crate::frame::{number_at, Frame};
 use crate::line::{find_control, find_start, PAUSE_OPCODE, PFC_OPCODE};
 use crate::line::{PREAMBLE, RESERVED_GROUP, TERMINATE};
 use crate::refusal::{self, Checked};
-use crate::settings::{Flow, Outcome, Settings, State};
+use crate::settings::{Flow, Outcome, Settings, State, BY_NONE, BY_RESERVED_GROUP};
 
 /// What a reading answers.
 #[derive(Clone, Copy, Debug, PartialEq, Eq)]
@@ -28,6 +29,10 @@ pub enum Answer {
         /// How many octets of client data are handed out; 0 for outcomes 1
         /// to 10.
         len: usize,
+        /// Which address let it in: 1 own, 2 to 5 the first listed entry that
+        /// matches, 6 broadcast, 7 promiscuous only, 8 the reserved group of
+        /// a control frame; 0 for outcomes 1 to 7.
+        address: u8,
     },
 }
 
@@ -64,43 +69,53 @@ enum Use {
     HandOut { length: usize },
 }
 
-/// "Control frames": rules 7 to 11 for a frame whose first field is 0x8808.
+/// A frame that passed rules 1 to 7.
+struct Taken<'a> {
+    frame: Frame<'a>,
+    what: Use,
+    address: u8,
+}
+
+/// Which address lets a frame in: "Every control frame to the reserved group
+/// says 8, listed or not." Nothing refuses one to the own address, which is the
+/// first that the address rule tries.
+fn address(s: &Settings, frame: &Frame) -> u8 {
+    if frame.is_control() && frame.destination == RESERVED_GROUP {
+        BY_RESERVED_GROUP
+    } else {
+        s.let_in_by(&frame.destination)
+    }
+}
+
+/// "Control frames": rules 8 to 11 for a frame whose first field is 0x8808.
 /// It isn't undersized and has no tag, so its data is 46 octets or more, and
 /// all the octets named here are there.
-fn control_use(s: &Settings, frame: &Frame) -> Result<Use, Outcome> {
+fn control_use(s: &Settings, frame: &Frame) -> Use {
     let data = frame.data();
     let opcode = number_at(data, 0);
     let to_group = frame.destination == RESERVED_GROUP;
     let to_us = to_group || frame.destination == s.own;
 
     if to_us && opcode == PAUSE_OPCODE && s.flow == Flow::Pause {
-        return Ok(Use::Pause(number_at(data, 2)));
+        return Use::Pause(number_at(data, 2));
     }
     if to_group && opcode == PFC_OPCODE && s.flow == Flow::Pfc {
         // data[2] is the unused octet.
-        return Ok(Use::Pfc {
+        return Use::Pfc {
             named: data[3],
             quanta: std::array::from_fn(|class| number_at(data, 4 + 2 * class)),
-        });
+        };
     }
-    if !to_us && !s.accept(&frame.destination) {
-        return Err(Outcome::Filtered);
-    }
-    Ok(if s.pass_control {
+    if s.pass_control {
         Use::HandOut { length: data.len() }
     } else {
         Use::Drop
-    })
+    }
 }
 
 /// The rules in their order. `run` is the data after the Start, `ending` the
 /// control octet behind it. An error is an outcome from 1 to 7.
-fn judge<'a>(
-    kind: Check,
-    s: &Settings,
-    run: &'a [u8],
-    ending: u8,
-) -> Result<(Frame<'a>, Use), Outcome> {
+fn judge<'a>(kind: Check, s: &Settings, run: &'a [u8], ending: u8) -> Result<Taken<'a>, Outcome> {
     if ending != TERMINATE {
         return Err(Outcome::Cut);
     }
@@ -117,25 +132,33 @@ fn judge<'a>(
     } else {
         frame.data().len()
     };
-    let what = if frame.is_control() {
-        control_use(s, &frame)?
-    } else if s.accept(&frame.destination) {
-        Use::HandOut { length }
-    } else {
+    let address = address(s, &frame);
+    if address == BY_NONE {
         return Err(Outcome::Filtered);
+    }
+    let what = if frame.is_control() {
+        control_use(s, &frame)
+    } else {
+        Use::HandOut { length }
     };
-    Ok((frame, what))
+    Ok(Taken {
+        frame,
+        what,
+        address,
+    })
 }
 
 /// Counts the outcome, sets the timers and forms the answer. `frame_at` is
 /// the place of the destination's first octet.
-fn settle(state: &mut State, judged: Result<(Frame, Use), Outcome>, frame_at: usize) -> Answer {
-    let (mut at, mut len) = (0, 0);
+fn settle(state: &mut State, judged: Result<Taken, Outcome>, frame_at: usize) -> Answer {
+    let (mut at, mut len, mut address) = (0, 0, BY_NONE);
     let (outcome, status) = match judged {
         Err(outcome) => (outcome, 0),
-        Ok((frame, what)) => {
+        Ok(taken) => {
+            let frame = taken.frame;
             let all = frame.data().len();
-            match what {
+            address = taken.address;
+            match taken.what {
                 Use::Pause(quanta) => {
                     state.pause(quanta);
                     (Outcome::PauseTaken, frame.status(all) | 1 << 35)
@@ -158,6 +181,7 @@ fn settle(state: &mut State, judged: Result<(Frame, Use), Outcome>, frame_at: us
         status,
         at,
         len,
+        address,
     }
 }
 

@@ -58,18 +58,40 @@ impl Settings {
             && (1518..=9618).contains(&self.limit)
     }
 
-    /// "Address rule".
-    pub(crate) fn accept(&self, destination: &[u8; 6]) -> bool {
-        if self.promiscuous {
-            return true;
-        }
+    /// "Address rule", with "Which address let it in?", item 7 of document 02:
+    /// 0 if the rule refuses.
+    ///
+    /// Open point: an own address that is listed too says 1, since it is named
+    /// first, and of equal entries the first speaks.
+    pub(crate) fn let_in_by(&self, destination: &[u8; 6]) -> u8 {
+        let of_all = if self.promiscuous { BY_ALL } else { BY_NONE };
         if *destination == BROADCAST {
-            return self.broadcast;
+            // "listed or not"
+            return if self.broadcast { BY_BROADCAST } else { of_all };
+        }
+        if *destination == self.own {
+            return BY_OWN;
         }
         let mut listed = self.listed.iter().take(usize::from(self.count));
-        *destination == self.own || listed.any(|address| address == destination)
+        match listed.position(|address| address == destination) {
+            Some(entry) => BY_FIRST_LISTED + entry as u8,
+            None => of_all,
+        }
     }
 }
+
+/// What let a frame in, by its number: nothing.
+pub(crate) const BY_NONE: u8 = 0;
+/// The own address.
+const BY_OWN: u8 = 1;
+/// The first listed address; the others follow up to 5.
+const BY_FIRST_LISTED: u8 = 2;
+/// Broadcast.
+const BY_BROADCAST: u8 = 6;
+/// "promiscuous only".
+const BY_ALL: u8 = 7;
+/// A control frame's destination, the reserved group.
+pub(crate) const BY_RESERVED_GROUP: u8 = 8;
 
 /// "Reading one Start": the outcomes by their numbers.
 #[derive(Clone, Copy, Debug, PartialEq, Eq)]

@@ -193,10 +193,13 @@ pub struct Seen {
     pub outcome: u8,
     pub status: u64,
     pub data: Vec<u8>,
+    /// Which address let it in.
+    pub address: u8,
 }
 
 /// Reads a single frame and checks everything that doesn't depend on it: the
-/// places, the one counter that rises, the empty parts of outcomes 1 to 10.
+/// places, the one counter that rises, the empty parts of outcomes 1 to 10, and
+/// that an address let in exactly those of outcomes 8 to 11.
 pub fn see_with(s: &Settings, state: &mut State, frame: &[u8]) -> Seen {
     let capture = Capture::new().frame(frame).control(IDLE);
     let mut expected = *state;
@@ -208,6 +211,7 @@ pub fn see_with(s: &Settings, state: &mut State, frame: &[u8]) -> Seen {
         status,
         at,
         len,
+        address,
     } = reading.answer
     else {
         panic!("{reading:?}");
@@ -222,12 +226,15 @@ pub fn see_with(s: &Settings, state: &mut State, frame: &[u8]) -> Seen {
         assert_eq!((at, len), (0, 0));
     }
     if outcome < 8 {
-        assert_eq!(status, 0);
+        assert_eq!((status, address), (0, 0));
+    } else {
+        assert!((1..=8).contains(&address));
     }
     Seen {
         outcome,
         status,
         data: capture.octets[at..at + len].to_vec(),
+        address,
     }
 }
 

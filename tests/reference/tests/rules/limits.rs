@@ -129,6 +129,7 @@ fn status_words() {
         outcome: 8,
         status: 0x2C_0040_002E,
         data: vec![],
+        address: 8,
     };
     assert_eq!(seen, expected);
 
@@ -139,6 +140,7 @@ fn status_words() {
         outcome: 9,
         status: 0xA4_0040_002E,
         data: vec![],
+        address: 8,
     };
     assert_eq!(seen, expected);
 
@@ -147,6 +149,7 @@ fn status_words() {
         outcome: 11,
         status: 0x40_0040_0000,
         data: vec![],
+        address: 1,
     };
     assert_eq!(seen, expected);
 }
@@ -168,6 +171,7 @@ fn length_0_has_its_real_place() {
             status: 0x40_0040_0000,
             at: 22,
             len: 0,
+            address: 1,
         };
         assert_eq!(reading.answer, expected);
     }

@@ -11,7 +11,7 @@ use crate::robust::Dice;
 const FIELDS: Record = Record {
     place: 0x1413_1211,
     outcome: 0x21,
-    zero: 0x31,
+    address: 0x31,
     handed: 0x4241,
     status: 0x5857_5655_5453_5251,
 };
@@ -23,7 +23,7 @@ const STANDING: [u8; 16] = [
 const GREATEST: Record = Record {
     place: u32::MAX,
     outcome: u8::MAX,
-    zero: u8::MAX,
+    address: u8::MAX,
     handed: u16::MAX,
     status: u64::MAX,
 };
@@ -102,7 +102,7 @@ fn widths_at_both_ends() {
             ..with_outcome(1)
         },
         Record {
-            zero: u8::MAX,
+            address: u8::MAX,
             ..with_outcome(1)
         },
         Record {
@@ -330,7 +330,7 @@ fn read_as_they_stand() {
             assert_eq!(fields.to_octets(), octets);
             assert_eq!(u64::from(fields.place), low_first(&octets[..4]));
             assert_eq!(fields.outcome, octets[4]);
-            assert_eq!(fields.zero, octets[5]);
+            assert_eq!(fields.address, octets[5]);
             assert_eq!(u64::from(fields.handed), low_first(&octets[6..8]));
             assert_eq!(fields.status, low_first(&octets[8..]));
             let expected = if octets[4] == 0 { Err(13) } else { Ok(fields) };
@@ -486,11 +486,17 @@ fn counted_readings_by_outcome() {
         let fields = Record {
             place: 2,
             outcome: expected,
-            zero: 0,
+            address: match expected {
+                3..=7 => 0,
+                8..=10 => 8,
+                _ => 1,
+            },
             handed: seen.data.len() as u16,
             status: seen.status,
         };
+        assert_eq!(seen.address, fields.address);
         assert_eq!(read_back(&log), [fields]);
+        assert_eq!(log[5], fields.address);
         assert_eq!(append_reading(&mut log, &reading), Err(12));
     }
     for (ending, outcome) in [(START, 1), (TERMINATE, 2)] {
@@ -524,7 +530,7 @@ fn the_longest_data_and_the_farthest_place() {
         [Record {
             place: ahead as u32,
             outcome: 11,
-            zero: 0,
+            address: 1,
             handed: 9600,
             status: 1 << 38 | 9618 << 16 | 9600,
         }]
@@ -546,17 +552,12 @@ fn a_reading_as_wide_as_its_record() {
             status: u64::MAX,
             at: 0,
             len: 65_535,
+            address: u8::MAX,
         },
         start: u32::MAX as usize,
         next: 0,
     };
-    assert_eq!(
-        Record::of(&reading),
-        Record {
-            zero: 0,
-            ..GREATEST
-        }
-    );
+    assert_eq!(Record::of(&reading), GREATEST);
 }
 
 /// A state in which every counter and every timer would show a change.
@@ -709,19 +710,19 @@ fn five_starts(last: u8) -> Capture {
         .control(last)
 }
 
-/// The records of its counted Starts: place, outcome, octets, status.
+/// The records of its counted Starts: place, outcome, address, octets, status.
 fn five_records() -> Vec<Record> {
     [
-        (1, 11, 45, 0x40_0040_002D),
-        (74, 11, 100, 0x10_0076_0064),
-        (201, 7, 0, 0),
-        (328, 10, 0, 0x44_0040_002E),
-        (401, 1, 0, 0),
+        (1, 11, 1, 45, 0x40_0040_002D),
+        (74, 11, 6, 100, 0x10_0076_0064),
+        (201, 7, 0, 0, 0),
+        (328, 10, 1, 0, 0x44_0040_002E),
+        (401, 1, 0, 0, 0),
     ]
-    .map(|(place, outcome, handed, status)| Record {
+    .map(|(place, outcome, address, handed, status)| Record {
         place,
         outcome,
-        zero: 0,
+        address,
         handed,
         status,
     })

@@ -1,6 +1,7 @@
-//! The rules of document 01 and of items 1 to 6 of document 02, one module for each
+//! The rules of document 01 and of items 1 to 7 of document 02, one module for each
 //! part.
 
+mod addresses;
 mod bench;
 mod counters;
 mod fcs;

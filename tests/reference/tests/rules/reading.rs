@@ -32,6 +32,7 @@ fn outcome_1_cut() {
             status: 0,
             at: 0,
             len: 0,
+            address: 0,
         };
         let next = capture.octets.len() - 1;
         assert_eq!(
