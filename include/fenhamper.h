@@ -171,6 +171,16 @@ typedef enum fenhamper_refusal {
 /* Whether a reading found a Start whose run ends inside the capture. */
 typedef enum fenhamper_kind { FENHAMPER_COUNTED = 0, FENHAMPER_NONE = 1, FENHAMPER_OPEN = 2 } fenhamper_kind;
 
+/* Which address let a frame in: the first that holds, of a control frame to the reserved group always RESERVED. */
+typedef enum fenhamper_way {
+  FENHAMPER_WAY_NONE = 0,        /* no frame was let in: outcomes 1 to 7, none, open and a refusal */
+  FENHAMPER_WAY_OWN = 1,         /* the own address, also where it is listed */
+  FENHAMPER_WAY_LISTED = 2,      /* 2 to 5: entry 0 to 3 of the listed ones, the first that matches */
+  FENHAMPER_WAY_BROADCAST = 6,   /* broadcast by its setting, also where it is listed */
+  FENHAMPER_WAY_PROMISCUOUS = 7, /* none of these, and every destination is accepted */
+  FENHAMPER_WAY_RESERVED = 8     /* a control frame to the reserved group, also where that is listed */
+} fenhamper_way;
+
 /* A reading's answer. */
 typedef struct fenhamper_reading {
   uint64_t refusal;     /* 0, or the refusal: then both places are the call's and the rest is 0 */
@@ -181,7 +191,8 @@ typedef struct fenhamper_reading {
   uint64_t status;      /* the status word; 0 unless counted */
   uint64_t data_place;  /* the client data: from this place in octets on, */
   uint64_t data_length; /* so many octets, 0 possible for outcome 11; else 0 and 0 */
-  uint64_t spare[4];    /* written as 0 */
+  uint64_t way;         /* FENHAMPER_WAY_..: which address let the frame in; 0 unless the outcome is 8 to 11 */
+  uint64_t spare[3];    /* written as 0 */
 } fenhamper_reading;
 FENHAMPER_HOLDS(sizeof(fenhamper_reading) == 96);
 FENHAMPER_HOLDS(offsetof(fenhamper_reading, refusal) == 0);
@@ -192,7 +203,8 @@ FENHAMPER_HOLDS(offsetof(fenhamper_reading, next) == 32);
 FENHAMPER_HOLDS(offsetof(fenhamper_reading, status) == 40);
 FENHAMPER_HOLDS(offsetof(fenhamper_reading, data_place) == 48);
 FENHAMPER_HOLDS(offsetof(fenhamper_reading, data_length) == 56);
-FENHAMPER_HOLDS(offsetof(fenhamper_reading, spare) == 64);
+FENHAMPER_HOLDS(offsetof(fenhamper_reading, way) == 64);
+FENHAMPER_HOLDS(offsetof(fenhamper_reading, spare) == 72);
 
 /*
  * The status word, by masks: fenhamper_status_has(status, FENHAMPER_STATUS_TAGGED). Bits 31 to 16 are the frame's octets
@@ -244,14 +256,14 @@ FENHAMPER_HOLDS(offsetof(fenhamper_kept, records) == 24);
 typedef struct fenhamper_record {
   uint32_t place;       /* of the Start */
   uint8_t outcome;      /* 1 to 11 */
-  uint8_t zero;         /* 0 */
+  uint8_t way;          /* FENHAMPER_WAY_..: which address let the frame in; 0 also in a log kept before it was told */
   uint16_t data_length; /* octets handed out */
   uint64_t status;      /* the status word */
 } fenhamper_record;
 FENHAMPER_HOLDS(sizeof(fenhamper_record) == FENHAMPER_RECORD_SIZE);
 FENHAMPER_HOLDS(offsetof(fenhamper_record, place) == 0);
 FENHAMPER_HOLDS(offsetof(fenhamper_record, outcome) == 4);
-FENHAMPER_HOLDS(offsetof(fenhamper_record, zero) == 5);
+FENHAMPER_HOLDS(offsetof(fenhamper_record, way) == 5);
 FENHAMPER_HOLDS(offsetof(fenhamper_record, data_length) == 6);
 FENHAMPER_HOLDS(offsetof(fenhamper_record, status) == 8);
 

@@ -159,8 +159,8 @@ def kept_walk(capture):
 
 def log_lines(walked):
     """A line on each record that was appended: its octets, and what they say; and a last line on the walk."""
-    lines = [f"{bytes(r.octets()).hex(' ').upper()}  at {r.place}: {r.outcome} {OUTCOMES[r.outcome - 1]}, {r.handed} octets, status {r.status:010X}"
-             for r in read_back(walked.log)]
+    lines = [f"{bytes(r.octets()).hex(' ').upper()}  at {r.place}: {r.outcome} {OUTCOMES[r.outcome - 1]}, way {r.address}, {r.handed} octets, "
+             f"status {r.status:010X}" for r in read_back(walked.log)]
     lines.append(f"{walked.appended} of {len(log_records(walked.log))} records used, end {walked.end} at {walked.next}")
     return ("\n".join(lines) + "\n").encode()
 

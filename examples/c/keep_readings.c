@@ -40,7 +40,8 @@ static void print_record(const fenhamper_record *r) {
   const uint8_t *octet = (const uint8_t *)r;
   size_t i;
   for (i = 0; i < sizeof *r; i++) printf("%02X ", octet[i]);
-  printf(" at %" PRIu32 ": %u %s, %u octets, status %010" PRIX64 "\n", r->place, r->outcome, fenhamper_outcome_name(r->outcome), r->data_length, r->status);
+  printf(" at %" PRIu32 ": %u %s, way %u, ", r->place, r->outcome, fenhamper_outcome_name(r->outcome), r->way);
+  printf("%u octets, status %010" PRIX64 "\n", r->data_length, r->status);
 }
 
 /* Reads a log back, record by record, up to the first unused one. */

@@ -136,7 +136,7 @@ static void a_reading_says_whose_frame_it_is(void) {
   CHECK(r.data_length == 4 && memcmp(capture.octets + r.data_place, "data", 4) == 0);
   CHECK(fenhamper_status_has(r.status, FENHAMPER_STATUS_UNICAST) == 1 && !fenhamper_status_has(r.status, FENHAMPER_STATUS_TAGGED));
   CHECK(fenhamper_frame_length(r.status) == 64 && fenhamper_data_length(r.status) == 4);
-  CHECK(r.spare[0] == 0 && r.spare[1] == 0 && r.spare[2] == 0 && r.spare[3] == 0);
+  CHECK(r.way == FENHAMPER_WAY_OWN && r.spare[0] == 0 && r.spare[1] == 0 && r.spare[2] == 0);
   /* not of a frame under 64 octets, nor beyond the capture, whatever the record says */
   r.outcome = FENHAMPER_UNDERSIZED;
   CHECK(!fenhamper_destination(capture, &r) && !fenhamper_source(capture, &r));
@@ -453,10 +453,10 @@ static fenhamper_capture traffic(void) {
 
 /* What is kept of that line. */
 static const fenhamper_record kept_of_traffic[4] = {
-    {3, FENHAMPER_HANDED_OUT, 0, 4, UINT64_C(0x4000400004)},
-    {87, FENHAMPER_WRONG_FCS, 0, 0, 0},
-    {200, FENHAMPER_CUT, 0, 0, 0},
-    {201, FENHAMPER_BAD_PREAMBLE, 0, 0, 0},
+    {3, FENHAMPER_HANDED_OUT, FENHAMPER_WAY_OWN, 4, UINT64_C(0x4000400004)},
+    {87, FENHAMPER_WRONG_FCS, FENHAMPER_WAY_NONE, 0, 0},
+    {200, FENHAMPER_CUT, FENHAMPER_WAY_NONE, 0, 0},
+    {201, FENHAMPER_BAD_PREAMBLE, FENHAMPER_WAY_NONE, 0, 0},
 };
 
 /* Each counted one; of none, open and a refused one nothing, and never 12. */
@@ -482,6 +482,118 @@ static void readings_are_appended(void) {
   r = fenhamper_capture_read(&s, &state, capture, 0);
   CHECK(r.outcome == FENHAMPER_HANDED_OUT && fenhamper_log_append_reading(log, 64, &r) == FENHAMPER_LOG_FULL);
   CHECK(same_but(4));
+}
+
+/* ---- which address let a frame in */
+
+static const fenhamper_address reserved = {{0x01, 0x80, 0xC2, 0x00, 0x00, 0x01}};
+static const fenhamper_address everyone = {{0xFF, 0xFF, 0xFF, 0xFF, 0xFF, 0xFF}};
+
+/* Group n of those that are listed. */
+static fenhamper_address group(unsigned n) {
+  fenhamper_address a = {{0x01, 0x00, 0x5E, 0x00, 0x00, 0x00}};
+  a.octets[5] = (uint8_t)n;
+  return a;
+}
+
+/* A frame of 64 octets to this address, of this type and with this opcode. */
+static fenhamper_capture frame_to(fenhamper_address to, unsigned type, unsigned opcode) {
+  static const uint8_t front[] = {0xFB, 0x55, 0x55, 0x55, 0x55, 0x55, 0x55, 0xD5};
+  fenhamper_line line = fresh_line();
+  uint32_t check;
+  size_t i;
+  memcpy(octets, front, sizeof front);
+  memcpy(octets + 8, to.octets, 6);
+  memcpy(octets + 14, other.octets, 6);
+  octets[20] = (uint8_t)(type >> 8);
+  octets[21] = (uint8_t)(type & 0xFF);
+  octets[22] = (uint8_t)(opcode >> 8);
+  octets[23] = (uint8_t)(opcode & 0xFF);
+  check = fenhamper_fcs(octets + 8, 60);
+  for (i = 0; i < 4; i++) octets[68 + i] = (uint8_t)(check >> 8 * i & 0xFF);
+  octets[72] = 0xFD;
+  marks[0] = marks[72] = 1;
+  return fenhamper_captured(line, 73);
+}
+
+/* Whether that frame gets this outcome and came in this way: so say the reading, its record, and the record that a walk keeps. */
+static int comes_by(const fenhamper_settings *s, fenhamper_address to, unsigned type, unsigned opcode, fenhamper_outcome outcome, unsigned way) {
+  fenhamper_capture capture = frame_to(to, type, opcode);
+  fenhamper_state walked = state;
+  fenhamper_record record = numbered;
+  fenhamper_reading r = fenhamper_capture_read(s, &state, capture, 0);
+  uint8_t *log = zero_log();
+  int holds = r.outcome == (uint64_t)outcome && r.way == way && r.spare[0] == 0 && r.spare[1] == 0 && r.spare[2] == 0;
+  holds = holds && fenhamper_log_append_reading(log, 16, &r) == 0 && fenhamper_log_record(log, 16, 0, &record) == 0;
+  holds = holds && record.outcome == outcome && record.way == way && log[5] == way;
+  holds = holds && fenhamper_capture_keep(s, &walked, capture, 0, logged + 1, 1).records == 1 && same(&logged[1], &record);
+  return holds && memcmp(&state, &walked, sizeof state) == 0;
+}
+
+/* As a client frame. */
+static int client_by(const fenhamper_settings *s, fenhamper_address to, unsigned way) {
+  return comes_by(s, to, 0x0800, 0, way == FENHAMPER_WAY_NONE ? FENHAMPER_FILTERED : FENHAMPER_HANDED_OUT, way);
+}
+
+/* Own address and list before promiscuous, the first of equal entries; those beyond the count are not looked at. */
+static void a_frame_says_by_which_address_it_came(void) {
+  fenhamper_settings s = fenhamper_settings_for(own);
+  unsigned promiscuous, n;
+  for (promiscuous = 0; promiscuous < 2; promiscuous++) {
+    unsigned not_named = promiscuous ? FENHAMPER_WAY_PROMISCUOUS : FENHAMPER_WAY_NONE;
+    s.promiscuous = (uint8_t)promiscuous;
+    s.broadcast = 1;
+    for (n = 0; n < FENHAMPER_MOST_LISTED; n++) s.listed[n] = group(n);
+    for (n = 0; n < FENHAMPER_MOST_LISTED; n++) {
+      s.listed_count = (uint8_t)n;
+      CHECK(client_by(&s, group(n), not_named));
+      s.listed_count = (uint8_t)(n + 1);
+      CHECK(client_by(&s, group(n), FENHAMPER_WAY_LISTED + n));
+    }
+    s.listed[3] = s.listed[2] = group(1);
+    CHECK(client_by(&s, group(1), FENHAMPER_WAY_LISTED + 1));
+    CHECK(client_by(&s, group(3), not_named) && client_by(&s, other, not_named));
+    s.listed[0] = own;
+    CHECK(client_by(&s, own, FENHAMPER_WAY_OWN));
+    /* broadcast by its setting, listed or not */
+    for (n = 0; n < 2; n++) {
+      s.broadcast = 1;
+      CHECK(client_by(&s, everyone, FENHAMPER_WAY_BROADCAST));
+      s.broadcast = 0;
+      CHECK(client_by(&s, everyone, not_named));
+      s.listed[0] = everyone;
+    }
+  }
+}
+
+/* A control frame to the reserved group says so, listed or not, whatever becomes of it; any other frame goes by its address. */
+static void control_frames_say_it_too(void) {
+  fenhamper_settings s = fenhamper_settings_for(own);
+  unsigned n;
+  for (n = 0; n < 8; n++) {
+    s.listed_count = (uint8_t)(n & 1);
+    s.listed[0] = reserved;
+    s.promiscuous = (uint8_t)(n >> 1 & 1);
+    s.pass_control = (uint8_t)(n >> 2 & 1);
+    s.flow = FENHAMPER_FLOW_PAUSE;
+    CHECK(comes_by(&s, reserved, 0x8808, 0x0001, FENHAMPER_PAUSE_TAKEN, FENHAMPER_WAY_RESERVED));
+    CHECK(comes_by(&s, own, 0x8808, 0x0001, FENHAMPER_PAUSE_TAKEN, FENHAMPER_WAY_OWN));
+    s.flow = FENHAMPER_FLOW_PFC;
+    CHECK(comes_by(&s, reserved, 0x8808, 0x0101, FENHAMPER_PFC_TAKEN, FENHAMPER_WAY_RESERVED));
+    s.flow = FENHAMPER_FLOW_NONE;
+    CHECK(comes_by(&s, reserved, 0x8808, 0x0001, s.pass_control ? FENHAMPER_HANDED_OUT : FENHAMPER_CONTROL_DROPPED, FENHAMPER_WAY_RESERVED));
+    CHECK(client_by(&s, reserved, s.listed_count ? FENHAMPER_WAY_LISTED : s.promiscuous ? FENHAMPER_WAY_PROMISCUOUS : FENHAMPER_WAY_NONE));
+  }
+}
+
+/* Of a reading's number a record keeps the low octet. */
+static void a_record_keeps_an_octet_of_it(void) {
+  fenhamper_reading r;
+  uint8_t *log = zero_log();
+  memset(&r, 0, sizeof r);
+  r.outcome = FENHAMPER_HANDED_OUT;
+  r.way = UINT64_C(0xA5A5A5A5A5A5A507);
+  CHECK(fenhamper_log_append_reading(log, 64, &r) == 0 && logged[0].way == 7 && logged[0].data_length == 0);
 }
 
 /* How a walk that keeps its readings must have ended. */
@@ -585,6 +697,9 @@ int main(void) {
   a_log_is_read_back();
   a_bad_log_is_refused();
   readings_are_appended();
+  a_frame_says_by_which_address_it_came();
+  control_frames_say_it_too();
+  a_record_keeps_an_octet_of_it();
   a_walk_keeps_its_readings();
   a_full_log_goes_on_with_another();
   a_walk_with_a_log_is_refused_in_order();

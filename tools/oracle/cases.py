@@ -54,14 +54,14 @@ class Case:
 
 
 def state_numbers(state):
-    return state.counters + state.timers
+    return state.counters + state.timers + [state.deficit]
 
 
 def reading_numbers(r):
     number = r.refusal or r.outcome
     # document 01 gives no place to an empty part: 0 here, and in header.txt
     at, length = r.part if r.part[1] else (0, 0)
-    return [KINDS[r.kind], number, r.status, at, length, r.start, r.next] + state_numbers(r.state) + r.data
+    return [KINDS[r.kind], number, r.status, at, length, r.address, r.start, r.next] + state_numbers(r.state) + r.data
 
 
 def answer_reading(c):
@@ -227,7 +227,8 @@ def answer_keep(c):
     if not w.refusal:
         hits.add(f"keep: {min(w.appended, 2)}{'+' if w.appended > 1 else ''} kept, ends {w.end}")
         hits.add(f"keep: ends {w.end}, {'a record' if model.unused_numbers(w.log) else 'no record'} left")
-        hits |= {f"keep: outcome {r.outcome} kept" for r in model.log_records(w.log) if r not in model.log_records(c.log)}
+        fresh = [r for r in model.log_records(w.log) if r not in model.log_records(c.log)]
+        hits |= {f"keep: outcome {r.outcome} kept" for r in fresh} | {f"keep: way {r.address} kept" for r in fresh}
         if w.appended and model.unused_numbers(c.log) != list(range(len(model.log_records(c.log)))):
             hits.add("keep: used records stay")
     return [{"refused": 0, "none": 1, "open": 2, "full": 3}[w.end], w.refusal, w.next, w.appended] + state_numbers(w.state) + w.log, hits
@@ -290,6 +291,7 @@ def reading_hits(c, r):
         if kind == "broadcast" and BROADCAST in s.listed[:s.count]:
             hits.add(f"reading: listed broadcast, setting {'on' if s.broadcast else 'off'}{', promiscuous' if s.promiscuous else ''}: {n}")
         hits.add(f"reading: {'control' if f.control else 'client'} frame to {kind}{', promiscuous' if s.promiscuous else ''}: {n}")
+        hits |= way_hits(f, s, r.address)
         if f.tags and f.field == CONTROL:
             hits.add(f"reading: 0x8808 behind {tagged}, an ordinary type")
         if n == 11:
@@ -306,6 +308,16 @@ def reading_hits(c, r):
             hits.add("reading: a counter rolls over")
         if c.state.counters[n - 1] == 2**32 - 1:
             hits.add("reading: a counter passes 2^32")
+    return hits
+
+
+def way_hits(f, s, way):
+    """What a frame that came to the address rule hits by item 7."""
+    at = [i for i, a in enumerate(s.listed[:s.count]) if a == f.destination]
+    sort = "control frame" if f.control else "client frame"
+    hits = {f"reading: {sort}, way {way}", f"reading: {'promiscuous' if s.promiscuous else 'not promiscuous'}, way {way}"}
+    if at:
+        hits.add(f"reading: {sort}, {'equal entries' if len(at) > 1 else 'an entry'} from {at[0]} on, way {way}")
     return hits
 
 
@@ -373,10 +385,12 @@ def some_state(r, free=None):
     timers = [r.choice([0, 1, 83, 84, 85, 64, 4194240, r.randrange(5000)]) for _ in range(8)]
     if free is not None and free < 8:
         timers[free] = 0
-    return State(counters, timers)
+    return State(counters, timers, r.choice([0, 1, 3, 4, 255]))
 
 
 def address_of(r, s, to):
+    if isinstance(to, list):
+        return to
     past = next((a for a in s.listed[s.count:] if a != BROADCAST), s.listed[3])
     return {"own": s.own, "reserved": RESERVED_GROUP, "broadcast": BROADCAST, "listed": s.listed[r.randrange(max(1, s.count)) % 4], "past": past,
             "near": s.own[:5] + [s.own[5] ^ 1], "group": some_address(r, True), "other": some_address(r)}[to]
@@ -558,7 +572,7 @@ def make_idle(r, given):
 
 def some_record(r, outcome):
     """Of these fields the lowest and highest values are likely."""
-    return Record(r.choice([0, 65534, 2**32 - 1, r.randrange(2**32)]), outcome, r.choice([0, 0, 255]), r.choice([0, 46, 2**16 - 1, r.randrange(2**16)]),
+    return Record(r.choice([0, 65534, 2**32 - 1, r.randrange(2**32)]), outcome, r.choice([0, 1, 8, 255]), r.choice([0, 46, 2**16 - 1, r.randrange(2**16)]),
                   r.choice([0, 2**64 - 1, r.randrange(2**64)]))
 
 
@@ -654,6 +668,24 @@ READINGS = (
     + [{"to": "group", "control": 0x0101, "tags": 0, "settings": to_own(flow="PFC", pass_control=True)}]
     + [{}] * 12
 )
+# which address let it in (item 7): each entry, equal ones, the own address, broadcast and the reserved group among them
+GROUPS = [[1, 0, 0x5E, 0, 0, n] for n in range(4)]
+STATION = [2, 0, 0, 0, 0, 1]
+
+
+def to_list(to, listed, control=None, **settings):
+    given = {"own": STATION, "listed": listed, "count": 4, "checking": True, **settings}
+    return {"to": to, "control": control, "field": 0x0800, "tags": 0, "settings": given}
+
+
+EQUAL = [[GROUPS[1]] * 4, [GROUPS[0]] + [GROUPS[1]] * 3, GROUPS[:2] + [GROUPS[2]] * 2, GROUPS[:2] * 2]
+WAYS = [to_list(to, GROUPS, promiscuous=p) for to in GROUPS for p in (False, True)]
+WAYS += [to_list(to, listed, promiscuous=p) for listed in EQUAL for to in (GROUPS[1], listed[3]) for p in (False, True)]
+WAYS += [to_list(STATION, [GROUPS[0], STATION, STATION, GROUPS[1]], c, promiscuous=p, flow="pause") for c in (None, 1) for p in (False, True)]
+WAYS += [to_list(BROADCAST, GROUPS[:3] + [BROADCAST], c, broadcast=b, promiscuous=p) for c in (None, 2) for b in (False, True) for p in (False, True)]
+WAYS += [to_list(RESERVED_GROUP, GROUPS[:2] + [RESERVED_GROUP] * 2, c, promiscuous=p, flow=m, pass_control=k) for c in (None, 1, 0x0101) for p in (False, True)
+         for m, k in (("none", True), ("pause", False), ("PFC", False))]
+READINGS += WAYS
 # few of these: a thousand octets and more, whose check antt computes in seconds
 LARGE_READINGS = [
     {"to": "own", "tags": 0, "field": 0x0800, "size": 1518, "settings": to_own(limit=1518)},
@@ -779,6 +811,13 @@ MUST = (
        "1501 broken", "1535 broken")] + ["reading: field 1500 kept, untagged", "reading: field 1500 broken, untagged", "reading: field 1536, a type"]
     + ["reading: length field, checking off", "reading: data 0xFB in the run", "reading: a counter rolls over", "reading: a counter passes 2^32"]
     + ["reading: PFC class named", "reading: PFC class not named"] + [f"reading: pause of {n} quanta" for n in (0, 1, 65535)]
+    + [f"reading: client frame, way {n}" for n in range(8)] + [f"reading: control frame, way {n}" for n in (0, 1, 6, 7, 8)]
+    + [f"reading: {p}, way {n}" for p in ("promiscuous", "not promiscuous") for n in (1, 2, 3, 4, 5, 6, 8)]
+    + [f"reading: client frame, an entry from {i} on, way {2 + i}" for i in range(4)]
+    + [f"reading: client frame, equal entries from {i} on, way {2 + i}" for i in range(3)]
+    + ["reading: client frame, equal entries from 1 on, way 1", "reading: control frame, equal entries from 1 on, way 1"]
+    + [f"reading: client frame, an entry from 3 on, way {n}" for n in (0, 6, 7)]
+    + ["reading: control frame, equal entries from 2 on, way 8"] + [f"keep: way {n} kept" for n in (0, 1, 8)]
     + [f"reading: ended by {x}" for x in ("Idle", "Start", "Error", "Sequence", "another control octet")]
     + [f"reading: outcome {a} before {b}" for a, b in [(1, 2), (2, 3), (3, 5), (4, 5), (5, 6), (6, 7), (7, 10), (8, 10), (9, 10)]]
     + ["reading: listed broadcast, setting on: 11", "reading: listed broadcast, setting off: 7", "reading: client frame to listed: 11",

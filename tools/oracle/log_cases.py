@@ -1,6 +1,6 @@
 """The calls on a log on the tape of crates/cases (tape.py): each refusal, each pair of them in its order, and both sides of each limit; walks that keep their
 readings with logs too short for them, just long enough and longer, and gone on with. What must come of each is the model's answer."""
-from model import (ERROR, IDLE, RESERVED_GROUP, START, TERMINATE, LogReader, Reading, Record, appending, handing_out, logged_walk, pause_symbols,
+from model import (BROADCAST, ERROR, IDLE, RESERVED_GROUP, START, TERMINATE, LogReader, Reading, Record, appending, handing_out, logged_walk, pause_symbols,
                    reading, reading_appending, record_at, used_in_front, walks_on)
 from read_cases import FRESH, USED as WORN, frame, line, settings
 from tape import APPEND, APPEND_READING, KEEP, LOOK, ONES, TAPE, checksum
@@ -42,8 +42,9 @@ def append(name, before, r):
 def append_reading(name, before, r, above=0):
     """`above` stands above the bits that a record has of each number of the reading, and in numbers that it has not: the C face does not look at them."""
     kind = {"counted": 0, "none": 1, "open": 2, "refused": 0}[r.kind]
-    numbers = [r.refusal, kind, r.outcome + above * 2**8, r.start + above * 2**32, r.next, r.status, r.part[0], r.part[1] + above * 2**16]
-    TAPE.log_call(APPEND_READING, name, before, reading=numbers + [above] * 16)
+    numbers = [r.refusal, kind, r.outcome + above * 2**8, r.start + above * 2**32, r.next, r.status, r.part[0], r.part[1] + above * 2**16,
+               r.address + above * 2**8]
+    TAPE.log_call(APPEND_READING, name, before, reading=numbers + [above] * 15)
     answer = reading_appending(before, r)
     tell(name, told(answer.refusal), answer.log)
 
@@ -105,8 +106,17 @@ def reading_cases():
         append_reading(f"reading, {name}, bits above", log(1, 0), r, above=3)
         append_reading(f"reading, {name}, log used", log(1, 1), r)
         append_reading(f"reading, {name}, length 31", log(1, 1)[:31], r)
-    most = Reading("counted", 2**32 - 1, 0, FRESH, outcome=255, status=2**64 - 1, part=(9, 65535), data=[0] * 65535)
+    most = Reading("counted", 2**32 - 1, 0, FRESH, outcome=255, status=2**64 - 1, part=(9, 65535), data=[0] * 65535, address=255)
     append_reading("reading, most of each", [0] * 16, most)
+    # item 7: the octet behind the outcome, of each way into a station that lists three groups and the own address, and accepts every destination
+    s = settings(listed=[[1, 0, 0x5E, 0, 0, n] for n in range(3)] + [[2, 0, 0, 0, 0, 1]], count=4, promiscuous=True)
+    ways = [frame(), *(frame(to=to) for to in s.listed[:3]), frame(to=BROADCAST), frame(to=[2, 0, 0, 0, 0, 2]), frame(RESERVED_GROUP, 0x8808, 44, [0, 2])]
+    for n, f in zip((1, 2, 3, 4, 6, 7, 8), ways):
+        octets, marks = map(list, zip(*line(f)))
+        r = reading(s, FRESH, octets, marks, 0)
+        assert r.address == n
+        append_reading(f"reading, way {n}", log(1, 0), r)
+        append_reading(f"reading, way {n}, bits above", log(1, 0), r, above=3)
 
 
 def look_cases():
@@ -155,6 +165,10 @@ def frame_cases():
              + line(frame(field=10)) + line(frame(RESERVED_GROUP, 0x8808, 44, [0, 2])))
     for size in (12, 13, 11):
         keep(f"each outcome, {size} records", every, 0, [0] * (16 * size), s=pausing)
+    # item 7: each way in a walk's record
+    groups = [[1, 0, 0x5E, 0, 0, n] for n in range(4)]
+    by_each = [frame(), *(frame(to=to) for to in groups), frame(to=BROADCAST), frame(to=[2, 0, 0, 0, 0, 2]), pause]
+    keep("each way", [symbol for f in by_each for symbol in line(f)], 0, [0] * 128, s=settings(listed=groups, count=4, promiscuous=True))
     pfc = frame(RESERVED_GROUP, 0x8808, 26, [1, 1, 0, 0x81] + [0, 9] * 8)
     keep("PFC taken, control dropped", line(pfc) + line(pause), 0, [0] * 32, s=settings(flow="PFC"))
     keep("9,600 octets handed out", line(frame(n=9600)), 0, [0] * 16, s=settings(limit=9618))

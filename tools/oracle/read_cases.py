@@ -1,7 +1,7 @@
 """The readings on the tape of crates/cases (tape.py): captures of each outcome and of both sides of each limit, built by this file's own code."""
 from dataclasses import replace
 
-from model import START, TERMINATE, IDLE, PREAMBLE, RESERVED_GROUP, BROADCAST, Settings, State, fcs, high_first, reading, screen, walk
+from model import START, TERMINATE, IDLE, ERROR, PREAMBLE, RESERVED_GROUP, BROADCAST, Settings, State, fcs, high_first, reading, screen, walk
 from tape import MOST_READINGS, READINGS, TAPE, changed, checksum
 
 FRESH = State()
@@ -42,7 +42,8 @@ def frame(to=OWN, field=0x0800, n=46, body=(), tagged=False, tags=(), bad=0):
 
 def reading_line(name, before, r, worn=False):
     answer = {"refused": f"refused {r.refusal}", "none": "none", "open": "open",
-              "counted": f"outcome {r.outcome} status {r.status:010x} part {r.part[0]} of {r.part[1]} data {len(r.data)} sum {checksum(r.data)}"}[r.kind]
+              "counted": f"outcome {r.outcome} status {r.status:010x} part {r.part[0]} of {r.part[1]} way {r.address} data {len(r.data)} "
+                         f"sum {checksum(r.data)}"}[r.kind]
     TAPE.tell(name, f"{answer} start {r.start} next {r.next}", r.refusal, before, r.state, worn)
 
 
@@ -193,6 +194,38 @@ def address_cases():
     case("group not listed", groups, frame(to=multicast(6)))
 
 
+def way_cases():
+    """Which address let a frame in (item 7): each number, equal entries, and what is tried before what."""
+    entries = [station(0x11 + i) for i in range(4)]
+    four, everything = settings(count=4), settings(count=4, promiscuous=True)
+    for i, to in enumerate(entries):
+        case(f"entry {i} of 4", four, frame(to=to))
+        case(f"entry {i} of 4, promiscuous", everything, frame(to=to))
+        # equal entries from this one on, and those before it others
+        equal = entries[:i] + [multicast(7)] * (4 - i)
+        case(f"equal entries from {i} on", replace(four, listed=equal), frame(to=multicast(7)))
+        case(f"own address at entry {i}", replace(four, listed=entries[:i] + [OWN] + entries[i + 1:]), frame())
+        case(f"broadcast at entry {i}", replace(four, listed=entries[:i] + [BROADCAST] + entries[i + 1:]), frame(to=BROADCAST))
+    case("own address, promiscuous", everything, frame())
+    case("equal entries beyond the count", settings(listed=[station(0x11)] + [multicast(7)] * 3, count=1), frame(to=multicast(7)))
+    case("entries 1 and 3 equal", replace(four, listed=[station(0x11), multicast(7)] * 2), frame(to=multicast(7)))
+    listed = replace(four, listed=entries[:2] + [BROADCAST, RESERVED_GROUP])
+    for name, s in [("", listed), (", promiscuous", replace(listed, promiscuous=True))]:
+        case("listed broadcast, setting on" + name, s, frame(to=BROADCAST))
+        case("listed broadcast, setting off" + name, replace(s, broadcast=False), frame(to=BROADCAST))
+        case("listed reserved group, no control" + name, s, frame(to=RESERVED_GROUP))
+        case("listed reserved group, behind a tag" + name, s, frame(RESERVED_GROUP, 0x8808, 42, [0, 1, 0, 1], tagged=True))
+        for flow in ("none", "pause", "PFC"):
+            pause(f"listed reserved group, pause in {flow}" + name, replace(s, flow=flow), RESERVED_GROUP)
+            pfc(f"listed reserved group, PFC in {flow}" + name, replace(s, flow=flow, pass_control=True), RESERVED_GROUP, 1)
+    case("promiscuous, reserved group, no control", settings(promiscuous=True), frame(to=RESERVED_GROUP))
+    pause("promiscuous, pause to the group", settings(promiscuous=True), RESERVED_GROUP)
+    pause("pause to entry 1", four, station(0x12))
+    pause("pause to the own address at entry 0", replace(four, listed=[OWN] * 4), OWN)
+    case("entry 3, wrong FCS", four, frame(to=station(0x14), bad=1))
+    case("entry 3, cut", four, frame(to=station(0x14)), by=ERROR)
+
+
 def pause(name, s, to, quanta=1, state=FRESH):
     case(name, s, frame(to=to, field=0x8808, n=42, body=[0, 1] + high_first(quanta)), state)
 
@@ -259,3 +292,4 @@ def cases():
     tag_cases()
     address_cases()
     control_cases()
+    way_cases()

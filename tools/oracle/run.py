@@ -136,7 +136,7 @@ def settings(s):
 
 
 def state(st):
-    return f"(stateOf {numbers(st.counters)} {numbers(st.timers)})"
+    return f"(stateOf {numbers(st.counters)} {numbers(st.timers)} {st.deficit})"
 
 
 def tags(asked):
@@ -174,8 +174,9 @@ def call(c):
 
 
 # the fields of an answer, in the order of cases.py: names and how many numbers each has (none: the rest)
-STATE = [("counters", 11), ("timers", 8)]
-READING = [("kind", 1), ("outcome or refusal", 1), ("status word", 1), ("part", 2), ("start", 1), ("next", 1)] + STATE + [("octets of the part", None)]
+STATE = [("counters", 11), ("timers", 8), ("deficit count", 1)]
+READING = [("kind", 1), ("outcome or refusal", 1), ("status word", 1), ("part", 2), ("which address", 1), ("start", 1), ("next", 1)] + STATE
+READING += [("octets of the part", None)]
 WALK = [("kind", 1), ("refusal", 1), ("Starts counted", 1), ("open", 1)] + STATE + [("octets handed out", None)]
 LOOK = [("record's refusal", 1), ("record", 5), ("reader's place", 1), ("its refusal", 1), ("its record", 5), ("used records", 2), ("first unused", None)]
 KEEP = [("end", 1), ("refusal", 1), ("next", 1), ("kept", 1)] + STATE + [("log", None)]

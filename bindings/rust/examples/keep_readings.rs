@@ -61,7 +61,7 @@ pub fn print(records: &[u8], capacity: usize, out: &mut impl Write) -> Result<()
     Ok(())
 }
 
-// Place, outcome, octets handed out and status of each record.
+// Place, outcome, which address let the frame in, octets handed out and status of each record.
 fn print_log(log: LogView, out: &mut impl Write) -> io::Result<()> {
     for record in log {
         write!(out, "{:6} ", record.place)?;
@@ -69,6 +69,9 @@ fn print_log(log: LogView, out: &mut impl Write) -> io::Result<()> {
             Some(outcome) => write!(out, "{outcome}")?,
             // no reading gives such a record
             None => write!(out, "outcome {}", record.outcome_number)?,
+        }
+        if let Some(way) = record.way() {
+            write!(out, " ({way})")?;
         }
         if record.status != Status::default() {
             write!(out, ": {} octets; {}", record.data_length, record.status)?;

@@ -1,4 +1,4 @@
-//! What a call answers: outcome, refusal, status word.
+//! What a call answers: outcome, refusal, status word, and which address let a frame in.
 use crate::sys;
 use core::error::Error;
 use core::fmt;
@@ -278,6 +278,112 @@ impl fmt::Display for Refusal {
 }
 
 impl Error for Refusal {}
+
+/// Which address let a frame in, by the first rule of document 02's item 7 that holds; but of every
+/// control frame to the reserved group it is [`Reserved`](Way::Reserved).
+///
+/// ```
+/// use fenhamper::{Address, Frame, Sender, Settings, Station, Way};
+///
+/// let groups = [1, 2].map(|n| Address([0x01, 0, 0x5E, 0, 0, n]));
+/// let mut station = Station::new(Settings::default().listed(&groups));
+/// let (mut octets, mut marks) = ([0; 84], [0; 84]);
+/// let mut sender = Sender::new(&mut octets, &mut marks);
+/// station.send_client(&mut sender, &Frame::to(groups[1]), b"to the second group")?;
+/// for counted in station.readings(sender.written()) {
+///     assert_eq!(counted?.way, Some(Way::Listed(1)));
+/// }
+/// # Ok::<(), fenhamper::Refusal>(())
+/// ```
+#[derive(Clone, Copy, Debug, PartialEq, Eq, PartialOrd, Ord, Hash)]
+#[non_exhaustive]
+pub enum Way {
+    /// 1: the own address, also where it is listed.
+    Own,
+    /// 2 to 5: a listed address, by its entry from 0 to 3. Of equal ones it is the first.
+    Listed(u8),
+    /// 6: broadcast by its setting, also where it is listed.
+    Broadcast,
+    /// 7: none of these, and every destination is accepted.
+    Promiscuous,
+    /// 8: a control frame to the reserved group, also where that is listed.
+    Reserved,
+}
+
+impl Way {
+    /// Document 02's number, 1 to 8; 0 for an entry above 3, which settings do not have.
+    ///
+    /// ```
+    /// use fenhamper::Way;
+    ///
+    /// assert_eq!([Way::Own, Way::Listed(0), Way::Listed(3)].map(Way::number), [1, 2, 5]);
+    /// assert_eq!(Way::Listed(4).number(), 0);
+    /// ```
+    #[must_use]
+    pub const fn number(self) -> u8 {
+        match self {
+            Way::Own => sys::WAY_OWN,
+            Way::Listed(entry) if (entry as usize) < sys::MOST_LISTED => sys::WAY_LISTED + entry,
+            Way::Listed(_) => sys::WAY_NONE,
+            Way::Broadcast => sys::WAY_BROADCAST,
+            Way::Promiscuous => sys::WAY_PROMISCUOUS,
+            Way::Reserved => sys::WAY_RESERVED,
+        }
+    }
+
+    /// The way of a number, if there is one; none for 0, which stands for a frame not let in.
+    ///
+    /// ```
+    /// use fenhamper::Way;
+    ///
+    /// assert_eq!(Way::from_number(5), Some(Way::Listed(3)));
+    /// assert_eq!(Way::from_number(6), Some(Way::Broadcast));
+    /// assert_eq!([0, 9].map(Way::from_number), [None, None]);
+    /// ```
+    #[must_use]
+    pub const fn from_number(number: u8) -> Option<Way> {
+        Some(match number {
+            sys::WAY_OWN => Way::Own,
+            sys::WAY_LISTED..sys::WAY_BROADCAST => Way::Listed(number - sys::WAY_LISTED),
+            sys::WAY_BROADCAST => Way::Broadcast,
+            sys::WAY_PROMISCUOUS => Way::Promiscuous,
+            sys::WAY_RESERVED => Way::Reserved,
+            _ => return None,
+        })
+    }
+
+    // Of an answer's number: 0 is none, and any other must have a meaning here.
+    pub(crate) fn check(number: u64) -> Result<Option<Way>, Refusal> {
+        match u8::try_from(number) {
+            Ok(sys::WAY_NONE) => Ok(None),
+            Ok(number) => Way::from_number(number)
+                .map(Some)
+                .ok_or(Refusal::Unknown(0)),
+            Err(_) => Err(Refusal::Unknown(0)),
+        }
+    }
+}
+
+/// In words.
+///
+/// ```
+/// use fenhamper::Way;
+///
+/// assert_eq!(Way::Own.to_string(), "own address");
+/// assert_eq!(Way::Listed(2).to_string(), "listed entry 2");
+/// assert_eq!(Way::Reserved.to_string(), "reserved group");
+/// ```
+impl fmt::Display for Way {
+    fn fmt(&self, f: &mut fmt::Formatter<'_>) -> fmt::Result {
+        f.pad(match self {
+            Way::Own => "own address",
+            Way::Listed(entry) => return write!(f, "listed entry {entry}"),
+            Way::Broadcast => "broadcast",
+            Way::Promiscuous => "promiscuous",
+            Way::Reserved => "reserved group",
+        })
+    }
+}
 
 /// The status word of a counted Start; 0 for outcomes 1 to 7.
 ///

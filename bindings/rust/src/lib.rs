@@ -30,7 +30,7 @@ mod view;
 mod header;
 
 pub use address::{Address, ParseAddressError};
-pub use answers::{Outcome, Refusal, Status};
+pub use answers::{Outcome, Refusal, Status, Way};
 pub use fcs::{fcs, Fcs};
 pub use log::{End, Kept, Log, LogRecords, LogView, Record};
 pub use port::Port;

@@ -1,5 +1,5 @@
 //! Keeping the readings of a run in a log.
-use crate::answers::{Outcome, Refusal, Status};
+use crate::answers::{Outcome, Refusal, Status, Way};
 use crate::receive::{Capture, Counted, Reading};
 use crate::settings::Settings;
 use crate::state::State;
@@ -9,24 +9,25 @@ use core::iter::FusedIterator;
 /// A record of a log: what is kept of a counted Start.
 ///
 /// Any values make a record, and records are read as they stand. Those of readings have an outcome
-/// of 1 to 11 and a zero octet of 0.
+/// of 1 to 11 and say which address let the frame in.
 ///
 /// ```
-/// use fenhamper::{Log, Outcome, Record, Status};
+/// use fenhamper::{Log, Outcome, Record, Status, Way};
 ///
 /// let record = Record {
 ///     place: 12,
 ///     outcome_number: 11,
-///     zero: 0,
+///     way_number: 1,
 ///     data_length: 16,
 ///     status: Status::new(0x4000400010),
 /// };
 /// assert_eq!(record.outcome(), Some(Outcome::HandedOut));
+/// assert_eq!(record.way(), Some(Way::Own));
 /// assert!(record.status.unicast());
 ///
 /// let mut octets = [0; 16];
 /// Log::new(&mut octets)?.append(record)?;
-/// assert_eq!(octets, [12, 0, 0, 0, 11, 0, 16, 0, 0x10, 0, 0x40, 0, 0x40, 0, 0, 0]);
+/// assert_eq!(octets, [12, 0, 0, 0, 11, 1, 16, 0, 0x10, 0, 0x40, 0, 0x40, 0, 0, 0]);
 /// # Ok::<(), fenhamper::Refusal>(())
 /// ```
 #[derive(Clone, Copy, Debug, Default, PartialEq, Eq, Hash)]
@@ -36,8 +37,9 @@ pub struct Record {
     /// The outcome's number, which [`outcome`](Record::outcome) names. 0 stands for a reading that
     /// counted no Start: such a record is not appended, and where it stands in a log it is unused.
     pub outcome_number: u8,
-    /// 0 in the record of a reading.
-    pub zero: u8,
+    /// The number of the address that let the frame in, which [`way`](Record::way) names. 0 stands
+    /// for a frame that was not let in, or for a log that was kept before records told it.
+    pub way_number: u8,
     /// How many octets were handed out.
     pub data_length: u16,
     /// The status word.
@@ -62,12 +64,29 @@ impl Record {
         Outcome::from_number(self.outcome_number)
     }
 
+    /// Which address let the frame in, if its number is 1 to 8.
+    ///
+    /// ```
+    /// use fenhamper::{Record, Way};
+    ///
+    /// let numbers = [0, 1, 3, 9].map(|way_number| Record {
+    ///     way_number,
+    ///     ..Record::default()
+    /// });
+    /// let ways = [None, Some(Way::Own), Some(Way::Listed(1)), None];
+    /// assert_eq!(numbers.map(|record| record.way()), ways);
+    /// ```
+    #[must_use]
+    pub const fn way(&self) -> Option<Way> {
+        Way::from_number(self.way_number)
+    }
+
     // As the header lays it out.
     const fn record(self) -> sys::Record {
         sys::Record {
             place: self.place,
             outcome: self.outcome_number,
-            zero: self.zero,
+            way: self.way_number,
             data_length: self.data_length,
             status: self.status.word(),
         }
@@ -79,7 +98,7 @@ impl Record {
         Ok(Record {
             place: record.place,
             outcome_number: record.outcome,
-            zero: record.zero,
+            way_number: record.way,
             data_length: record.data_length,
             status: Status::new(record.status),
         })

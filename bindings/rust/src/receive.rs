@@ -1,5 +1,5 @@
 //! Reading captures.
-use crate::answers::{Outcome, Refusal, Status};
+use crate::answers::{Outcome, Refusal, Status, Way};
 use crate::settings::Settings;
 use crate::state::State;
 use crate::sys;
@@ -73,6 +73,7 @@ impl<'a> Capture<'a> {
                     next: r.next as usize,
                     outcome: Outcome::of(r.outcome).ok_or(Refusal::Unknown(0))?,
                     status: Status::new(r.status),
+                    way: Way::check(r.way)?,
                     at,
                     data: self.part(at, r.data_length as usize),
                     capture: self.octets,
@@ -227,7 +228,7 @@ impl Reading<'_> {
 /// A Start that was counted.
 ///
 /// ```
-/// use fenhamper::{Address, Capture, Frame, Outcome, Reading, Sender, Settings, State};
+/// use fenhamper::{Address, Capture, Frame, Outcome, Reading, Sender, Settings, State, Way};
 ///
 /// let own = Address([0x02, 0, 0, 0, 0, 1]);
 /// let (settings, mut state) = (Settings::new(own), State::default());
@@ -240,6 +241,7 @@ impl Reading<'_> {
 /// };
 /// assert_eq!((r.start, r.next, r.outcome), (0, 72, Outcome::HandedOut));
 /// assert_eq!(r.status.frame_length(), 64);
+/// assert_eq!(r.way, Some(Way::Own));
 /// assert_eq!(r.data, b"talkback");
 /// # Ok::<(), fenhamper::Refusal>(())
 /// ```
@@ -254,6 +256,8 @@ pub struct Counted<'a> {
     pub outcome: Outcome,
     /// The status word.
     pub status: Status,
+    /// Which address let the frame in; none for outcomes 1 to 7.
+    pub way: Option<Way>,
     /// Where the client data stands in the capture's octets; 0 for outcomes 1 to 10.
     pub at: usize,
     /// The client data, a part of the capture's octets; empty for outcomes 1 to 10.
@@ -264,17 +268,18 @@ pub struct Counted<'a> {
 
 impl Counted<'_> {
     // All but the capture.
-    fn answer(&self) -> (usize, usize, Outcome, Status, usize, &[u8]) {
+    fn answer(&self) -> (usize, usize, Outcome, Status, Option<Way>, usize, &[u8]) {
         let Counted {
             start,
             next,
             outcome,
             status,
+            way,
             at,
             data,
             ..
         } = *self;
-        (start, next, outcome, status, at, data)
+        (start, next, outcome, status, way, at, data)
     }
 
     // As the header lays it out.
@@ -287,6 +292,7 @@ impl Counted<'_> {
             status: self.status.word(),
             data_place: self.at as u64,
             data_length: self.data.len() as u64,
+            way: self.way.map_or(sys::WAY_NONE, Way::number).into(),
             ..sys::Reading::default()
         }
     }
@@ -315,6 +321,7 @@ impl fmt::Debug for Counted<'_> {
             .field("next", &self.next)
             .field("outcome", &self.outcome)
             .field("status", &self.status)
+            .field("way", &self.way)
             .field("at", &self.at)
             .field("data", &self.data)
             .finish_non_exhaustive()

@@ -28,6 +28,13 @@ pub const COUNTED: u64 = 0;
 pub const NONE: u64 = 1;
 pub const OPEN: u64 = 2;
 
+pub const WAY_NONE: u8 = 0;
+pub const WAY_OWN: u8 = 1;
+pub const WAY_LISTED: u8 = 2;
+pub const WAY_BROADCAST: u8 = 6;
+pub const WAY_PROMISCUOUS: u8 = 7;
+pub const WAY_RESERVED: u8 = 8;
+
 pub const END_NONE: u64 = 1;
 pub const END_OPEN: u64 = 2;
 pub const END_FULL: u64 = 3;
@@ -91,7 +98,8 @@ pub struct Reading {
     pub status: u64,
     pub data_place: u64,
     pub data_length: u64,
-    pub spare: [u64; 4],
+    pub way: u64,
+    pub spare: [u64; 3],
 }
 
 #[repr(C)]
@@ -117,7 +125,7 @@ pub struct Kept {
 pub struct Record {
     pub place: u32,
     pub outcome: u8,
-    pub zero: u8,
+    pub way: u8,
     pub data_length: u16,
     pub status: u64,
 }

@@ -1,7 +1,7 @@
 //! The examples' own functions, run on captures that are made here, and on the samples where they are.
 use fenhamper::{
     limits, records, Address, Capture, End, Flow, Frame, Record, Sender, Settings, Station, Status,
-    Tag, SYMBOLS,
+    Tag, Way, SYMBOLS,
 };
 use std::fs;
 use std::path::Path;
@@ -81,6 +81,18 @@ fn the_keeper_goes_on_with_another_log() {
         assert_eq!(printed_logs(&records, capacity), Ok(expected));
     }
     assert_eq!(printed_logs(&[], 1).unwrap(), "log 1, 0 of 1 records:\n");
+    // a frame that was let in, with the address that it came by
+    let mut station = Station::default();
+    let (mut octets, mut marks) = ([0; 84], [0; 84]);
+    let mut sender = Sender::new(&mut octets, &mut marks);
+    let frame = Frame::to(Address::BROADCAST);
+    station.send_client(&mut sender, &frame, b"all").unwrap();
+    let records: Vec<u8> = sender.written().records().flatten().collect();
+    assert_eq!(
+        printed_logs(&records, 1).unwrap(),
+        "log 1, 1 of 1 records:\n     \
+         0 handed out (broadcast): 3 octets; broadcast, frame 64, data 3\n"
+    );
     printed_logs(&[1], 1).unwrap_err();
 }
 
@@ -115,15 +127,26 @@ fn samples() -> Vec<(Vec<u8>, String)> {
     names.map(sample).to_vec()
 }
 
+// Which address let a frame in, by a status word of the printing program's station: it lists none.
+fn way(status: Status) -> Option<Way> {
+    let ways = [
+        (status.unicast(), Way::Own),
+        (status.broadcast(), Way::Broadcast),
+        (status.multicast() && status.control(), Way::Reserved),
+    ];
+    ways.into_iter().find_map(|(on, way)| on.then_some(way))
+}
+
 // A text's numbers as the record of a log.
 fn record(line: &str) -> Record {
     let numbers: Vec<u64> = line.split(' ').map(|n| n.parse().unwrap()).collect();
+    let status = Status::new(numbers[2]);
     Record {
         place: u32::try_from(numbers[0]).unwrap(),
         outcome_number: u8::try_from(numbers[1]).unwrap(),
-        zero: 0,
+        way_number: way(status).map_or(0, Way::number),
         data_length: u16::try_from(numbers[3]).unwrap(),
-        status: Status::new(numbers[2]),
+        status,
     }
 }
 

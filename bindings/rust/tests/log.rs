@@ -1,7 +1,7 @@
 //! Logs: records in octets, appending, reading back, and walks that keep their readings.
 use fenhamper::{
     limits, Address, Capture, End, Flow, Frame, Kept, Log, LogView, Outcome, Reading, Record,
-    Refusal, Sender, Settings, State, Station, Status, SYMBOLS,
+    Refusal, Sender, Settings, State, Station, Status, Way, SYMBOLS,
 };
 
 const OWN: Address = Address([0x02, 0, 0, 0, 0, 1]);
@@ -11,7 +11,7 @@ const SIZE: usize = limits::RECORD_SIZE;
 const TOLD: Record = Record {
     place: 0x0403_0201,
     outcome_number: 5,
-    zero: 6,
+    way_number: 6,
     data_length: 0x0807,
     status: Status::new(0x100F_0E0D_0C0B_0A09),
 };
@@ -121,7 +121,7 @@ fn records_are_read_up_to_the_first_unused_one() {
                 Record {
                     place: u32::from_le_bytes(octets[..4].try_into().unwrap()),
                     outcome_number: octets[4],
-                    zero: octets[5],
+                    way_number: octets[5],
                     data_length: u16::from_le_bytes(octets[6..8].try_into().unwrap()),
                     status: Status::new(u64::from_le_bytes(octets[8..].try_into().unwrap())),
                 }
@@ -165,7 +165,7 @@ fn what_is_appended_is_read_back() {
         let record = |k: u32| Record {
             place: u32::MAX >> (k % 32),
             outcome_number: outcome_number.wrapping_add(k as u8),
-            zero: !outcome_number,
+            way_number: !outcome_number,
             data_length: u16::MAX - k as u16,
             status: Status::new(u64::MAX >> k),
         };
@@ -173,6 +173,7 @@ fn what_is_appended_is_read_back() {
             record(0).outcome().map(Outcome::number),
             (1..=11).contains(&outcome_number).then_some(outcome_number)
         );
+        assert_eq!(record(0).way(), Way::from_number(!outcome_number));
         let appended: Vec<_> = (0..5).map(record).collect();
         let mut octets = [0; 6 * SIZE];
         let mut log = Log::new(&mut octets).unwrap();
@@ -310,7 +311,7 @@ fn another_log_goes_on_where_one_was_full() {
         assert!(large.records().eq(readings.iter().map(|r| Record {
             place: r.start as u32,
             outcome_number: r.outcome.number(),
-            zero: 0,
+            way_number: r.way.map_or(0, Way::number),
             data_length: r.data.len() as u16,
             status: r.status,
         })));

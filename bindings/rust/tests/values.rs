@@ -2,7 +2,7 @@
 use fenhamper::records::{self, BadRecords};
 use fenhamper::{
     limits, Address, Capture, Flow, Form, Frame, Outcome, ParseAddressError, Refusal, Sender,
-    Settings, State, Station, Status, Tag,
+    Settings, State, Station, Status, Tag, Way,
 };
 
 const OWN: Address = Address([0x02, 0, 0, 0, 0, 1]);
@@ -308,4 +308,30 @@ fn outcomes_have_the_numbers_1_to_11() {
         assert_eq!(outcome.is_some(), (1..=11).contains(&number));
         assert_eq!(outcome.map_or(number, Outcome::number), number);
     }
+}
+
+#[test]
+fn ways_have_the_numbers_1_to_8() {
+    for number in 0..=u8::MAX {
+        let way = Way::from_number(number);
+        assert_eq!(way.is_some(), (1..=8).contains(&number));
+        assert_eq!(way.map_or(number, Way::number), number);
+    }
+    for entry in 0..=u8::MAX {
+        let way = Way::Listed(entry);
+        let number = if entry < 4 { 2 + entry } else { 0 };
+        assert_eq!(way.number(), number);
+        assert_eq!(way.to_string(), format!("listed entry {entry}"));
+    }
+    let words = [Way::Own, Way::Broadcast, Way::Promiscuous, Way::Reserved]
+        .map(|way| format!("{way:>14}."));
+    assert_eq!(
+        words,
+        [
+            "   own address.",
+            "     broadcast.",
+            "   promiscuous.",
+            "reserved group.",
+        ]
+    );
 }

@@ -1,15 +1,11 @@
 -- Laws of specs/Address.antt and of a destination, octet by octet. Assumes nothing.
-use Prim.Native.Nat.{ℕ, _+_, _≤_, _<_}
-use native.Mathlib.Omega.{arith}
-use native.Mathlib.Numerals.{add-one}
-use mathlib.Core.Path.{_≡_, sym, ap, _∙_}
+use Prim.Native.Nat.{ℕ, _≤_, _<_}
+use mathlib.Core.Path.{_≡_, sym, _∙_}
 use mathlib.Core.Bool.{true, false}
 use mathlib.Core.List.{List, map}
-use lib.ListN.{length, getD, take, drop, length-take, length-map, drop-of-length-le}
-use lib.Seq.{getD-take, ext-getD, length-take-le, take-all, drop-cons}
+use lib.ListN.{length, getD, take, length-map}
 use Rattle.line.specs.Octets.{sameOctets}
 use Rattle.line.proofs.Octets.{front-short, front-differs, front-same}
-use Rattle.station.specs.declared.Address.{Address}
 use Rattle.station.specs.declared.Settings.{Settings}
 use Rattle.fields.specs.Fields.{destination}
 use Rattle.address.specs.Address.{broadcastAddress, among, accepts}
@@ -27,23 +23,6 @@ module _ (f a : List ℕ) where
   pub to-same : 6 ≤ length f → length a ≡ 6 → ((k : ℕ) → k < 6 → getD f k 0 ≡ getD a k 0) → sameOctets (destination f) a ≡ true
   unfolding destination
   to-same h n s = front-same 6 f a h n s
-
--- ---- the first n of a list of addresses, from place k on
-module _ (d : List ℕ) (l : List Address) (n k : ℕ) (z : Address) (h : k < length (take n l)) where
-  here : getD (take n l) k z ≡ getD l k z
-  here = getD-take n l k z (omega (arith, length-take n l))
-
-  pub among-here : sameOctets d (getD l k z .0) ≡ true → among d (drop k (take n l)) ≡ true
-  unfolding among
-  among-here e = rw (drop-cons (take n l) k z h, here, e)
-
-  pub among-next : sameOctets d (getD l k z .0) ≡ false → among d (drop (k + 1) (take n l)) ≡ among d (drop k (take n l))
-  unfolding among
-  among-next e = rw (add-one k, drop-cons (take n l) k z h, here, e)
-
-pub among-end : (d : List ℕ) (l : List Address) (k : ℕ) → length l ≤ k → among d (drop k l) ≡ false
-unfolding among
-among-end d l k h = rw (drop-of-length-le l {i = k} h)
 
 -- ---- the rule
 module _ (s : Settings) (d : List ℕ) where

@@ -5,7 +5,7 @@ ghost use Prim.Native.Nat.{min};
 ghost use lib.ListN.{take};
 ghost use Rattle.line.specs.Octets.{sameOctets};
 ghost use Rattle.fields.specs.Fields.{destination};
-ghost use Rattle.address.specs.Address.{broadcastAddress, among, accepts};
+ghost use Rattle.address.specs.Address.{broadcastAddress, among, accepts, listedWay, otherwiseWay, way};
 use station::Address;
 use station::Settings;
 
@@ -41,23 +41,30 @@ fn smaller(a: usize, b: usize) -> usize
     if a < b { a } else { b }
 }
 
-// Whether the destination is one of the first `count` listed addresses.
-fn to_listed(f: &[u8], listed: [Address; 4], count: u8) -> bool
-    ensures { λ r. ⌜ r ≡ among (destination (now (f .entry))) (take count listed) ⌝ }
+// The number, counted from 2, of the first of the first `count` listed addresses that is the destination; where none is, `other`.
+fn listed_way(f: &[u8], listed: [Address; 4], count: u8, other: u8) -> u8
+    ensures { λ r. ⌜ r ≡ listedWay (destination (now (f .entry))) 2 (take count listed) other ⌝ }
 {
     let n = smaller(count as usize, 4);
     let mut k: usize = 0;
     while k < n {
         let a = listed[k];
         if to(f, a) {
-            return true;
+            return (k as u8) + 2;
         }
         k += 1;
     }
-    false
+    other
 }
 
-// The address rule.
+// Whether the destination is one of the first `count` listed addresses.
+fn to_listed(f: &[u8], listed: [Address; 4], count: u8) -> bool
+    ensures { λ r. ⌜ r ≡ among (destination (now (f .entry))) (take count listed) ⌝ }
+{
+    0 < listed_way(f, listed, count, 0)
+}
+
+// The address rule. It asks for no number, and so promiscuous comes first.
 pub fn accepts(s: Settings, f: &[u8]) -> bool
     ensures { λ r. ⌜ r ≡ accepts s (destination (now (f .entry))) ⌝ }
 {
@@ -73,4 +80,30 @@ pub fn accepts(s: Settings, f: &[u8]) -> bool
     }
     let listed = s.listed;
     to_listed(f, listed, s.count)
+}
+
+// What is said where no address matches: 7 for promiscuous only, else 0.
+fn otherwise_way(promiscuous: bool) -> u8
+    ensures { λ r. ⌜ r ≡ otherwiseWay promiscuous ⌝ }
+{
+    if promiscuous { 7 } else { 0 }
+}
+
+// Which address lets a frame in: 1 own, 2 to 5 listed, 6 broadcast, 7 promiscuous only, 0 not accepted.
+pub fn way(s: Settings, f: &[u8]) -> u8
+    ensures { λ r. ⌜ r ≡ way s (destination (now (f .entry))) ⌝ }
+{
+    let other = otherwise_way(s.promiscuous);
+    if is_broadcast(f) {
+        if s.broadcast {
+            return 6;
+        }
+        return other;
+    }
+    let own = s.own;
+    if to(f, own) {
+        return 1;
+    }
+    let listed = s.listed;
+    listed_way(f, listed, s.count, other)
 }

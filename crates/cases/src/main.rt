@@ -216,7 +216,7 @@ struct Turn {
 fn answer(a: &[u64; 12], o: &[u8]) -> Turn {
     let which = which(a[0], a[1]);
     told(
-        b" outcome 2 status P part 6 of 7| none| open| refused 0",
+        b" outcome 2 status P part 6 of 7 way 8| none| open| refused 0",
         which,
         a,
     );

@@ -1,13 +1,15 @@
--- Document 01, "Control frames": rules 7 to 10. `f` is a whole frame, from destination to FCS.
+-- Document 01, "Control frames": rules 7 to 10, and document 02, item 7: which address let a frame in. `f` is a whole frame, from destination to FCS.
 use Prim.Native.Nat.{ℕ}
-use mathlib.Core.Bool.{Bool, not, _&&_, _||_}
+use mathlib.Core.Bool.{Bool, not, _&&_, _||_, cond}
 use mathlib.Core.List.{List, [], _∷_}
 use lib.Dec.{eqb}
 use Rattle.line.specs.Octets.{sameOctets, highFirstAt}
 use Rattle.station.specs.declared.Settings.{Settings}
+use Rattle.station.specs.declared.Outcome.{Outcome}
+use Rattle.station.specs.Numbers.{byOutcome}
 use Rattle.station.specs.Station.{isPauseMode, isPfcMode}
 use Rattle.fields.specs.Fields.{destination, firstField}
-use Rattle.address.specs.Address.{accepts}
+use Rattle.address.specs.Address.{accepts, way}
 
 -- "First field 0x8808"; "A tagged 0x8808 is an ordinary type."
 unfoldable pub isControlFrame : List ℕ → Bool
@@ -43,3 +45,11 @@ takesPfc s f = isControlFrame f && toReservedGroup f && eqb (opcode f) 0x0101 &&
 -- rule 10: "Any other control frame …: 11 with `pass control` on, else 10"
 unfoldable pub dropsControl : Settings → List ℕ → Bool
 dropsControl s f = isControlFrame f && not (s .passing)
+
+-- document 02, item 7: "Every control frame to the reserved group says 8, listed or not."
+unfoldable pub frameWay : Settings → List ℕ → ℕ
+frameWay s f = cond (isControlFrame f && toReservedGroup f) 8 (way s (destination f))
+
+-- "The reading carries the number, with 0 for outcomes 1 to 7"
+unfoldable pub wayCarried : Settings → Outcome → List ℕ → ℕ
+wayCarried s o f = byOutcome o 0 (frameWay s f) (frameWay s f) (frameWay s f) (frameWay s f)

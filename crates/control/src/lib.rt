@@ -1,9 +1,11 @@
-// Control frames, rules 7 to 10 (document 01, "Control frames"). Meaning: specs/. `f` is always a whole frame.
+// Control frames, rules 7 to 10 (document 01, "Control frames"), and which address let a frame in (document 02, item 7). Meaning: specs/. `f` is always
+// a whole frame.
 use station::Address;
+use station::Outcome;
 use station::Settings;
 ghost use mathlib.Core.Path.{_≡_};
 ghost use mathlib.Core.Bool.{_&&_, _||_};
-ghost use Rattle.control.specs.Control.{isControlFrame, opcode, toReservedGroup, toOwn, filtered, takesPause, takesPfc, dropsControl};
+ghost use Rattle.control.specs.Control.{isControlFrame, opcode, toReservedGroup, toOwn, filtered, takesPause, takesPfc, dropsControl, frameWay, wayCarried};
 
 // First field 0x8808. A tagged 0x8808 is an ordinary type.
 pub fn is_control_frame(f: &[u8]) -> bool
@@ -89,4 +91,35 @@ pub fn drops_control(s: Settings, f: &[u8]) -> bool
         return false;
     }
     !s.passing
+}
+
+// Whether a frame is a control frame to the reserved group.
+fn controls_group(f: &[u8]) -> bool
+    ensures { λ r. ⌜ r ≡ (isControlFrame (now (f .entry)) && toReservedGroup (now (f .entry))) ⌝ }
+{
+    if !is_control_frame(f) {
+        return false;
+    }
+    to_reserved_group(f)
+}
+
+// Which address lets a frame in, of any frame: 8 for a control frame to the reserved group.
+pub fn frame_way(s: Settings, f: &[u8]) -> u8
+    ensures { λ r. ⌜ r ≡ frameWay s (now (f .entry)) ⌝ }
+{
+    if controls_group(f) {
+        return 8;
+    }
+    address::way(s, f)
+}
+
+// The number that a reading with this outcome carries: 0 for outcomes 1 to 7.
+pub fn way_carried(s: Settings, o: Outcome, f: &[u8]) -> u8
+    ensures { λ r. ⌜ r ≡ wayCarried s o (now (f .entry)) ⌝ }
+{
+    match o {
+        Outcome::PauseTaken | Outcome::PfcTaken | Outcome::ControlDropped | Outcome::HandedOut =>
+            frame_way(s, f),
+        _ => 0,
+    }
 }

@@ -1,15 +1,20 @@
 -- What the arrays' meanings keep: a part handed over as place and length is the module's own client data; a state that crossed back is the
 -- same state; the record of a reading is the same by its numbers; a record of a log is given out as it stands there. Assume nothing.
-use Prim.Native.Nat.{ℕ, zero, suc, _+_, _-_, _%_, _<_}
+use Prim.Native.Nat.{ℕ, zero, suc, _+_, _-_, _%_, _^_, _<_}
+use native.Mathlib.Nat.{mod-eq-of-lt}
 use native.Mathlib.Numerals.{add-one}
-use mathlib.Core.Path.{_≡_, refl, sym, ap, ap₂, _∙_}
+use mathlib.Core.Path.{_≡_, refl, sym, ap, ap₂, _∙_, subst}
 use mathlib.Core.List.{List, [], _∷_}
 use lib.ListN.{length, getD, take, drop}
-use lib.Dec.{leb}
+use lib.Dec.{leb, lit<}
+use Rattle.line.specs.Table.{first}
 use Rattle.line.proofs.Symbols.{by-test}
 use Rattle.station.specs.declared.Part.{Part}
 use Rattle.station.specs.declared.Slots.{Slots}
 use Rattle.station.specs.declared.State.{State}
+use Rattle.station.specs.declared.Settings.{Settings}
+use Rattle.station.specs.declared.Checked.{Checked}
+use Rattle.station.specs.declared.Checked.the-variants.{Fine}
 use Rattle.station.specs.declared.Outcome.{Outcome}
 use Rattle.station.specs.declared.Outcome.the-variants.{Cut, BadPreamble, Undersized, Oversized, WrongFcs, WrongLength, Filtered}
 use Rattle.station.specs.declared.Outcome.the-variants.{PauseTaken, PfcTaken, ControlDropped, HandedOut}
@@ -18,14 +23,16 @@ use Rattle.flow.specs.Timers.{timer}
 use Rattle.receive.specs.declared.Answer.{Answer}
 use Rattle.receive.specs.declared.Answer.the-variants.{Counted}
 use Rattle.receive.specs.declared.Reading.{Reading}
-use Rattle.receive.specs.Values.{answerOutcome, answerStatus, answerPart}
-use Rattle.receive.specs.Reading.{partOf}
+use Rattle.receive.specs.Values.{answerOutcome, answerStatus, answerPart, answerWay}
+use Rattle.receive.specs.Reading.{partOf, readRefusals, reading}
+use Rattle.receive.proofs.Cases.{read-refused}
 use Rattle.log.specs.declared.LogRead.the-variants.{Holds}
 use Rattle.log.specs.Log.{recordOf, slotAt, recordRead}
 use Rattle.log.specs.Claims.{OfOctets, IsMultiple, Used}
 use Rattle.log.proofs.Searches.{slot-stands}
 use Rattle.log.proofs.Calls.{good-log, read-used}
 use Rattle.logging.specs.Records.{recordAt, recordOfReading}
+use Rattle.logging.proofs.Readings.{reading-sound}
 use Rattle.fenhamper.specs.Face.{each, lowAt, countersOf, timersOf, stateOf, stateNumbers, partWithin, recordNamed, readingNumbers, recordLeft}
 
 -- the octets from the place, so many of them, are what `client_data` hands out
@@ -81,7 +88,7 @@ outcome-low : (a : Answer) → answerOutcome a % 256 ≡ answerOutcome a
 outcome-low (Answer.Refused x) = refl
 outcome-low Answer.Nothing = refl
 outcome-low Answer.Open = refl
-outcome-low (Counted o w p) = number-low o
+outcome-low (Counted o w p v) = number-low o
   where
     number-low : (o : Outcome) → outcomeNumber o % 256 ≡ outcomeNumber o
     number-low Cut = refl
@@ -96,10 +103,20 @@ outcome-low (Counted o w p) = number-low o
     number-low ControlDropped = refl
     number-low HandedOut = refl
 
-pub reading-record : (r : Reading) → recordNamed (readingNumbers r) ≡ recordOfReading r
+-- where the number of the address is one of 8 bits
+same-record : (r : Reading) → answerWay (r .answer) < 2 ^ 8 → recordNamed (readingNumbers r) ≡ recordOfReading r
 unfolding recordNamed readingNumbers recordOfReading lowAt
-reading-record r =
-    ap (λ (n : ℕ). recordAt (r .start) n (answerPart (r .answer) .len) (answerStatus (r .answer))) (outcome-low (r .answer))
+same-record r h =
+    ap₂ (λ (n v : ℕ). recordAt (r .start) n v (answerPart (r .answer) .len) (answerStatus (r .answer))) (outcome-low (r .answer)) (mod-eq-of-lt h)
+
+-- which it is of every reading
+pub reading-record : (s : Settings) (st : State) (os ms : List ℕ) (p : ℕ)
+    → recordNamed (readingNumbers (reading s st os ms p)) ≡ recordOfReading (reading s st os ms p)
+reading-record s st os ms p = same-record (reading s st os ms p) (by-checked (first (readRefusals s os ms p)) refl)
+  where
+    by-checked : (k : Checked) → first (readRefusals s os ms p) ≡ k → answerWay (reading s st os ms p .answer) < 2 ^ 8
+    by-checked (Checked.Refused x) e = subst (λ (r : Reading). answerWay (r .answer) < 2 ^ 8) (sym (read-refused s st os ms p x e)) (lit< tt)
+    by-checked Fine e = reading-sound s st os ms p e .way
 
 -- a record that is read is given out as its octets stand in the log, and is the same where these cross to the module again
 module _ (l before : List ℕ) (k : ℕ) (octets : OfOctets l) (good : IsMultiple l) (used : Used l k) where

@@ -20,7 +20,7 @@ use Rattle.receive.specs.declared.Answer.{Answer}
 use Rattle.receive.specs.declared.Answer.the-variants.{Nothing, Open, Counted}
 use Rattle.receive.specs.declared.Reading.{Reading}
 use Rattle.receive.specs.declared.WalkEnd.{WalkEnd}
-use Rattle.receive.specs.Values.{answerOutcome, answerRefusal, answerStatus, answerPart, walkedRefusal, walkedStarts, walkedOpen}
+use Rattle.receive.specs.Values.{answerOutcome, answerRefusal, answerStatus, answerPart, answerWay, walkedRefusal, walkedStarts, walkedOpen}
 use Rattle.log.specs.declared.Record.{Record}
 use Rattle.log.specs.declared.LogRead.{LogRead}
 use Rattle.log.specs.declared.LogRead.the-variants.{Holds}
@@ -130,10 +130,11 @@ quantaOf n = record { 0 = n }
 unfoldable pub classesOf : ℕ → List ℕ → Classes
 classesOf named l = record { named = named; quanta = each (λ (i : ℕ). quantaOf (getD l i 0)) 0 8 }
 
--- the record of a reading, of its 12 numbers: place, outcome, octets handed out and status word, of each its low bits, as many as the field has
+-- the record of a reading, of its 12 numbers: place, outcome, the number of the address, octets handed out and status word, of each its low bits, as many as
+-- the field has
 unfoldable pub recordNamed : List ℕ → Record
 recordNamed n =
-    record { place = lowAt n 3; outcome = getD n 2 0 % 256; zero = 0; handed = getD n 7 0 % 65536; status = getD n 5 0 }
+    record { place = lowAt n 3; outcome = getD n 2 0 % 256; way = getD n 8 0 % 256; handed = getD n 7 0 % 65536; status = getD n 5 0 }
 
 -- ---- what crosses back
 
@@ -146,10 +147,10 @@ abbrev pub answerKind : Answer → ℕ
 answerKind (Answer.Refused x) = 0
 answerKind Nothing = 1
 answerKind Open = 2
-answerKind (Counted o w p) = 0
+answerKind (Counted o w p v) = 0
 
--- a reading, as 12 numbers: refusal, kind, outcome, the Start's place, the next place, status word, the client data's place and length, and zeros for what is
--- kept for later
+-- a reading, as 12 numbers: refusal, kind, outcome, the Start's place, the next place, status word, the client data's place and length, which address let the
+-- frame in, and zeros for what is kept for later
 unfoldable pub readingNumbers : Reading → List ℕ
 readingNumbers r =
     answerRefusal (r .answer)
@@ -160,7 +161,8 @@ readingNumbers r =
     ∷ answerStatus (r .answer)
     ∷ answerPart (r .answer) .at
     ∷ answerPart (r .answer) .len
-    ∷ replicate 4 0
+    ∷ answerWay (r .answer)
+    ∷ replicate 3 0
 
 -- a walk, as 4 numbers: refusal, counted Starts, 1 if it ended open, and a zero
 unfoldable pub walkNumbers : WalkEnd → List ℕ

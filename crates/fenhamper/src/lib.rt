@@ -279,7 +279,7 @@ fn record_named(n: &[u64; 12]) -> Record
     Record {
         place: (n[3] % 4294967296) as u32,
         outcome: (n[2] % 256) as u8,
-        zero: 0,
+        way: (n[8] % 256) as u8,
         handed: (n[7] % 65536) as u16,
         status: n[5],
     }
@@ -342,8 +342,9 @@ fn reading_numbers(r: Reading) -> [u64; 12]
         }
         Answer::Nothing => [0, 1, 0, start, next, 0, 0, 0, 0, 0, 0, 0],
         Answer::Open => [0, 2, 0, start, next, 0, 0, 0, 0, 0, 0, 0],
-        Answer::Counted(outcome, status, part) => {
+        Answer::Counted(outcome, status, part, way) => {
             let n = station::outcome_number(outcome) as u64;
+            let w = way as u64;
             [
                 0,
                 0,
@@ -353,7 +354,7 @@ fn reading_numbers(r: Reading) -> [u64; 12]
                 status,
                 part.at as u64,
                 part.len as u64,
-                0,
+                w,
                 0,
                 0,
                 0,

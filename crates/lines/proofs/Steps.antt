@@ -22,10 +22,10 @@ use Rattle.receive.specs.Walk.{readingsFrom, walk}
 use Rattle.lines.specs.Lines.{programSettings, fourNumbers, lastLine, linesOf, captureLines}
 
 module _ (n : ℕ) (r : Reading) (rs : List Reading) where
-  line-counted : (o : Outcome) (w : ℕ) (p : Part) → r .answer ≡ Counted o w p
+  line-counted : (o : Outcome) (w : ℕ) (p : Part) (v : ℕ) → r .answer ≡ Counted o w p v
       → linesOf n (r ∷ rs) ≡ fourNumbers (r .start) (outcomeNumber o) w (p .len) ++ linesOf (n + 1) rs
   unfolding linesOf
-  line-counted o w p e = rw e
+  line-counted o w p v e = rw e
 
   line-refused : (x : Refusal) → r .answer ≡ Refused x → linesOf n (r ∷ rs) ≡ lastLine n 0
   unfolding linesOf
@@ -50,15 +50,15 @@ module _ (n : ℕ) (s : Settings) (st : State) (os ms : List ℕ) (p : ℕ) (lef
       ap (λ (k : ℕ). readingsFrom k s st os ms p) e
       ∙ ap (λ (q : Reading). q ∷ elim (isCounted (q .answer)) [ true ↦ readingsFrom (left - 1) s (q .state) os ms (q .next) | false ↦ [] ]) (sym is)
 
-  pub lines-counted : (o : Outcome) (w : ℕ) (q : Part) → r .answer ≡ Counted o w q
+  pub lines-counted : (o : Outcome) (w : ℕ) (q : Part) (v : ℕ) → r .answer ≡ Counted o w q v
       → linesOf n (readingsFrom left s st os ms p)
       ≡ fourNumbers (r .start) (outcomeNumber o) w (q .len) ++ linesOf (n + 1) (readingsFrom (left - 1) s (r .state) os ms (r .next))
-  lines-counted o w q e =
+  lines-counted o w q v e =
       let counts : isCounted (r .answer) ≡ true = ap isCounted e in
       ap (linesOf n)
       (from-here
       ∙ ap (λ (b : Bool). r ∷ elim b [ true ↦ readingsFrom (left - 1) s (r .state) os ms (r .next) | false ↦ [] ]) counts)
-      ∙ line-counted n r (readingsFrom (left - 1) s (r .state) os ms (r .next)) o w q e
+      ∙ line-counted n r (readingsFrom (left - 1) s (r .state) os ms (r .next)) o w q v e
 
   pub lines-refused : (x : Refusal) → r .answer ≡ Refused x → linesOf n (readingsFrom left s st os ms p) ≡ lastLine n 0
   lines-refused x e = ap (linesOf n) from-here ∙ line-refused n r after x e

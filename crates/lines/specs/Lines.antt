@@ -62,7 +62,7 @@ linesOf n (r ∷ rs) =
       | Refused x ↦ lastLine n 0
       | Nothing ↦ lastLine n 0
       | Open ↦ lastLine n 1
-      | Counted o w p ↦ fourNumbers (r .start) (outcomeNumber o) w (p .len) ++ linesOf (n + 1) rs
+      | Counted o w p v ↦ fourNumbers (r .start) (outcomeNumber o) w (p .len) ++ linesOf (n + 1) rs
     ]
 
 -- what is printed of a capture: the lines of its whole walk, from a fresh state

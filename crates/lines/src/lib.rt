@@ -119,7 +119,7 @@ fn put_lines(octets: &[u8], marks: &[u8], out: &mut [u8]) -> usize
             Answer::Refused(_) => return put_last(out, at, n, 0),
             Answer::Nothing => return put_last(out, at, n, 0),
             Answer::Open => return put_last(out, at, n, 1),
-            Answer::Counted(o, word, part) => {
+            Answer::Counted(o, word, part, _way) => {
                 at = put_counted(out, at, r.start, o, word, part.len);
             }
         }

@@ -76,22 +76,22 @@ unfolding recordOf octetsOfRecord
 record-back r f =
     let p = lowOctets 4 (r .place) in
     let o = lowOctets 1 (r .outcome) in
-    let z = lowOctets 1 (r .zero) in
+    let w = lowOctets 1 (r .way) in
     let h = lowOctets 2 (r .handed) in
     let s = lowOctets 8 (r .status) in
-    let all = p ++ o ++ z ++ h ++ s in
+    let all = p ++ o ++ w ++ h ++ s in
     let ep : lowFirst all 0 4 ≡ r .place
-    = ap (λ (l : List ℕ). lowFirst l 0 4) (simp append-assoc) ∙ low-back [] 4 (r .place) (o ++ (z ++ (h ++ s))) 0 refl (f .place) in
+    = ap (λ (l : List ℕ). lowFirst l 0 4) (simp append-assoc) ∙ low-back [] 4 (r .place) (o ++ (w ++ (h ++ s))) 0 refl (f .place) in
     let eo : lowFirst all 4 1 ≡ r .outcome
-    = ap (λ (l : List ℕ). lowFirst l 4 1) (simp append-assoc) ∙ low-back p 1 (r .outcome) (z ++ (h ++ s)) 4 (length-lowOctets 4 (r .place)) (f .outcome) in
-    let ez : lowFirst all 5 1 ≡ r .zero
-    = ap (λ (l : List ℕ). lowFirst l 5 1) (simp append-assoc) ∙ low-back (p ++ o) 1 (r .zero) (h ++ s) 5 (simp (length-append, length-lowOctets)) (f .zero) in
+    = ap (λ (l : List ℕ). lowFirst l 4 1) (simp append-assoc) ∙ low-back p 1 (r .outcome) (w ++ (h ++ s)) 4 (length-lowOctets 4 (r .place)) (f .outcome) in
+    let ew : lowFirst all 5 1 ≡ r .way
+    = ap (λ (l : List ℕ). lowFirst l 5 1) (simp append-assoc) ∙ low-back (p ++ o) 1 (r .way) (h ++ s) 5 (simp (length-append, length-lowOctets)) (f .way) in
     let eh : lowFirst all 6 2 ≡ r .handed
-    = ap (λ (l : List ℕ). lowFirst l 6 2) (simp append-assoc) ∙ low-back (p ++ o ++ z) 2 (r .handed) s 6 (simp (length-append, length-lowOctets)) (f .handed) in
+    = ap (λ (l : List ℕ). lowFirst l 6 2) (simp append-assoc) ∙ low-back (p ++ o ++ w) 2 (r .handed) s 6 (simp (length-append, length-lowOctets)) (f .handed) in
     let es : lowFirst all 8 8 ≡ r .status
     = ap (λ (l : List ℕ). lowFirst l 8 8) (simp (append-assoc, append-nil))
-    ∙ low-back (p ++ o ++ z ++ h) 8 (r .status) [] 8 (simp (length-append, length-lowOctets)) (f .status) in
-    (λ i. record { place = ep i; outcome = eo i; zero = ez i; handed = eh i; status = es i })
+    ∙ low-back (p ++ o ++ w ++ h) 8 (r .status) [] 8 (simp (length-append, length-lowOctets)) (f .status) in
+    (λ i. record { place = ep i; outcome = eo i; way = ew i; handed = eh i; status = es i })
 
 -- ---- what stands in 16 octets
 
@@ -135,7 +135,7 @@ record-fits s o =
     record {
       place = low-small s 0 4 o;
       outcome = low-small s 4 1 o;
-      zero = low-small s 5 1 o;
+      way = low-small s 5 1 o;
       handed = low-small s 6 2 o;
       status = low-small s 8 8 o;
     }

@@ -16,7 +16,8 @@ pub struct Record {
     pub place: u32,
     // an outcome's number; 0 for `none`, `open` and a refused reading
     pub outcome: u8,
-    pub zero: u8,
+    // which address let the frame in (item 7), 0 where none is said
+    pub way: u8,
     // octets handed out
     pub handed: u16,
     pub status: u64,
@@ -106,11 +107,11 @@ fn low_first(s: &[u8], at: usize, n: usize) -> u64
 // The first three fields over the log from `at` on; the place behind them.
 fn put_front(log: &mut [u8], at: usize, r: Record) -> usize
     requires { ⌜ at + 6 ≤ length (now log) ⌝ }
-    ensures { λ e. ⌜ Put (now (log .entry)) at (lowOctets 4 (r .place) ++ lowOctets 1 (r .outcome) ++ lowOctets 1 (r .zero)) e (now (log .exit)) ⌝ }
+    ensures { λ e. ⌜ Put (now (log .entry)) at (lowOctets 4 (r .place) ++ lowOctets 1 (r .outcome) ++ lowOctets 1 (r .way)) e (now (log .exit)) ⌝ }
 {
     let a = put_low(log, at, 4, r.place as u64);
     let b = put_low(log, a, 1, r.outcome as u64);
-    put_low(log, b, 1, r.zero as u64)
+    put_low(log, b, 1, r.way as u64)
 }
 
 // A record over record k of the log, whatever stands there: five stores. For this repository's crates only, since it asks that the log has record k.
@@ -131,7 +132,7 @@ pub fn record_of(s: &[u8]) -> Record
     Record {
         place: low_first(s, 0, 4) as u32,
         outcome: low_first(s, 4, 1) as u8,
-        zero: low_first(s, 5, 1) as u8,
+        way: low_first(s, 5, 1) as u8,
         handed: low_first(s, 6, 2) as u16,
         status: low_first(s, 8, 8),
     }

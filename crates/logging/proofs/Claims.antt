@@ -39,16 +39,16 @@ use Rattle.logging.proofs.Turns.{counted-some, turn-refused, turn-none,
 
 -- ---- the records of readings, one by one
 
-records-counted : (r : Reading) (rs : List Reading) (o : Outcome) (w : ℕ) (q : Part) → r .answer ≡ Counted o w q
+records-counted : (r : Reading) (rs : List Reading) (o : Outcome) (w : ℕ) (q : Part) (v : ℕ) → r .answer ≡ Counted o w q v
     → recordsOf (r ∷ rs) ≡ recordOfReading r ∷ recordsOf rs
 unfolding recordsOf
-records-counted r rs o w q e = counted-yes (recordOfReading r) (map recordOfReading rs) (counts-so (recordOfReading r) (counted-some r o w q e))
+records-counted r rs o w q v e = counted-yes (recordOfReading r) (map recordOfReading rs) (counts-so (recordOfReading r) (counted-some r o w q v e))
 
 none-outcome : (a : Answer) → isCounted a ≡ false → answerOutcome a ≡ 0
 none-outcome (Answer.Refused x) h = refl
 none-outcome Answer.Nothing h = refl
 none-outcome Answer.Open h = refl
-none-outcome (Counted o w q) h = absurd (false≢true (sym h))
+none-outcome (Counted o w q v) h = absurd (false≢true (sym h))
 
 records-last : (r : Reading) → isCounted (r .answer) ≡ false → recordsOf (r ∷ []) ≡ []
 unfolding recordsOf recordOfReading
@@ -116,7 +116,7 @@ module _ (room : ℕ) where
     unfolding walkOf
     last-open e = rw e
 
-    module _ (rs : List Reading) (o : Outcome) (w : ℕ) (q : Part) (e : r .answer ≡ Counted o w q) where
+    module _ (rs : List Reading) (o : Outcome) (w : ℕ) (q : Part) (v : ℕ) (e : r .answer ≡ Counted o w q v) where
       walk-on : walkOf n st (r ∷ rs) ≡ walkOf (n + 1) (r .state) rs
       unfolding walkOf
       walk-on = rw e
@@ -127,7 +127,7 @@ module _ (room : ℕ) where
           let x = recordOfReading r in
           let us′ = recordsOf rs in
           ap₂ (λ (y : WalkEnd) (us″ : List Record). stopped (endOf (y .answer)) (y .state) (lastNext (r .next) rs) (n + length us″) (filled room (us ++ us″)))
-          walk-on (records-counted r rs o w q e)
+          walk-on (records-counted r rs o w q v e)
           ∙ ap₂ (λ (k : ℕ) (us″ : List Record).
           stopped (endOf (walkOf (n + 1) (r .state) rs .answer)) (walkOf (n + 1) (r .state) rs .state) (lastNext (r .next) rs) k (filled room us″))
           (let z : n + suc (length us′) ≡ n + 1 + length us′ = omega arith in z) (sym (append-assoc us (x ∷ []) us′))
@@ -166,22 +166,22 @@ module _ (room : ℕ) where
         turn-none s st os ms p n (filled room us) (suc most) (omega arith) r refl e ∙ kept-last n us (Ended n false) (ap isCounted e) (last-none n st p us r e)
     kept-turn ih Answer.Open e n us f c h =
         turn-open s st os ms p n (filled room us) (suc most) (omega arith) r refl e ∙ kept-last n us (Ended n true) (ap isCounted e) (last-open n st p us r e)
-    kept-turn ih (Counted o w q) e n us f c h =
+    kept-turn ih (Counted o w q v) e n us f c h =
         let x = recordOfReading r in
         let yes : isCounted (r .answer) ≡ true = ap isCounted e in
         let on = readings-on most s st os ms p yes in
-        let all : recordsOf (readingsFrom (suc most) s st os ms p) ≡ x ∷ recordsOf rest = ap recordsOf on ∙ records-counted r rest o w q e in
+        let all : recordsOf (readingsFrom (suc most) s st os ms p) ≡ x ∷ recordsOf rest = ap recordsOf on ∙ records-counted r rest o w q v e in
         let h′ : length us + suc (length (recordsOf rest)) ≤ room = subst (λ (y : List Record). length us + length y ≤ room) all h in
         let small : length us ≤ room = omega arith in
         let size = length-filled room us small in
         let len = length-append us (x ∷ []) in
-        turn-kept s st os ms p n (filled room us) (suc most) (omega arith) r refl o w q e (filled-multiple room us small) (length us)
+        turn-kept s st os ms p n (filled room us) (suc most) (omega arith) r refl o w q v e (filled-multiple room us small) (length us)
         (sym (count-filled room us small f c)) (omega arith)
         ∙ ap₂ (λ (m : ℕ) (l : List ℕ). keepFrom m s (r .state) os ms (r .next) (n + 1) l) (let z : suc most - 1 ≡ most = omega arith in z)
         (write-filled room us x (omega arith))
         ∙ ih (n + 1) (us ++ (x ∷ [])) (fit-append us (x ∷ []) f (counted-fits s st os ms p yes, tt))
-        (count-append us (x ∷ []) c (counts-so x (counted-some r o w q e), tt)) (omega arith)
-        ∙ sym (ap (shown n st p us) on ∙ shown-on n st p us r rest o w q e)
+        (count-append us (x ∷ []) c (counts-so x (counted-some r o w q v e), tt)) (omega arith)
+        ∙ sym (ap (shown n st p us) on ∙ shown-on n st p us r rest o w q v e)
 
   -- with room for all records, the walk that keeps its readings comes to what the readings come to
   kept-from : (most : ℕ) (s : Settings) (os ms : List ℕ) (st : State) (p : ℕ) → Kept most s os ms st p
@@ -221,9 +221,9 @@ module _ (most : ℕ) (s : Settings) (st : State) (os ms : List ℕ) (p : ℕ) w
   fit-turn ih (Answer.Refused x) e = fit-last (ap isCounted e)
   fit-turn ih Answer.Nothing e = fit-last (ap isCounted e)
   fit-turn ih Answer.Open e = fit-last (ap isCounted e)
-  fit-turn ih (Counted o w q) e =
+  fit-turn ih (Counted o w q v) e =
       let yes : isCounted (read .answer) ≡ true = ap isCounted e in
-      subst AllFit (sym (ap recordsOf (readings-on most s st os ms p yes) ∙ records-counted read _ o w q e)) (counted-fits s st os ms p yes, ih)
+      subst AllFit (sym (ap recordsOf (readings-on most s st os ms p yes) ∙ records-counted read _ o w q v e)) (counted-fits s st os ms p yes, ih)
 
 records-fit : (most : ℕ) (s : Settings) (st : State) (os ms : List ℕ) (p : ℕ) → AllFit (recordsOf (readingsFrom most s st os ms p))
 unfolding AllFit readingsFrom

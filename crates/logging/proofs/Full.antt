@@ -111,11 +111,11 @@ module _ (s : Settings) (os ms : List ℕ) where
         not-full n l Nothing refl (ap (λ (k : Keeping). k .given .end) (turn-none s st os ms p n l (suc most) (omega arith) r refl e))
     stops-turn ih Answer.Open e n l =
         not-full n l Open refl (ap (λ (k : Keeping). k .given .end) (turn-open s st os ms p n l (suc most) (omega arith) r refl e))
-    stops-turn ih (Counted o w q) e n l =
+    stops-turn ih (Counted o w q v) e n l =
         let is : isCounted (r .answer) ≡ true = ap isCounted e in
         let less : suc most - 1 ≡ most = omega arith in
         let m = appending l (recordOfReading r) .log in
-        by-appending s st os ms p n l (suc most) (omega arith) r refl o w q e
+        by-appending s st os ms p n l (suc most) (omega arith) r refl o w q v e
         (λ k. k .given .end ≡ Full → StopsFull (suc most) s st os ms p n l k)
         (subst (λ (i : ℕ). let k : Keeping = keepFrom i s (r .state) os ms (r .next) (n + 1) m in k .given .end ≡ Full → StopsFull (suc most) s st os ms p n l k)
         (sym less)

@@ -27,6 +27,7 @@ use Rattle.fields.specs.declared.Layout.{Layout}
 use Rattle.fields.specs.Places.{layoutOf}
 use Rattle.fields.proofs.Places.{layout-tags, layout-place}
 use Rattle.frame.specs.Frame.{dataFrom, frameData}
+use Rattle.control.specs.Control.{wayCarried}
 use Rattle.outcome.specs.Outcomes.{outcome, frameOf}
 use Rattle.outcome.specs.Status.{status, statusOf}
 use Rattle.outcome.proofs.Words.{word-of}
@@ -69,8 +70,8 @@ tells-none HandedOut h = absurd (miss oneToSeven 10 tt h)
 
 module _ (s : Settings) (i : ℕ) (f : List ℕ) where
   -- an outcome that says nothing: status word 0, and nothing handed out
-  pub untold : (o : Outcome) → byOutcome o false true true true true ≡ false → recordAt i (outcomeNumber o) 0 0 ≡ recordOfFrame s i f o
-  unfolding recordOfFrame handedPart status statusOf
+  pub untold : (o : Outcome) → byOutcome o false true true true true ≡ false → recordAt i (outcomeNumber o) 0 0 0 ≡ recordOfFrame s i f o
+  unfolding recordOfFrame handedPart status statusOf wayCarried
   untold Cut h = refl
   untold BadPreamble h = refl
   untold Undersized h = refl
@@ -90,12 +91,13 @@ module _ (s : Settings) (i : ℕ) (f : List ℕ) where
   pub none-handed : (o : Outcome) → OneOf oneToTen (tagOf the-type o) → 0 ≡ handedPart s o (i + 8) f .len
   none-handed o h = ap (λ (p : Part). p .len) (no-part (s .checking) o (i + 8) f (layoutOf f) h ∙ part-laid s (i + 8) f o)
 
-  -- by the frame's layout: so many octets handed out, and the word
-  pub laid-record : (o : Outcome) (l : Layout) (h w : ℕ) → l ≡ layoutOf f → h ≡ handedPart s o (i + 8) f .len
-      → w ≡ statusOf o f (l .tags) (length (dataFrom (l .place) f)) h → recordAt i (outcomeNumber o) h w ≡ recordOfFrame s i f o
+  -- by the frame's layout: the number of the address, so many octets handed out, and the word
+  pub laid-record : (o : Outcome) (l : Layout) (v h w : ℕ) → l ≡ layoutOf f → v ≡ wayCarried s o f → h ≡ handedPart s o (i + 8) f .len
+      → w ≡ statusOf o f (l .tags) (length (dataFrom (l .place) f)) h → recordAt i (outcomeNumber o) v h w ≡ recordOfFrame s i f o
   unfolding recordOfFrame status frameData
-  laid-record o l h w e g t =
-      ap₂ (recordAt i (outcomeNumber o)) g
+  laid-record o l v h w e a g t =
+      ap (λ (x : ℕ). recordAt i (outcomeNumber o) x h w) a
+      ∙ ap₂ (recordAt i (outcomeNumber o) (wayCarried s o f)) g
       (word-of o t refl (layout-tags l f e) (ap (λ (p : ℕ). length (dataFrom p f)) (layout-place l f e)) g ∙ part-told s (i + 8) f o _ _)
 
   -- it has an outcome
@@ -145,14 +147,14 @@ module _ (s : Settings) (os ms : List ℕ) (p : ℕ) (fine : first (readRefusals
       module _ (n : ℕ) (l : List ℕ) (left : ℕ) (more : 0 < left) (good : IsMultiple l) where
         pub loop-full : frontCount l ≡ length l / 16 → keepFrom left s st os ms p n l ≡ stopped Full st p n l
         unfolding readRun
-        loop-full h = turn-full s st os ms p n l left more read is becomes _ _ refl good h
+        loop-full h = turn-full s st os ms p n l left more read is becomes _ _ _ refl good h
 
         pub loop-kept : (k : ℕ) → k ≡ frontCount l → k < length l / 16
             → keepFrom left s st os ms p n l
             ≡ keepFrom (left - 1) s (stateAfter becomes (frameOf run) st) os ms e (n + 1) (overwrite l (16 * k) (octetsOfRecord kept))
         unfolding readRun
         loop-kept k h lt =
-            turn-kept s st os ms p n l left more read is becomes _ _ refl good k h lt
+            turn-kept s st os ms p n l left more read is becomes _ _ _ refl good k h lt
             ∙ ap₂ (λ (next : ℕ) (x : Record).
             keepFrom (left - 1) s (stateAfter becomes (frameOf run) st) os ms next (n + 1) (overwrite l (16 * k) (octetsOfRecord x)))
             next-is same

@@ -25,6 +25,7 @@ use Rattle.fields.specs.Fields.{destination, dataPlace, field}
 use Rattle.fields.specs.Tags.{tagCount}
 use Rattle.address.specs.Address.{broadcastAddress}
 use Rattle.control.specs.Control.{isControlFrame}
+use Rattle.control.proofs.Ways.{way-carried-le}
 use Rattle.frame.specs.Frame.{frameData}
 use Rattle.frame.specs.Length.{clientData, handedLength}
 use Rattle.frame.proofs.Length.{data-length, handed-le}
@@ -33,10 +34,10 @@ use Rattle.outcome.specs.Status.{status, statusOf, frameBits, bit}
 use Rattle.receive.specs.declared.Answer.{Answer}
 use Rattle.receive.specs.declared.Answer.the-variants.{Nothing, Open, Counted}
 use Rattle.receive.specs.declared.Reading.{Reading}
-use Rattle.receive.specs.Values.{isCounted, answerPart, answerOutcome, answerStatus, answerRefusal}
+use Rattle.receive.specs.Values.{isCounted, answerPart, answerOutcome, answerStatus, answerRefusal, answerWay}
 use Rattle.receive.specs.Reading.{readRefusals, reading, readRun, handedPart}
 use Rattle.receive.proofs.Cases.{read-none, read-open, read-ended}
-use Rattle.receive.proofs.Refusals.{Passed, passed}
+use Rattle.receive.proofs.Refusals.{Passed, passed, own-and-few}
 use Rattle.log.specs.Claims.{Fits}
 use Rattle.logging.specs.Records.{recordOfReading, Whole}
 
@@ -115,6 +116,7 @@ pub record Sound (os : List ℕ) (p : ℕ) (r : Reading) : Type 0 where
   pub place : r .start ≤ 65536
   pub handed : answerPart (r .answer) .len ≤ 65535
   pub status : answerStatus (r .answer) < 2 ^ 64
+  pub way : answerWay (r .answer) < 2 ^ 8
   pub refused : answerRefusal (r .answer) ≡ 0
   pub on : isCounted (r .answer) ≡ true → (p < r .next) × (r .next < length os)
 
@@ -122,15 +124,16 @@ pub run-length : (os : List ℕ) (i e : ℕ) → e ≤ length os → length (bet
 unfolding between
 run-length os i e h = simp (length-take, length-drop) (omega arith)
 
-run-sound : (s : Settings) (st : State) (os : List ℕ) (p i : ℕ) (run : List ℕ) (o : Outcome) → p ≤ i → i + 1 + length run < length os → length os ≤ 65536
+run-sound : (s : Settings) (st : State) (os : List ℕ) (p i : ℕ) (run : List ℕ) (o : Outcome) → s .count ≤ 4 → p ≤ i → i + 1 + length run < length os → length os ≤ 65536
     → Sound os p (readRun s st i run o)
 unfolding readRun
-run-sound s st os p i run o low high small =
+run-sound s st os p i run o few low high small =
     let f : length (frameOf run) ≤ 65535 = (let w = frame-le run in omega arith) in
     record {
       place = omega arith;
       handed = part-small s o (i + 8) (frameOf run) f;
       status = status-small s o (frameOf run) f;
+      way = (let w = way-carried-le s (frameOf run) few o in omega arith);
       refused = refl;
       on = λ z. (omega arith, omega arith);
     }
@@ -147,7 +150,7 @@ module _ (s : Settings) (st : State) (os ms : List ℕ) (p : ℕ) (fine : first 
           let b = start-found os ms (k .even) p i g in
           let small = k .small in
           subst (Sound os p) (sym (read-open s st os ms p fine i g h))
-          (record { place = omega arith; handed = omega arith; status = lit< tt; refused = refl; on = λ z. absurd (false≢true z) })
+          (record { place = omega arith; handed = omega arith; status = lit< tt; way = lit< tt; refused = refl; on = λ z. absurd (false≢true z) })
       by-end i g (At e) h =
           let b = start-found os ms (k .even) p i g in
           let d = control-found os ms (k .even) (i + 1) e h in
@@ -155,13 +158,13 @@ module _ (s : Settings) (st : State) (os ms : List ℕ) (p : ℕ) (fine : first 
           let run = between os (i + 1) e in
           let n = run-length os (i + 1) e (omega arith) in
           subst (Sound os p) (sym (read-ended s st os ms p fine i g e h))
-          (run-sound s st os p i run (outcome s run (getD os e 0)) (omega arith) (omega arith) (omega arith))
+          (run-sound s st os p i run (outcome s run (getD os e 0)) (own-and-few s (k .valid) .1) (omega arith) (omega arith) (omega arith))
 
       by-start : (f : Found) → findStart (capture os ms) p ≡ f → Sound os p (reading s st os ms p)
       by-start Found.Nothing g =
           let small = k .small in
           subst (Sound os p) (sym (read-none s st os ms p fine g))
-          (record { place = omega arith; handed = omega arith; status = lit< tt; refused = refl; on = λ z. absurd (false≢true z) })
+          (record { place = omega arith; handed = omega arith; status = lit< tt; way = lit< tt; refused = refl; on = λ z. absurd (false≢true z) })
       by-start (At i) g = by-end i g (findControl (capture os ms) (i + 1)) refl
 
   -- nothing of it is cut off
@@ -183,7 +186,7 @@ module _ (s : Settings) (st : State) (os ms : List ℕ) (p : ℕ) (fine : first 
       record {
         place = mod-lt (r .start) (lit< tt);
         outcome = answer-small (r .answer);
-        zero = lit< tt;
+        way = reading-sound .way;
         handed = mod-lt (answerPart (r .answer) .len) (lit< tt);
         status = reading-sound .status;
       }
@@ -205,4 +208,4 @@ module _ (s : Settings) (st : State) (os ms : List ℕ) (p : ℕ) (fine : first 
       answer-small (Answer.Refused x) = lit< tt
       answer-small Nothing = lit< tt
       answer-small Open = lit< tt
-      answer-small (Counted o w q) = number-small o
+      answer-small (Counted o w q v) = number-small o

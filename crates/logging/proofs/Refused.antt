@@ -66,11 +66,11 @@ module _ (s : Settings) (os ms : List ℕ) where
       ap (λ (k : Keeping). endRefusal (k .given .end)) (turn-none s st os ms p n l (suc most) (omega arith) _ refl e)
   goes-turn most st p fine ih Answer.Open e n l =
       ap (λ (k : Keeping). endRefusal (k .given .end)) (turn-open s st os ms p n l (suc most) (omega arith) _ refl e)
-  goes-turn most st p fine ih (Counted o w q) e n l =
+  goes-turn most st p fine ih (Counted o w q v) e n l =
       let r = reading s st os ms p in
       let less : suc most - 1 ≡ most = omega arith in
       let m = appending l (recordOfReading r) .log in
-      by-appending s st os ms p n l (suc most) (omega arith) r refl o w q e Goes
+      by-appending s st os ms p n l (suc most) (omega arith) r refl o w q v e Goes
       (subst (λ (k : ℕ). Goes (keepFrom k s (r .state) os ms (r .next) (n + 1) m)) (sym less) (ih (ap isCounted e) (n + 1) m)) (λ x _. refl)
 
   goes-from : (most : ℕ) (st : State) (p : ℕ) → first (readRefusals s os ms p) ≡ Checked.Fine → GoesFrom most st p

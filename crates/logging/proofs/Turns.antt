@@ -53,9 +53,9 @@ number-some ControlDropped h = omega arith
 number-some HandedOut h = omega arith
 
 -- it has an outcome
-pub counted-some : (r : Reading) (o : Outcome) (w : ℕ) (q : Part) → r .answer ≡ Counted o w q → recordOfReading r .outcome ≡ 0 → ⊥
+pub counted-some : (r : Reading) (o : Outcome) (w : ℕ) (q : Part) (v : ℕ) → r .answer ≡ Counted o w q v → recordOfReading r .outcome ≡ 0 → ⊥
 unfolding recordOfReading
-counted-some r o w q e h = number-some o (sym (ap answerOutcome e) ∙ h)
+counted-some r o w q v e h = number-some o (sym (ap answerOutcome e) ∙ h)
 
 -- it is written over the first unused record: the search for the next one goes on behind it
 pub next-unused : (l : List ℕ) (k : ℕ) (r : Record) → Fits r → (r .outcome ≡ 0 → ⊥) → 16 * k + 16 ≤ length l → k ≡ frontCount l
@@ -79,7 +79,7 @@ module _ (s : Settings) (st : State) (os ms : List ℕ) (p n : ℕ) (l : List �
         | Answer.Refused x ↦ stopped (LogEnd.Refused (ByReading x)) (r .state) (r .next) n l
         | Answer.Nothing ↦ stopped Nothing (r .state) (r .next) n l
         | Answer.Open ↦ stopped Open (r .state) (r .next) n l
-        | Counted o w q ↦ given r (appending l (recordOfReading r))
+        | Counted o w q v ↦ given r (appending l (recordOfReading r))
       ]
 
   module _ (more : 0 < left) (r : Reading) (is : r ≡ reading s st os ms p) where
@@ -99,7 +99,7 @@ module _ (s : Settings) (st : State) (os ms : List ℕ) (p n : ℕ) (l : List �
     pub turn-open : r .answer ≡ Answer.Open → keepFrom left s st os ms p n l ≡ stopped Open (r .state) (r .next) n l
     turn-open e = here ∙ rw e
 
-    module _ (o : Outcome) (w : ℕ) (q : Part) (e : r .answer ≡ Counted o w q) where
+    module _ (o : Outcome) (w : ℕ) (q : Part) (v : ℕ) (e : r .answer ≡ Counted o w q v) where
       counted : keepFrom left s st os ms p n l ≡ given r (appending l (recordOfReading r))
       counted = here ∙ rw e
 
@@ -123,12 +123,12 @@ module _ (s : Settings) (st : State) (os ms : List ℕ) (p n : ℕ) (l : List �
       pub turn-full : IsMultiple l → frontCount l ≡ length l / 16 → keepFrom left s st os ms p n l ≡ stopped Full st p n l
       turn-full good h =
           counted
-          ∙ ap (given r) (append-full l (recordOfReading r) (good-log l good) (counts-so (recordOfReading r) (counted-some r o w q e)) (count-all l h))
+          ∙ ap (given r) (append-full l (recordOfReading r) (good-log l good) (counts-so (recordOfReading r) (counted-some r o w q v e)) (count-all l h))
 
       pub turn-kept : IsMultiple l → (k : ℕ) → k ≡ frontCount l → k < length l / 16
           → keepFrom left s st os ms p n l
           ≡ keepFrom (left - 1) s (r .state) os ms (r .next) (n + 1) (overwrite l (16 * k) (octetsOfRecord (recordOfReading r)))
-      turn-kept good k h lt = counted ∙ ap (given r) (append-at l (recordOfReading r) k good (counted-some r o w q e) h lt)
+      turn-kept good k h lt = counted ∙ ap (given r) (append-at l (recordOfReading r) k good (counted-some r o w q v e) h lt)
 
 -- ---- the whole walk
 

@@ -4,6 +4,7 @@ use mathlib.Core.List.{List}
 use Rattle.station.specs.declared.Settings.{Settings}
 use Rattle.station.specs.declared.Outcome.{Outcome}
 use Rattle.station.specs.Numbers.{outcomeNumber}
+use Rattle.control.specs.Control.{wayCarried}
 use Rattle.outcome.specs.Status.{status}
 use Rattle.receive.specs.Reading.{handedPart}
 use Rattle.log.specs.declared.Record.{Record}
@@ -11,4 +12,4 @@ use Rattle.logging.specs.Records.{recordAt}
 
 -- of a Start at place i whose frame is f
 unfoldable pub recordOfFrame : Settings → ℕ → List ℕ → Outcome → Record
-recordOfFrame s i f o = recordAt i (outcomeNumber o) (handedPart s o (i + 8) f .len) (status s o f)
+recordOfFrame s i f o = recordAt i (outcomeNumber o) (wayCarried s o f) (handedPart s o (i + 8) f .len) (status s o f)

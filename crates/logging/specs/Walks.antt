@@ -45,7 +45,7 @@ keepFrom (suc most) s st os ms place n l =
       | Answer.Refused x ↦ stopped (LogEnd.Refused (ByReading x)) (r .state) (r .next) n l
       | Answer.Nothing ↦ stopped Nothing (r .state) (r .next) n l
       | Answer.Open ↦ stopped Open (r .state) (r .next) n l
-      | Counted o w p ↦ elim (a .given) [
+      | Counted o w p v ↦ elim (a .given) [
         | Logged.Fine ↦ keepFrom most s (r .state) os ms (r .next) (n + 1) (a .log)
         | Logged.Refused x ↦ stopped Full st place n l
       ]

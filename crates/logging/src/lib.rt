@@ -64,14 +64,14 @@ pub struct LogWalk {
 
 // ---- one reading
 
-// The record of a reading with this outcome's number, its status word and so many octets handed out.
-fn record_at(start: usize, outcome: u8, handed: usize, status: u64) -> Record
-    ensures { λ r. ⌜ r ≡ recordAt start outcome handed status ⌝ }
+// The record of a reading with this outcome's number, the number of the address that let the frame in, so many octets handed out and its status word.
+fn record_at(start: usize, outcome: u8, way: u8, handed: usize, status: u64) -> Record
+    ensures { λ r. ⌜ r ≡ recordAt start outcome way handed status ⌝ }
 {
     Record {
         place: (start % 4294967296) as u32,
         outcome,
-        zero: 0,
+        way,
         handed: (handed % 65536) as u16,
         status,
     }
@@ -83,12 +83,13 @@ fn record_of(r: Reading) -> Record
 {
     let a = r.answer;
     match a {
-        Answer::Refused(_) => record_at(r.start, 0, 0, 0),
-        Answer::Nothing => record_at(r.start, 0, 0, 0),
-        Answer::Open => record_at(r.start, 0, 0, 0),
-        Answer::Counted(o, word, part) => record_at(
+        Answer::Refused(_) => record_at(r.start, 0, 0, 0, 0),
+        Answer::Nothing => record_at(r.start, 0, 0, 0, 0),
+        Answer::Open => record_at(r.start, 0, 0, 0, 0),
+        Answer::Counted(o, word, part, way) => record_at(
             r.start,
             station::outcome_number(o),
+            way,
             part.len,
             word,
         ),
@@ -124,7 +125,7 @@ fn handed_record(s: Settings, start: usize, f: &[u8], l: Layout) -> Record
 {
     let handed = frame::handed_length(s.checking, l.field, frame::frame_data(f, l.place));
     let word = outcome::status(Outcome::HandedOut, f, l, handed);
-    record_at(start, 11, handed, word)
+    record_at(start, 11, control::frame_way(s, f), handed, word)
 }
 
 // The same, of the frame alone. Most frames have no tag: with none named, much of the record is made of constants.
@@ -148,7 +149,8 @@ fn record_of_frame(s: Settings, start: usize, f: &[u8], o: Outcome) -> Record
         Outcome::HandedOut => handed_out(s, start, f),
         _ => {
             let word = outcome::status(o, f, fields::layout_of(f), 0);
-            record_at(start, station::outcome_number(o), 0, word)
+            let way = control::way_carried(s, o, f);
+            record_at(start, station::outcome_number(o), way, 0, word)
         }
     }
 }
@@ -159,7 +161,7 @@ fn record_of_run(s: Settings, start: usize, run: &[u8], o: Outcome) -> Record
     ensures { λ r. ⌜ r ≡ recordOfFrame s start (frameOf (now (run .entry))) o ⌝ }
 {
     if !tells(o) {
-        return record_at(start, station::outcome_number(o), 0, 0);
+        return record_at(start, station::outcome_number(o), 0, 0, 0);
     }
     record_of_frame(s, start, outcome::frame_of(run), o)
 }

@@ -147,7 +147,7 @@ fn answer(a: Answer, octets: &[u8]) {
         Answer::Open => {
             word(b"open");
         }
-        Answer::Counted(o, status, part) => {
+        Answer::Counted(o, status, part, _way) => {
             let k = station::outcome_number(o);
             number(b"outcome", k as usize);
             handed(status, part, octets);
@@ -191,7 +191,7 @@ fn is_counted(a: Answer) -> bool {
         Answer::Refused(_) => false,
         Answer::Nothing => false,
         Answer::Open => false,
-        Answer::Counted(_, _, _) => true,
+        Answer::Counted(_, _, _, _) => true,
     }
 }
 

@@ -17,6 +17,7 @@ use Rattle.station.specs.Numbers.{byOutcome}
 use Rattle.frame.specs.Length.{clientData}
 use Rattle.receive.specs.declared.Answer.the-variants.{Counted}
 use Rattle.receive.specs.declared.Reading.{Reading}
+use Rattle.control.specs.Control.{wayCarried}
 use Rattle.outcome.specs.Outcomes.{outcome, frameOf}
 use Rattle.outcome.specs.Status.{status}
 use Rattle.receive.specs.Reading.{handedPart, readRun, readStart}
@@ -60,20 +61,20 @@ module _ (s : Settings) (os ms : List ℕ) where
   c = capture os ms
 
   -- one counted Start
-  hands : (i : ℕ) (r : List ℕ) (w : ℕ) (o : Outcome) → r ≡ run (drop (i + 1) c)
-      → handedBy os (Counted o w (handedPart s o (i + 8) (frameOf r))) ≡ byOutcome o [] [] [] [] (clientData (s .checking) (frameOf r) ∷ [])
+  hands : (i : ℕ) (r : List ℕ) (w v : ℕ) (o : Outcome) → r ≡ run (drop (i + 1) c)
+      → handedBy os (Counted o w (handedPart s o (i + 8) (frameOf r)) v) ≡ byOutcome o [] [] [] [] (clientData (s .checking) (frameOf r) ∷ [])
   unfolding handedBy handedPart
-  hands i r w Cut e = refl
-  hands i r w BadPreamble e = refl
-  hands i r w Undersized e = refl
-  hands i r w Oversized e = refl
-  hands i r w WrongFcs e = refl
-  hands i r w WrongLength e = refl
-  hands i r w Filtered e = refl
-  hands i r w PauseTaken e = refl
-  hands i r w PfcTaken e = refl
-  hands i r w ControlDropped e = refl
-  hands i r w HandedOut e = rw e (ap (λ (d : List ℕ). d ∷ []) (handed-part (s .checking) os ms i))
+  hands i r w v Cut e = refl
+  hands i r w v BadPreamble e = refl
+  hands i r w v Undersized e = refl
+  hands i r w v Oversized e = refl
+  hands i r w v WrongFcs e = refl
+  hands i r w v WrongLength e = refl
+  hands i r w v Filtered e = refl
+  hands i r w v PauseTaken e = refl
+  hands i r w v PfcTaken e = refl
+  hands i r w v ControlDropped e = refl
+  hands i r w v HandedOut e = rw e (ap (λ (d : List ℕ). d ∷ []) (handed-part (s .checking) os ms i))
 
   hands-one : (n : ℕ) (st : State) (i : ℕ) (f : AfterStart) (l : List MetStart) → (f ≡ unended → l ≡ []) → f ≡ afterStart (drop (i + 1) c)
       → ((st : State) → handedOut os (through s st n l) ≡ clients s l)
@@ -82,7 +83,7 @@ module _ (s : Settings) (os ms : List ℕ) where
   hands-one n st i unended l last e ih = ap (clients s) (sym (last refl))
   hands-one n st i (ended r by) l last e ih =
       ap₂ (λ (a b : List (List ℕ)). a ++ b)
-      (hands i r (status s (outcome s r by) (frameOf r)) (outcome s r by) (same-run r by (drop (i + 1) c) (ending (drop (i + 1) c)) refl e))
+      (hands i r (status s (outcome s r by) (frameOf r)) (wayCarried s (outcome s r by) (frameOf r)) (outcome s r by) (same-run r by (drop (i + 1) c) (ending (drop (i + 1) c)) refl e))
       (ih (readStart s st i (ended r by) .state))
 
   hands-all : (n : ℕ) (st : State) (l : List MetStart) → OpenLast l → Placed c l → handedOut os (through s st n l) ≡ clients s l

@@ -14,3 +14,4 @@ pub mod Sum
 pub mod Timers
 pub mod Unique
 pub mod Walk
+pub mod Ways

@@ -23,6 +23,7 @@ use Rattle.station.specs.declared.Checked.{Checked}
 use Rattle.station.specs.declared.Checked.the-variants.{Fine}
 use Rattle.receive.specs.declared.Answer.the-variants.{Nothing, Open, Counted}
 use Rattle.receive.specs.declared.Reading.{Reading}
+use Rattle.control.specs.Control.{wayCarried}
 use Rattle.outcome.specs.Outcomes.{outcome, frameOf}
 use Rattle.outcome.specs.Status.{status}
 use Rattle.receive.specs.Reading.{readRun, readStart, readFound, readAt, readRefusals, readChecked, reading, handedPart}
@@ -79,7 +80,7 @@ module _ (s : Settings) (n : ℕ) where
   whole-one st i (ended r by) ms ih =
       let f : List ℕ = frameOf r in
       let o = outcome s r by in
-      counts o (status s o f) (handedPart s o (i + 8) f) refl (ih (readStart s st i (ended r by) .state))
+      counts o (status s o f) (handedPart s o (i + 8) f) (wayCarried s o f) refl (ih (readStart s st i (ended r by) .state))
 
   whole : (st : State) (ms : List MetStart) → Whole (through s st n ms)
   unfolding through

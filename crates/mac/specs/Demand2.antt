@@ -28,7 +28,7 @@ unfoldable pub placeFound : Answer → ℕ → List ℕ
 placeFound (Refused x) place = []
 placeFound Nothing place = []
 placeFound Open place = place ∷ []
-placeFound (Counted o w p) place = place ∷ []
+placeFound (Counted o w p v) place = place ∷ []
 
 unfoldable pub placesFound : List Reading → List ℕ
 placesFound [] = []
@@ -43,14 +43,14 @@ startPlaces (m ∷ ms) = m .place ∷ startPlaces ms
 pub data Whole : List Reading → Type 0 where
   ends-none : {r : Reading} → r .answer ≡ Nothing → Whole (r ∷ [])
   ends-open : {r : Reading} → r .answer ≡ Open → Whole (r ∷ [])
-  counts : {r : Reading} {rs : List Reading} (o : Outcome) (w : ℕ) (p : Part) → r .answer ≡ Counted o w p → Whole rs → Whole (r ∷ rs)
+  counts : {r : Reading} {rs : List Reading} (o : Outcome) (w : ℕ) (p : Part) (v : ℕ) → r .answer ≡ Counted o w p v → Whole rs → Whole (r ∷ rs)
 
 -- the last reading was `open`
 unfoldable pub isOpen : Answer → Bool
 isOpen (Refused x) = false
 isOpen Nothing = false
 isOpen Open = true
-isOpen (Counted o w p) = false
+isOpen (Counted o w p v) = false
 
 unfoldable pub endsOpen : List Reading → Bool
 endsOpen [] = false

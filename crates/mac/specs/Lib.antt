@@ -6,3 +6,4 @@ pub mod LikeError
 pub mod Limits
 pub mod Port
 pub mod Starts
+pub mod Ways

@@ -10,6 +10,7 @@ use Rattle.station.specs.declared.Outcome.{Outcome}
 use Rattle.station.specs.Numbers.{outcomeNumber, byOutcome}
 use Rattle.station.specs.Station.{counterSize, counter}
 use Rattle.frame.specs.Length.{clientData}
+use Rattle.control.specs.Control.{wayCarried}
 use Rattle.outcome.specs.Outcomes.{outcome, frameOf}
 use Rattle.outcome.specs.Status.{status}
 use Rattle.receive.specs.declared.Answer.the-variants.{Nothing, Open, Counted}
@@ -20,8 +21,8 @@ use Rattle.receive.specs.Reading.{partOf, handedPart}
 -- what the Start at a place, whose frame is f and whose outcome is o, gets from the reading r that is made of it with the state st
 pub record Gets (s : Settings) (os : List ℕ) (st : State) (place : ℕ) (f : List ℕ) (o : Outcome) (r : Reading) : Type 0 where
   pub start : r .start ≡ place
-  -- "the one outcome", "that frame's … status word", and a part of the captured octets
-  pub answer : r .answer ≡ Counted o (status s o f) (handedPart s o (place + 8) f)
+  -- "the one outcome", "that frame's … status word", a part of the captured octets, and which address let it in (document 02, item 7)
+  pub answer : r .answer ≡ Counted o (status s o f) (handedPart s o (place + 8) f) (wayCarried s o f)
   -- "what is handed out is that frame's client data": its octets; none by outcomes 1 to 10
   pub hands : partOf os (answerPart (r .answer)) ≡ byOutcome o [] [] [] [] (clientData (s .checking) f)
   -- "its counter rises by one modulo" 2^64, and no other does

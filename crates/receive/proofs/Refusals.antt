@@ -1,7 +1,7 @@
 -- What a reading that is not refused knows of its settings, buffers and place. Assumes nothing.
 use Prim.Native.Nat.{ℕ, _≤_}
 use mathlib.Core.Path.{_≡_, _∙_}
-use mathlib.Core.Bool.{false, not}
+use mathlib.Core.Bool.{false, not, _||_}
 use mathlib.Core.List.{List}
 use lib.ListN.{length}
 use lib.Dec.{eqb, ltb}
@@ -12,8 +12,17 @@ use Rattle.station.proofs.Refusals.{fine-row, or-false, not-false}
 use Rattle.station.specs.declared.Settings.{Settings}
 use Rattle.station.specs.declared.Refusal.the-variants.{BadSettings, BadBuffers, BadPlace}
 use Rattle.station.specs.declared.Checked.the-variants.{Fine, Refused}
-use Rattle.station.specs.Station.{badSettings, badBuffers, badPlace}
+use Rattle.station.specs.Station.{isGroup, badSettings, badBuffers, badPlace}
 use Rattle.receive.specs.Reading.{readRefusals}
+
+-- settings that are not refused: the own address is no group address, and at most four are listed
+pub own-and-few : (s : Settings) → badSettings s ≡ false → (isGroup (s .own .0) ≡ false) × (s .count ≤ 4)
+unfolding badSettings
+own-and-few s h =
+    let high = or-false (isGroup (s .own .0) || ltb 4 (s .count) || ltb (s .limit) 1518) (ltb 9618 (s .limit)) h in
+    let low = or-false (isGroup (s .own .0) || ltb 4 (s .count)) (ltb (s .limit) 1518) (high .0) in
+    let own = or-false (isGroup (s .own .0)) (ltb 4 (s .count)) (low .0) in
+    (own .0, ltb-false 4 (s .count) (own .1))
 
 pub record Passed (s : Settings) (os ms : List ℕ) (p : ℕ) : Type 0 where
   pub valid : badSettings s ≡ false

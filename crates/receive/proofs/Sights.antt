@@ -10,6 +10,7 @@ use Rattle.station.specs.declared.Settings.{Settings}
 use Rattle.station.specs.declared.Slots.{Slots}
 use Rattle.station.specs.declared.State.{State}
 use Rattle.station.specs.declared.Outcome.{Outcome}
+use Rattle.control.specs.Control.{wayCarried}
 use Rattle.outcome.specs.Outcomes.{frameOf}
 use Rattle.outcome.specs.Status.{status}
 use Rattle.receive.specs.declared.Answer.{Answer}
@@ -29,7 +30,7 @@ pub sight-read : (s : Settings) (os : List ℕ) (i : ℕ) (run : List ℕ) (o : 
 unfolding sightOf readOf afterSight readRun
 sight-read s os i run o st h =
     ap (λ (r : List ℕ). record {
-      answer = Counted o (status s o (frameOf run)) (handedPart s o (i + 8) (frameOf run));
+      answer = Counted o (status s o (frameOf run)) (handedPart s o (i + 8) (frameOf run)) (wayCarried s o (frameOf run));
       start = i;
       next = i + 1 + length run;
       state = stateAfter o (frameOf r) st;
@@ -43,8 +44,8 @@ unfolding afterSight
 not-counted os l st h = go (l .answer) h
   where
     go : (a : Answer) → OneOf others (tagOf the-type a)
-        → st ≡ elim a [ Refused x ↦ st | Nothing ↦ st | Open ↦ st | Counted o w p ↦ stateAfter o (frameOf (between os (l .start + 1) (l .next))) st ]
+        → st ≡ elim a [ Refused x ↦ st | Nothing ↦ st | Open ↦ st | Counted o w p v ↦ stateAfter o (frameOf (between os (l .start + 1) (l .next))) st ]
     go (Refused x) k = refl
     go Nothing k = refl
     go Open k = refl
-    go (Counted o w p) k = absurd (miss others 3 tt k)
+    go (Counted o w p v) k = absurd (miss others 3 tt k)

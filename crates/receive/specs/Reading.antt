@@ -19,6 +19,7 @@ use Rattle.station.specs.Numbers.{byOutcome}
 use Rattle.station.specs.Station.{badSettings, badBuffers, badPlace, counted, withCounters, withTimers}
 use Rattle.fields.specs.Fields.{dataPlace}
 use Rattle.frame.specs.Length.{handedLength}
+use Rattle.control.specs.Control.{wayCarried}
 use Rattle.flow.specs.Timers.{timersAfter}
 use Rattle.receive.specs.declared.Answer.{Answer}
 use Rattle.receive.specs.declared.Answer.the-variants.{Open, Counted}
@@ -41,11 +42,11 @@ handedPart s o at f =
     byOutcome o emptyPart emptyPart emptyPart emptyPart (record { at = at + dataPlace f; len = handedLength (s .checking) f })
 
 -- "Else the next place is that of the ending control symbol": a Start at place i, and the outcome of its run. The frame begins after the Start and
--- the preamble.
+-- the preamble. Document 02, item 7: "The reading carries the number" of the address that let the frame in.
 unfoldable pub readRun : Settings → State → ℕ → List ℕ → Outcome → Reading
 readRun s st i run o =
     record {
-      answer = Counted o (status s o (frameOf run)) (handedPart s o (i + 8) (frameOf run));
+      answer = Counted o (status s o (frameOf run)) (handedPart s o (i + 8) (frameOf run)) (wayCarried s o (frameOf run));
       start = i;
       next = i + 1 + length run;
       state = stateAfter o (frameOf run) st;

@@ -14,6 +14,7 @@ use Rattle.station.specs.Numbers.{byOutcome}
 use Rattle.fields.specs.declared.Layout.{Layout}
 use Rattle.frame.specs.Frame.{dataFrom}
 use Rattle.frame.specs.Length.{handedOf}
+use Rattle.control.specs.Control.{wayCarried}
 use Rattle.outcome.specs.Outcomes.{frameOf}
 use Rattle.outcome.specs.Status.{status}
 use Rattle.receive.specs.declared.Answer.the-variants.{Refused, Nothing, Open, Counted}
@@ -30,7 +31,12 @@ partAt checking o at f l =
 
 -- what is seen of a Start at place i, and the outcome of its run
 unfoldable pub sightOf : Settings → ℕ → List ℕ → Outcome → Sight
-sightOf s i run o = record { answer = Counted o (status s o (frameOf run)) (handedPart s o (i + 8) (frameOf run)); start = i; next = i + 1 + length run }
+sightOf s i run o =
+    record {
+      answer = Counted o (status s o (frameOf run)) (handedPart s o (i + 8) (frameOf run)) (wayCarried s o (frameOf run));
+      start = i;
+      next = i + 1 + length run;
+    }
 
 -- the state after it: the run of a Start that is counted stands between its two places
 unfoldable pub afterSight : List ℕ → Sight → State → State
@@ -39,7 +45,7 @@ afterSight os l st =
       | Refused x ↦ st
       | Nothing ↦ st
       | Open ↦ st
-      | Counted o w p ↦ stateAfter o (frameOf (between os (l .start + 1) (l .next))) st
+      | Counted o w p v ↦ stateAfter o (frameOf (between os (l .start + 1) (l .next))) st
     ]
 
 unfoldable pub readOf : List ℕ → Sight → State → Reading

@@ -36,7 +36,7 @@ walkOf n st (r ∷ rs) =
       | Answer.Refused x ↦ record { answer = Walked.Refused x; state = r .state }
       | Nothing ↦ record { answer = Ended n false; state = r .state }
       | Open ↦ record { answer = Ended n true; state = r .state }
-      | Counted o w p ↦ walkOf (n + 1) (r .state) rs
+      | Counted o w p v ↦ walkOf (n + 1) (r .state) rs
     ]
 
 -- the whole walk in one call
@@ -48,7 +48,7 @@ unfoldable pub handedBy : List ℕ → Answer → List (List ℕ)
 handedBy os (Answer.Refused x) = []
 handedBy os Nothing = []
 handedBy os Open = []
-handedBy os (Counted o w p) = byOutcome o [] [] [] [] (partOf os p ∷ [])
+handedBy os (Counted o w p v) = byOutcome o [] [] [] [] (partOf os p ∷ [])
 
 -- what readings hand out, in order
 unfoldable pub handedOut : List ℕ → List Reading → List (List ℕ)

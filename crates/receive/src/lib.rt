@@ -12,6 +12,8 @@ ghost use Prim.Native.Nat.{_+_, _≤_};
 ghost use lib.ListN.{length};
 ghost use Rattle.line.specs.Table.{first};
 ghost use Rattle.fcs.specs.Lent.{Lent};
+ghost use Rattle.control.specs.Control.{wayCarried};
+ghost use Rattle.outcome.specs.Outcomes.{frameOf};
 ghost use Rattle.station.specs.declared.Checked.the-variants.{Fine};
 ghost use Rattle.receive.specs.Reading.{readRefusals, reading, partOf};
 ghost use Rattle.receive.specs.Steps.{partAt, sightOf, Inside, Seen, afterSight};
@@ -24,8 +26,9 @@ pub enum Answer {
     Nothing,
     // `open`
     Open,
-    // outcome, status word, and the client data as a part of the captured octets (0 and 0 for outcomes 1 to 10)
-    Counted(Outcome, u64, Part),
+    // outcome, status word, the client data as a part of the captured octets (0 and 0 for outcomes 1 to 10), and which address let the frame in (0 for
+    // outcomes 1 to 7; document 02, item 7)
+    Counted(Outcome, u64, Part, u8),
 }
 
 pub struct Reading {
@@ -72,9 +75,9 @@ fn handed_part(checking: bool, o: Outcome, at: usize, f: &[u8], l: Layout) -> Pa
     }
 }
 
-// What is seen of a Start at place `start` whose run has this outcome.
-fn look_run(s: Settings, start: usize, run: &[u8], o: Outcome) -> Sight
-    requires { ⌜ (start ≤ 65536) × (length (now run) ≤ 65536) ⌝ }
+// What is seen of a Start at place `start` whose run has this outcome and carries this number of the address that let the frame in.
+fn look_run(s: Settings, start: usize, run: &[u8], o: Outcome, way: u8) -> Sight
+    requires { ⌜ (start ≤ 65536) × (length (now run) ≤ 65536) × (way ≡ wayCarried s o (frameOf (now run))) ⌝ }
     ensures { λ r. ⌜ r ≡ sightOf s start (now (run .entry)) o ⌝ }
 {
     let f = outcome::frame_of(run);
@@ -82,7 +85,7 @@ fn look_run(s: Settings, start: usize, run: &[u8], o: Outcome) -> Sight
     let part = handed_part(s.checking, o, start + 8, f, l);
     let word = outcome::status(o, f, l, part.len);
     Sight {
-        answer: Answer::Counted(o, word, part),
+        answer: Answer::Counted(o, word, part, way),
         start,
         next: start + 1 + run.len(),
     }
@@ -134,7 +137,13 @@ fn look(s: Settings, octets: &[u8], marks: &[u8], place: usize) -> Sight
     // a single reading has no time to make tables
     let none = [0u32; 1];
     let o = outcome::outcome(&none[..0], s, &octets[from..end], octets[end]);
-    look_run(s, start, &octets[from..end], o)
+    // here and not in `look_run`: settings that are lent on from one place only are not taken apart, which is a sixth of a short reading
+    let way = match o {
+        Outcome::PauseTaken | Outcome::PfcTaken | Outcome::ControlDropped | Outcome::HandedOut =>
+            control::frame_way(s, outcome::frame_of(&octets[from..end])),
+        _ => 0,
+    };
+    look_run(s, start, &octets[from..end], o, way)
 }
 
 // The state after a reading that saw this. Counters and timers are put together once, and not on each way: that is a sixth of a short reading.
@@ -145,7 +154,7 @@ fn state_after(seen: Sight, octets: &[u8], state: State) -> State
     let answer = seen.answer;
     let mut counters = state.counters;
     let mut timers = state.timers;
-    if let Answer::Counted(o, _word, _part) = answer {
+    if let Answer::Counted(o, _word, _part, _way) = answer {
         station::count(o, &mut counters);
         if flow::sets_timers(o) {
             let from = seen.start + 1;

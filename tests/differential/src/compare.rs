@@ -4,7 +4,7 @@ use crate::generate::{Sending, Symbols};
 use crate::prng::Prng;
 use crate::seen::{By, FcsSeen, ReadingSeen, SendingSeen, WalkSeen};
 use crate::{face, names, show};
-use fenhamper::{Capture, Counted, Fcs, Refusal, Sender};
+use fenhamper::{Capture, Counted, Fcs, Refusal, Sender, Way};
 use reference::{Answer, Check, Port, Reading, Sent, Settings, State};
 use std::fmt;
 
@@ -180,11 +180,16 @@ impl Bench {
         let parts = parts(counted.data, octets, expected);
         self.same((call, "data"), parts, &inputs)?;
         let Answer::Counted {
-            outcome, status, ..
+            outcome,
+            status,
+            address,
+            ..
         } = expected.answer
         else {
             return Ok(());
         };
+        let ways = (counted.way, Way::from_number(address));
+        self.same((call, "way"), ways, &inputs)?;
         let names = (counted.outcome.name(), names::outcome(outcome));
         self.same((call, "outcome's name"), names, &inputs)?;
         let statuses = (face::status(counted.status), names::status(status));

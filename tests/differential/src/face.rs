@@ -1,6 +1,6 @@
 //! The reference's values as those of the library's face, and back.
 use crate::names::StatusParts;
-use fenhamper::{Address, Counted, End, Refusal, Status};
+use fenhamper::{Address, Counted, End, Refusal, Status, Way};
 use reference::{Answer, Client, Flow, Form, LogEnd, Logged, Reading, Record};
 use reference::{Port, Sent, Settings, State, Tag, TagKind, Walked};
 
@@ -81,6 +81,7 @@ pub fn counted(counted: &Counted) -> Reading {
             status: counted.status.word(),
             at: counted.at,
             len: counted.data.len(),
+            address: counted.way.map_or(0, Way::number),
         },
         start: counted.start,
         next: counted.next,
@@ -118,7 +119,7 @@ pub fn record(record: &Record) -> fenhamper::Record {
     fenhamper::Record {
         place: record.place,
         outcome_number: record.outcome,
-        zero: record.zero,
+        way_number: record.address,
         data_length: record.handed,
         status: Status::new(record.status),
     }

@@ -61,6 +61,7 @@ pub const READING_NEXT: usize = 4;
 pub const READING_STATUS: usize = 5;
 pub const READING_DATA_PLACE: usize = 6;
 pub const READING_DATA_LENGTH: usize = 7;
+pub const READING_WAY: usize = 8;
 
 /// Kinds of readings.
 pub const COUNTED: u64 = 0;
@@ -89,7 +90,7 @@ pub const END_FULL: u64 = 3;
 pub const RECORD: usize = 16;
 pub const RECORD_PLACE: usize = 0;
 pub const RECORD_OUTCOME: usize = 4;
-pub const RECORD_ZERO: usize = 5;
+pub const RECORD_WAY: usize = 5;
 pub const RECORD_DATA_LENGTH: usize = 6;
 pub const RECORD_STATUS: usize = 8;
 

@@ -103,12 +103,14 @@ pub fn reading(reading: Reading) -> [u64; raw::READING] {
             status,
             at,
             len,
+            address,
         } => {
             record[raw::READING_KIND] = raw::COUNTED;
             record[raw::READING_OUTCOME] = u64::from(outcome);
             record[raw::READING_STATUS] = status;
             record[raw::READING_DATA_PLACE] = at as u64;
             record[raw::READING_DATA_LENGTH] = len as u64;
+            record[raw::READING_WAY] = u64::from(address);
         }
     }
     record
@@ -133,7 +135,7 @@ pub fn record(record: &raw::Record) -> Record {
     Record {
         place: u32::from_le_bytes(part(octets, raw::RECORD_PLACE)),
         outcome: octets[raw::RECORD_OUTCOME],
-        zero: octets[raw::RECORD_ZERO],
+        address: octets[raw::RECORD_WAY],
         handed: u16::from_le_bytes(part(octets, raw::RECORD_DATA_LENGTH)),
         status: u64::from_le_bytes(part(octets, raw::RECORD_STATUS)),
     }
@@ -144,7 +146,7 @@ pub fn record_written(record: &Record) -> raw::Record {
     let mut octets = [0; raw::RECORD];
     octets[raw::RECORD_PLACE..][..4].copy_from_slice(&record.place.to_le_bytes());
     octets[raw::RECORD_OUTCOME] = record.outcome;
-    octets[raw::RECORD_ZERO] = record.zero;
+    octets[raw::RECORD_WAY] = record.address;
     octets[raw::RECORD_DATA_LENGTH..][..2].copy_from_slice(&record.handed.to_le_bytes());
     octets[raw::RECORD_STATUS..][..8].copy_from_slice(&record.status.to_le_bytes());
     raw::Record(octets)
@@ -156,7 +158,7 @@ pub fn reading_record(reading: &[u64; raw::READING]) -> Record {
     Record {
         place: reading[raw::READING_START] as u32,
         outcome: reading[raw::READING_OUTCOME] as u8,
-        zero: 0,
+        address: reading[raw::READING_WAY] as u8,
         handed: reading[raw::READING_DATA_LENGTH] as u16,
         status: reading[raw::READING_STATUS],
     }

@@ -173,6 +173,8 @@ pub struct ReadingSeen<'a> {
     pub status: u64,
     /// How many octets were handed out.
     pub handed: usize,
+    /// Which address let the frame in, or 0.
+    pub way: u8,
     /// The data symbols behind a counted Start.
     pub run: &'a [u8],
     /// The frame of a counted Start.
@@ -201,6 +203,7 @@ impl<'a> ReadingSeen<'a> {
             outcome: 0,
             status: 0,
             handed: 0,
+            way: 0,
             run: &[],
             frame: None,
         };
@@ -211,9 +214,11 @@ impl<'a> ReadingSeen<'a> {
                 outcome,
                 status,
                 len,
+                address,
                 ..
             } => {
                 (seen.outcome, seen.status, seen.handed) = (outcome, status, len);
+                seen.way = address;
                 seen.run = &octets[reading.start + 1..reading.next];
                 let frame = seen.run.strip_prefix(&PREAMBLE);
                 seen.frame = frame.map(|octets| FrameSeen::new(octets, outcome));

@@ -8,13 +8,13 @@ use reference::{read, Answer, Check, LogEnd, Logged, Record, Settings, State};
 const RECORD: usize = 16;
 
 /// "place (4 octets, low first), outcome (1), zero (1), octets handed out (2, low first), status
-/// word (8, low first)".
+/// word (8, low first)"; item 7's number stands in the zero octet.
 pub fn octets_of(r: &Record) -> [u8; RECORD] {
     let octet = |number: u64, i: usize| (number >> (8 * i) & 0xFF) as u8;
     std::array::from_fn(|i| match i {
         0..=3 => octet(r.place.into(), i),
         4 => r.outcome,
-        5 => r.zero,
+        5 => r.address,
         6..=7 => octet(r.handed.into(), i - 6),
         _ => octet(r.status, i - 8),
     })

@@ -1,89 +1,16 @@
--- `address::to_listed` meets its contract: what is left of the list decides. Assumes nothing.
+-- `address::to_listed` meets its contract: an entry that matches has a number above 0. Assumes nothing.
 use borrow.Author.Needs.{needs}
-use Prim.Native.Nat.{_≤_, _-_}
-use Rattle.address.proofs.Address.{among-here, among-next, among-end, mapped-length}
-use Rattle.address.specs.Address.{among}
-use Rattle.fields.specs.Fields.{destination}
-use denote.Ref.{now}
-use lib.ListN.{length, take, drop, length-take}
-use mathlib.Core.List.{[]}
-use mathlib.Core.Path.{_≡_, refl, sym, _∙_}
-use native.Mathlib.Omega.{arith}
+use mathlib.Core.Path.{ap, _∙_}
+use lib.Dec.{ltb}
+use Rattle.address.proofs.Ways.{listed-among}
 use Rattle.address.proofs.to_listed.Statement.{statement}
 use Rattle.address.proofs.to_listed.Tie as tie
 
-abbrev Inv-loop : tie.InvT-loop
-Inv-loop f count listed n k₀ k =
-    (k ≤ n)
-    × (n ≤ 4)
-    × (n ≡ length (take count listed))
-    × (among (destination f) (drop k (take count listed)) ≡ among (destination f) (take count listed))
+listed-way-requires : tie.Need-listed-way-requires
+listed-way-requires c κs = search needs
 
-abbrev μ-loop : tie.MeasureT-loop
-μ-loop f count listed n k₀ k = n - k
-
-smaller-requires : tie.Need-smaller-requires Inv-loop μ-loop
-smaller-requires c κs = search needs
-
-loop-holds : tie.Need-loop-holds Inv-loop μ-loop
-loop-holds c =
-    let a = c .before .before .args in
-    let four : length (a .t2) ≡ 4 = search (mapped-length) in
-    (search needs, omega arith, omega (arith, length-take (a .count) (a .t2)), refl)
-
-mul-a : tie.Need-mul-a Inv-loop μ-loop
-mul-a c = search needs
-
-array-copy-out-a : tie.Need-array-copy-out-a Inv-loop μ-loop
-array-copy-out-a c = omega arith
-
-to-requires : tie.Need-to-requires Inv-loop μ-loop
-to-requires c κs = search needs
-
-returns : tie.Need-returns Inv-loop μ-loop
-returns c =
-    let l = c .before .before .before .before in
-    let a = l .before .before .before .args in
-    sym
-    (sym (l .loop .inv .3)
-    ∙ among-here (destination (now (a .f))) (a .t2) (a .count) (l .loop .k) (record { 0 = [] }) (omega arith) (sym (c .before .to .ensures) ∙ c .if1 .taken))
-
-add-k : tie.Need-add-k Inv-loop μ-loop
-add-k c = omega arith
-
-loop-less : tie.Need-loop-less Inv-loop μ-loop
-loop-less c = omega arith
-
-loop-again : tie.Need-loop-again Inv-loop μ-loop
-loop-again c =
-    let l = c .before .before .before .before in
-    let a = l .before .before .before .args in (
-      omega arith,
-      l .loop .inv .1,
-      l .loop .inv .2,
-      among-next (destination (now (a .f))) (a .t2) (a .count) (l .loop .k) (record { 0 = [] }) (omega arith) (sym (c .before .to .ensures) ∙ c .if1 .left)
-          ∙ l .loop .inv .3,
-    )
-
-returns-2 : tie.Need-returns-2 Inv-loop μ-loop
-returns-2 c =
-    let l = c .before in
-    let a = l .before .before .before .args in
-    sym (sym (l .loop .inv .3) ∙ among-end (destination (now (a .f))) (take (a .count) (a .t2)) (l .loop .k) (omega arith))
+returns : tie.Need-returns
+returns c = ap (ltb 0) (c .listed-way .ensures) ∙ listed-among _ _
 
 pub to-listed-spec : {M : Type 1} → statement M
-to-listed-spec =
-    tie.close
-    (tie.spec
-    Inv-loop
-    μ-loop
-    smaller-requires
-    loop-holds
-    mul-a
-    array-copy-out-a
-    to-requires
-    returns
-    add-k
-    loop-less
-    loop-again
-    returns-2)
+to-listed-spec = tie.close (tie.spec listed-way-requires returns)

@@ -28,6 +28,9 @@ outcome-number-requires c κs = search needs
 cast-n-2 : tie.Need-cast-n-2
 cast-n-2 c = search needs
 
+cast-w : tie.Need-cast-w
+cast-w c = search needs
+
 returns : tie.Need-returns
 unfolding readingNumbers
 returns c = simp (c .before .before .answer .given .1, c .refusal-number .ensures)
@@ -56,6 +59,7 @@ reading-numbers-spec =
     enum-known-answer-2
     outcome-number-requires
     cast-n-2
+    cast-w
     returns
     returns-2
     returns-3

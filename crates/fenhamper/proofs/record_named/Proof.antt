@@ -25,6 +25,12 @@ cast-t16 c = search needs
 element-copy-out-t19 : tie.Need-element-copy-out-t19
 element-copy-out-t19 c = search needs
 
+cast-t21 : tie.Need-cast-t21
+cast-t21 c = search needs
+
+element-copy-out-t24 : tie.Need-element-copy-out-t24
+element-copy-out-t24 c = search needs
+
 returns : tie.Need-returns
 unfolding recordNamed lowAt
 returns c = search needs
@@ -40,4 +46,6 @@ record-named-spec =
     element-copy-out-t14
     cast-t16
     element-copy-out-t19
+    cast-t21
+    element-copy-out-t24
     returns)

@@ -137,7 +137,7 @@ loop-again c =
       search needs,
       omega arith,
       omega arith,
-      rest-more (l .loop .inv .3) (p .0) (lines-counted _ _ _ _ _ _ _ more _ (c .before .before .before .before .before .before .before .before .read .ensures) _ _ _ (c .before .before .before .before .before .before .a .given .1)),
+      rest-more (l .loop .inv .3) (p .0) (lines-counted _ _ _ _ _ _ _ more _ (c .before .before .before .before .before .before .before .before .read .ensures) _ _ _ _ (c .before .before .before .before .before .before .a .given .1)),
     )
 
 put-last-requires-4 : tie.Need-put-last-requires-4 Inv-loop μ-loop

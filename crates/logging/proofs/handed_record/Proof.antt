@@ -11,6 +11,7 @@ use Rattle.fields.proofs.Places.{layout-field, layout-place}
 use Rattle.frame.specs.Frame.{dataFrom, frameData}
 use Rattle.frame.specs.Length.{handedOf, clientData, handedLength}
 use Rattle.frame.proofs.Length.{data-length, handed-le}
+use Rattle.control.specs.Control.{wayCarried}
 use Rattle.receive.specs.Reading.{handedPart}
 use Rattle.logging.proofs.Loops.{laid-record}
 use Rattle.logging.proofs.handed_record.Statement.{statement}
@@ -47,15 +48,24 @@ status-requires c κs =
     let small = call c .pre .0 in
     (small, omega (arith, handed-is c, handed-le (a .l .field) (dataFrom (a .l .place) (now (a .f))) (a .s .checking), data-length (a .l .place) (now (a .f))))
 
+frame-way-requires : tie.Need-frame-way-requires
+frame-way-requires c κs = search needs
+
 record-at-requires : tie.Need-record-at-requires
 record-at-requires c κs = search needs
 
+-- the number of the address: outcome 11 carries the frame's
+way-is : (c : tie.After-frame-way) → let a = call (c .before .before) .args in c .frame-way .result ≡ wayCarried (a .s) HandedOut (now (a .f))
+unfolding wayCarried
+way-is c = c .frame-way .ensures
+
 returns : tie.Need-returns
 returns c =
-    let h = c .before .before in
+    let w = c .before .before in
+    let h = w .before in
     let a = call h .args in
     c .record-at .ensures
-    ∙ laid-record (a .s) (a .start) (now (a .f)) HandedOut _ _ _ (call h .pre .1) (handed-own h) (c .before .status .ensures)
+    ∙ laid-record (a .s) (a .start) (now (a .f)) HandedOut _ _ _ _ (call h .pre .1) (way-is (c .before)) (handed-own h) (w .status .ensures)
 
 pub handed-record-spec : {M : Type 1} → statement M
 handed-record-spec =
@@ -64,5 +74,6 @@ handed-record-spec =
     frame-data-requires
     handed-length-requires
     status-requires
+    frame-way-requires
     record-at-requires
     returns)

@@ -1,17 +1,17 @@
--- `logging::record_of` meets its contract: each case of the answer gives its outcome, octets handed out and status word. Assumes nothing.
+-- `logging::record_of` meets its contract: each case of the answer gives its outcome, number of the address, octets handed out and status word. Assumes nothing.
 use Prim.Native.Nat.{ℕ}
 use mathlib.Core.Path.{sym, ap, _∙_}
 use borrow.Author.Needs.{needs}
 use Rattle.receive.specs.declared.Answer.{Answer}
 use Rattle.log.specs.declared.Record.{Record}
-use Rattle.receive.specs.Values.{answerOutcome, answerStatus, answerPart}
+use Rattle.receive.specs.Values.{answerOutcome, answerStatus, answerPart, answerWay}
 use Rattle.logging.specs.Records.{recordAt, recordOfReading}
 use Rattle.logging.proofs.record_of.Statement.{statement}
 use Rattle.logging.proofs.record_of.Tie as tie
 
 -- the record of a Start at this place, by the answer
 abbrev answered : ℕ → Answer → Record
-answered start a = recordAt start (answerOutcome a) (answerPart a .len) (answerStatus a)
+answered start a = recordAt start (answerOutcome a) (answerWay a) (answerPart a .len) (answerStatus a)
 
 enum-told : tie.Need-enum-told
 enum-told c = search needs
@@ -58,7 +58,7 @@ returns-4 c =
     let a = c .before .before .before in
     let start = a .before .before .args .r .start in
     c .record-at4 .ensures
-    ∙ ap (λ (n : ℕ). recordAt start n (a .a .given .0 .1 .1 .0 .len) (a .a .given .0 .1 .0)) (c .before .outcome-number .ensures)
+    ∙ ap (λ (n : ℕ). recordAt start n (a .a .given .0 .1 .1 .1 .0) (a .a .given .0 .1 .1 .0 .len) (a .a .given .0 .1 .0)) (c .before .outcome-number .ensures)
     ∙ ap (answered start) (sym (a .a .given .1))
 
 pub record-of-spec : {M : Type 1} → statement M

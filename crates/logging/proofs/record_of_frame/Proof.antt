@@ -21,6 +21,9 @@ layout-of-requires c κs = search needs
 status-requires : tie.Need-status-requires
 status-requires c κs = search needs
 
+way-carried-requires : tie.Need-way-carried-requires
+way-carried-requires c κs = search needs
+
 outcome-number-requires : tie.Need-outcome-number-requires
 outcome-number-requires c κs = search needs
 
@@ -35,14 +38,15 @@ returns c =
 
 returns-2 : tie.Need-returns-2
 returns-2 c =
-    let w = c .before .before in
+    let v = c .before .before in
+    let w = v .before in
     let l = w .before in
     let m = l .before in
     let a = m .before .before .args in
     c .record-at .ensures
-    ∙ ap (λ (n : ℕ). recordAt (a .start) n 0 (w .status .result)) (c .before .outcome-number .ensures)
-    ∙ laid-record (a .s) (a .start) (now (a .f)) (a .o) _ _ _ (l .layout-of .ensures) (none-handed (a .s) (a .start) (now (a .f)) (a .o) (m .match .keys2))
-    (w .status .ensures)
+    ∙ ap (λ (n : ℕ). recordAt (a .start) n (v .way-carried .result) 0 (w .status .result)) (c .before .outcome-number .ensures)
+    ∙ laid-record (a .s) (a .start) (now (a .f)) (a .o) _ _ _ _ (l .layout-of .ensures) (v .way-carried .ensures)
+    (none-handed (a .s) (a .start) (now (a .f)) (a .o) (m .match .keys2)) (w .status .ensures)
 
 pub record-of-frame-spec : {M : Type 1} → statement M
 record-of-frame-spec =
@@ -52,6 +56,7 @@ record-of-frame-spec =
     handed-out-requires
     layout-of-requires
     status-requires
+    way-carried-requires
     outcome-number-requires
     record-at-requires
     returns

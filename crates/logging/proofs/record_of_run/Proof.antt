@@ -28,7 +28,7 @@ returns c =
     let t = c .before .before in
     let a = t .before .before .before .args in
     c .record-at .ensures
-    ∙ ap (λ (n : ℕ). recordAt (a .start) n 0 0) (c .before .outcome-number .ensures)
+    ∙ ap (λ (n : ℕ). recordAt (a .start) n 0 0 0) (c .before .outcome-number .ensures)
     ∙ untold (a .s) (a .start) (frameOf (now (a .run))) (a .o) (sym (t .before .tells .ensures) ∙ not-true _ (t .if1 .taken))
 
 frame-of-requires : tie.Need-frame-of-requires

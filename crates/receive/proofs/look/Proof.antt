@@ -2,6 +2,7 @@
 use mathlib.Core.Path.{_≡_, sym, ap, _∙_, subst}
 use mathlib.Core.Bool.{false≢true}
 use mathlib.Core.List.{List}
+use mathlib.Core.Logic.{⊎-elim}
 use native.Mathlib.Omega.{arith}
 use Prim.Native.Nat.{ℕ, _+_, _-_, _≤_, _<_}
 use lib.ListN.{length, length-take, length-drop}
@@ -14,7 +15,9 @@ use Rattle.line.proofs.Places.{start-found, control-found}
 use Rattle.station.specs.declared.Checked.the-variants.{Fine}
 use Rattle.line.specs.Line.{capture, findStart, findControl}
 use Rattle.receive.proofs.Refusals.{passed}
-use Rattle.outcome.specs.Outcomes.{outcome}
+use Rattle.control.specs.Control.{frameWay, wayCarried}
+use Rattle.control.proofs.Ways.{some-way, no-way}
+use Rattle.outcome.specs.Outcomes.{outcome, frameOf}
 use Rattle.receive.proofs.Sights.{sight-read}
 use Rattle.receive.specs.declared.Sight.{Sight}
 use Rattle.receive.specs.Reading.{readRefusals, readRun}
@@ -139,25 +142,55 @@ shared-slice-read-outcome c = let e = end-inside (c .before .before .before) in 
 outcome-requires : tie.Need-outcome-requires
 outcome-requires c κs = λ h. absurd (omega arith)
 
+sub-frame-of : tie.Need-sub-frame-of
+sub-frame-of c = let e = end-inside (ending (c .before)) in omega arith
+
+part-frame-of-start : tie.Need-part-frame-of-start
+part-frame-of-start c = let e = end-inside (ending (c .before)) in omega arith
+
+part-frame-of-end : tie.Need-part-frame-of-end
+part-frame-of-end c = let e = end-inside (ending (c .before)) in omega arith
+
+frame-of-requires : tie.Need-frame-of-requires
+frame-of-requires c κs = search needs
+
+frame-way-requires : tie.Need-frame-way-requires
+frame-way-requires c κs = search needs
+
+-- where the ways of the outcome meet, the number is the one that a reading carries
+way-is : (c : tie.At-match4-came) → let k = ending (c .before) in
+    c .match4 .way ≡ wayCarried (call (passing (starting k)) .args .s) (c .before .outcome .result) (frameOf (between (octets (starting k)) (start (starting k) + 1) (end k)))
+unfolding between
+way-is c =
+    let k = ending (c .before) in
+    let s = call (passing (starting k)) .args .s in
+    let o = c .before .outcome .result in
+    ⊎-elim
+    (λ w. w .4 ∙ w .3 .ensures ∙ ap (frameWay s) (w .2 .ensures) ∙ some-way s _ o (w .0 .keys1))
+    (λ w. w .1 ∙ no-way s _ o (w .0 .keys2))
+    (c .match4 .came)
+
 sub-look-run : tie.Need-sub-look-run
-sub-look-run c = let e = end-inside (ending c) in omega arith
+sub-look-run c = let e = end-inside (ending (c .before)) in omega arith
 
 part-look-run-start : tie.Need-part-look-run-start
-part-look-run-start c = let e = end-inside (ending c) in omega arith
+part-look-run-start c = let e = end-inside (ending (c .before)) in omega arith
 
 part-look-run-end : tie.Need-part-look-run-end
-part-look-run-end c = let e = end-inside (ending c) in omega arith
+part-look-run-end c = let e = end-inside (ending (c .before)) in omega arith
 
 look-run-requires : tie.Need-look-run-requires
+unfolding between
 look-run-requires c κs =
-    let e = end-inside (ending (c .before)) in
-    let k = start-inside (starting (ending (c .before))) in
-    (omega arith, simp length-take (omega arith))
+    let k = ending (c .before .before) in
+    let e = end-inside k in
+    let i = start-inside (starting k) in
+    (omega arith, simp length-take (omega arith), way-is (c .before))
 
 returns-4 : tie.Need-returns-4
 unfolding between sightOf
 returns-4 c =
-    let o = c .before .before in
+    let o = c .before .before .before in
     let k = ending o in
     let os = octets (starting k) in
     let a = call (passing (starting k)) .args in
@@ -197,6 +230,11 @@ look-spec =
     part-outcome-end
     shared-slice-read-outcome
     outcome-requires
+    sub-frame-of
+    part-frame-of-start
+    part-frame-of-end
+    frame-of-requires
+    frame-way-requires
     sub-look-run
     part-look-run-start
     part-look-run-end

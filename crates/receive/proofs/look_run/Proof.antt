@@ -15,6 +15,7 @@ use Rattle.outcome.specs.Outcomes.{frameOf}
 use Rattle.outcome.specs.Status.{status}
 use Rattle.outcome.proofs.Words.{word-of}
 use Rattle.receive.specs.declared.Answer.the-variants.{Counted}
+use Rattle.receive.specs.declared.Sight.{Sight}
 use Rattle.receive.specs.Reading.{handedPart}
 use Rattle.receive.specs.Steps.{partAt, sightOf}
 use Rattle.receive.proofs.Parts.{part-laid, part-le, part-told}
@@ -80,19 +81,22 @@ word-is c =
     word-of (a .o) (c .status .ensures) (frame-is p) (layout-tags _ (frame p) (layout-is p)) (ap length data-is) (ap (λ (x : Part). x .len) (part-is (c .before)))
     ∙ part-told (a .s) (a .start + 8) (frame p) (a .o) _ _
 
-add-t9 : tie.Need-add-t9
-add-t9 c = search needs
+add-t10 : tie.Need-add-t10
+add-t10 c = search needs
 
-add-t12 : tie.Need-add-t12
-add-t12 c = search needs
+add-t13 : tie.Need-add-t13
+add-t13 c = search needs
 
 returns : tie.Need-returns
 unfolding sightOf
 returns c =
-    let a = call (c .before .before) .args in
-    ap₂ (λ (word : ℕ) (part : Part). record { answer = Counted (a .o) word part; start = a .start; next = a .start + 1 + length (now (a .run)) })
-    (word-is c)
-    (part-is (c .before))
+    let k = c .before in
+    let s = call (k .before) in
+    let a = s .args in
+    let made : ℕ → Part → ℕ → Sight =
+    λ word part way. record { answer = Counted (a .o) word part way; start = a .start; next = a .start + 1 + length (now (a .run)) } in
+    ap₂ (λ (word : ℕ) (part : Part). made word part (a .way)) (word-is c) (part-is k)
+    ∙ ap (made (status (a .s) (a .o) (frame (k .before))) (handedPart (a .s) (a .o) (a .start + 8) (frame (k .before)))) (s .pre .2)
 
 pub look-run-spec : {M : Type 1} → statement M
 look-run-spec =
@@ -103,6 +107,6 @@ look-run-spec =
     add-handed-part
     handed-part-requires
     status-requires
-    add-t9
-    add-t12
+    add-t10
+    add-t13
     returns)

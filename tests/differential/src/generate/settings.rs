@@ -27,16 +27,21 @@ pub fn valid_settings(prng: &mut Prng) -> Settings {
     } else {
         station(prng)
     };
+    let mut listed = [(); 4].map(|()| match prng.below(8) {
+        0 => own,
+        1 => BROADCAST,
+        2 => RESERVED_GROUP,
+        3 => near(prng, own),
+        4 => group(station(prng)),
+        _ => station(prng),
+    });
+    if prng.one_in(4) {
+        // two equal entries, or one that is equal to itself
+        listed[prng.below(4)] = prng.pick(&listed);
+    }
     Settings {
         own,
-        listed: [(); 4].map(|()| match prng.below(8) {
-            0 => own,
-            1 => BROADCAST,
-            2 => RESERVED_GROUP,
-            3 => near(prng, own),
-            4 => group(station(prng)),
-            _ => station(prng),
-        }),
+        listed,
         count: prng.below(5) as u8,
         broadcast: prng.coin(),
         promiscuous: prng.one_in(5),

@@ -145,7 +145,7 @@ fn fullness(t: &mut Table) {
 }
 
 /// The place that stands in a record, low octet first.
-fn place_of(slot: &[u8]) -> usize {
+pub(super) fn place_of(slot: &[u8]) -> usize {
     slot[..4]
         .iter()
         .rev()
@@ -267,7 +267,7 @@ fn outcomes(t: &mut Table) {
     }
 }
 
-/// What is kept of a Start: its place, the octets handed out, the status word, and a zero.
+/// What is kept of a Start: its place, the octets handed out and the status word.
 fn records(t: &mut Table) {
     t.keep(
         "walk_log: each record has the place of a Start, in their order",
@@ -306,14 +306,6 @@ fn records(t: &mut Table) {
                 .any(|slot| slot[4] < 8 && slot[6..] == [0; 10])
         },
     );
-    t.keep("walk_log: the zero octet: 0 over another", |k| {
-        let over = |i: usize| {
-            let zero = |slot: Option<&[u8]>| slot.map(|slot| slot[5]);
-            let fresh = !k.log.used(i) && k.log_after.used(i);
-            fresh && zero(k.log.slot(i)) > Some(0) && zero(k.log_after.slot(i)) == Some(0)
-        };
-        (0..k.log.len()).any(over)
-    });
 }
 
 /// Walks that go on with other logs.

@@ -146,10 +146,10 @@ fn appended_fields(t: &mut Table) {
             l.appends(|r| r.outcome != 0 && r.status == status) && l.wrote()
         });
     }
-    for zero in [0, 1, 128] {
-        let name = format!("append: {zero} in the zero octet: written as given");
+    for way in [0, 1, 8, 128] {
+        let name = format!("append: way {way}: written as given");
         t.log(name, move |l| {
-            l.appends(|r| r.outcome != 0 && r.zero == zero) && l.wrote()
+            l.appends(|r| r.outcome != 0 && r.address == way) && l.wrote()
         });
     }
     t.log(
@@ -181,6 +181,22 @@ fn appended_readings(t: &mut Table) {
             move |l| of(l, outcome, raw::COUNTED, 0) && l.wrote(),
         );
     }
+    for way in 0..=8 {
+        t.log(format!("append reading: way {way}: appended"), move |l| {
+            let counted = (1..=11).any(|outcome| of(l, outcome, raw::COUNTED, 0));
+            counted && l.record().is_some_and(|r| r.address == way) && l.wrote()
+        });
+    }
+    t.log(
+        "append reading: a way above an octet: its low octet appended",
+        |l| {
+            let LogCall::AppendReading(numbers, _) = l.call else {
+                return false;
+            };
+            let (way, slot) = (numbers[raw::READING_WAY], l.after.slot(l.before.front));
+            way >> 8 != 0 && l.wrote() && slot.is_some_and(|slot| slot[5] == (way & 0xFF) as u8)
+        },
+    );
     t.log("append reading: octets handed out: appended", |l| {
         l.name() == "append reading" && l.record().is_some_and(|r| r.handed > 0) && l.wrote()
     });
@@ -306,7 +322,8 @@ fn contents(t: &mut Table) {
             let test = |r: &Record, n: u64| u64::from(r.outcome) == n;
             row(format!("outcome {outcome}"), test, outcome);
         }
-        row("zero octet not 0".to_string(), |r, _| r.zero != 0, 0);
+        row("way not 0".to_string(), |r, _| r.address != 0, 0);
+        row("way above 8".to_string(), |r, _| r.address > 8, 0);
         row(
             "place of the highest bit".to_string(),
             |r, _| r.place >> 31 == 1,
@@ -323,7 +340,7 @@ fn contents(t: &mut Table) {
             0,
         );
         row("no two octets equal".to_string(), |r, _| distinct(r), 0);
-        let zeros = |r: &Record, _| (r.place, r.zero, r.handed, r.status) == (0, 0, 0, 0);
+        let zeros = |r: &Record, _| (r.place, r.address, r.handed, r.status) == (0, 0, 0, 0);
         row("zeros but for the outcome".to_string(), zeros, 0);
     }
 }

@@ -9,6 +9,7 @@ mod ports;
 mod reading;
 mod sending;
 mod tags;
+mod ways;
 
 use crate::coverage::{Row, When};
 use crate::seen::{CSeen, FcsSeen, ReadingSeen, RowSeen, SendingSeen, WalkSeen};
@@ -22,6 +23,7 @@ pub(crate) fn rows() -> Vec<Row> {
     frames::rows(&mut table);
     tags::rows(&mut table);
     control::rows(&mut table);
+    ways::rows(&mut table);
     sending::rows(&mut table);
     ports::rows(&mut table);
     log::rows(&mut table);

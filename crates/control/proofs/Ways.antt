@@ -1,0 +1,123 @@
+-- Document 02, item 7: of valid settings, the number of a frame is above 0 exactly where rule 7 lets it through; so outcomes 8 to 11 carry a number above
+-- 0, and a filtered frame has none to carry. Assumes nothing.
+use Prim.Native.Nat.{ℕ, _≤_}
+use native.Mathlib.Omega.{arith}
+use mathlib.Core.Path.{_≡_, refl, sym, ap, _∙_}
+use mathlib.Core.Bool.{Bool, true, false, not, _&&_, _||_, cond, false≢true}
+use mathlib.Core.List.{List, [], _∷_}
+use denote.Enum.Declared.{tagOf}
+use types.Run.{OneOf, miss}
+use lib.Dec.{ltb}
+use Rattle.line.specs.Octets.{sameOctets}
+use Rattle.line.proofs.Octets.{sameOctets-eq, false-unless}
+use Rattle.station.specs.declared.Settings.{Settings}
+use Rattle.station.specs.declared.Outcome.{Outcome}
+use Rattle.station.specs.declared.Outcome.the-variants.{Cut, BadPreamble, Undersized, Oversized, WrongFcs, WrongLength, Filtered, PauseTaken, PfcTaken, ControlDropped, HandedOut}
+use Rattle.station.proofs.Outcome.{the-type}
+use Rattle.station.specs.Station.{isGroup}
+use Rattle.fields.specs.Fields.{destination}
+use Rattle.address.specs.Address.{broadcastAddress, accepts, way}
+use Rattle.address.proofs.Ways.{way-accepts, way-own, way-le}
+use Rattle.control.specs.Control.{isControlFrame, toReservedGroup, toOwn, filtered, frameWay, wayCarried}
+
+-- ---- the two arms of `way_carried`, by the places of their variants in the enum
+
+abbrev eightToEleven : List ℕ
+eightToEleven = 7 ∷ 8 ∷ 9 ∷ 10 ∷ []
+
+abbrev oneToSeven : List ℕ
+oneToSeven = 0 ∷ 1 ∷ 2 ∷ 3 ∷ 4 ∷ 5 ∷ 6 ∷ []
+
+module _ (s : Settings) (f : List ℕ) where
+  pub no-way : (o : Outcome) → OneOf oneToSeven (tagOf the-type o) → 0 ≡ wayCarried s o f
+  unfolding wayCarried
+  no-way Cut h = refl
+  no-way BadPreamble h = refl
+  no-way Undersized h = refl
+  no-way Oversized h = refl
+  no-way WrongFcs h = refl
+  no-way WrongLength h = refl
+  no-way Filtered h = refl
+  no-way PauseTaken h = absurd (miss oneToSeven 7 tt h)
+  no-way PfcTaken h = absurd (miss oneToSeven 8 tt h)
+  no-way ControlDropped h = absurd (miss oneToSeven 9 tt h)
+  no-way HandedOut h = absurd (miss oneToSeven 10 tt h)
+
+  pub some-way : (o : Outcome) → OneOf eightToEleven (tagOf the-type o) → frameWay s f ≡ wayCarried s o f
+  unfolding wayCarried
+  some-way PauseTaken h = refl
+  some-way PfcTaken h = refl
+  some-way ControlDropped h = refl
+  some-way HandedOut h = refl
+  some-way Cut h = absurd (miss eightToEleven 0 tt h)
+  some-way BadPreamble h = absurd (miss eightToEleven 1 tt h)
+  some-way Undersized h = absurd (miss eightToEleven 2 tt h)
+  some-way Oversized h = absurd (miss eightToEleven 3 tt h)
+  some-way WrongFcs h = absurd (miss eightToEleven 4 tt h)
+  some-way WrongLength h = absurd (miss eightToEleven 5 tt h)
+  some-way Filtered h = absurd (miss eightToEleven 6 tt h)
+
+-- ---- it is at most 8, since at most four are listed
+
+cond-le : (b : Bool) (w : ℕ) → w ≤ 7 → cond b 8 w ≤ 8
+cond-le true w h = omega arith
+cond-le false w h = omega arith
+
+module _ (s : Settings) (f : List ℕ) (few : s .count ≤ 4) where
+  frame-way-le : frameWay s f ≤ 8
+  unfolding frameWay
+  frame-way-le = cond-le (isControlFrame f && toReservedGroup f) (way s (destination f)) (way-le s (destination f) few)
+
+  pub way-carried-le : (o : Outcome) → wayCarried s o f ≤ 8
+  unfolding wayCarried
+  way-carried-le Cut = omega arith
+  way-carried-le BadPreamble = omega arith
+  way-carried-le Undersized = omega arith
+  way-carried-le Oversized = omega arith
+  way-carried-le WrongFcs = omega arith
+  way-carried-le WrongLength = omega arith
+  way-carried-le Filtered = omega arith
+  way-carried-le PauseTaken = frame-way-le
+  way-carried-le PfcTaken = frame-way-le
+  way-carried-le ControlDropped = frame-way-le
+  way-carried-le HandedOut = frame-way-le
+
+-- ---- "Accepted and refused stay as they are": rule 7
+
+broadcast-group : isGroup broadcastAddress ≡ true
+unfolding isGroup broadcastAddress
+broadcast-group = refl
+
+cond-above : (b : Bool) (w : ℕ) → ltb 0 (cond b 8 w) ≡ cond b true (ltb 0 w)
+cond-above true w = refl
+cond-above false w = refl
+
+passed : (c g o a : Bool) → (o ≡ true → a ≡ true) → cond (c && g) true a ≡ not (not (c && (g || o)) && not a)
+passed true true o a h = refl
+passed true false true a h = h refl
+passed true false false true h = refl
+passed true false false false h = refl
+passed false g o true h = refl
+passed false g o false h = refl
+
+-- settings that refusal 1 lets through: the own address is no group address
+module _ (s : Settings) (f : List ℕ) (valid : isGroup (s .own .0) ≡ false) where
+  own-unbroadcast : toOwn s f ≡ true → sameOctets (destination f) broadcastAddress ≡ false
+  unfolding toOwn
+  own-unbroadcast o =
+      false-unless (sameOctets (destination f) broadcastAddress)
+      (λ b. let e : s .own .0 ≡ broadcastAddress = sym (sameOctets-eq (destination f) (s .own .0) o) ∙ sameOctets-eq (destination f) broadcastAddress b in
+      let g : true ≡ false = sym broadcast-group ∙ sym (ap isGroup e) ∙ valid in
+      false≢true (sym g))
+
+  own-accepted : toOwn s f ≡ true → accepts s (destination f) ≡ true
+  unfolding toOwn
+  own-accepted o = sym (way-accepts s (destination f)) ∙ ap (ltb 0) (way-own s (destination f) (own-unbroadcast o) o)
+
+  pub let-in : ltb 0 (frameWay s f) ≡ not (filtered s f)
+  unfolding filtered frameWay
+  let-in =
+      let b = isControlFrame f && toReservedGroup f in
+      cond-above b (way s (destination f))
+      ∙ ap (cond b true) (way-accepts s (destination f))
+      ∙ passed (isControlFrame f) (toReservedGroup f) (toOwn s f) (accepts s (destination f)) own-accepted

@@ -1,0 +1,309 @@
+//! Which address let a frame in: item 7 of document 02, in readings and in what walks keep.
+use super::keeping::place_of;
+use super::Table;
+use crate::generate::{BROADCAST, RESERVED_GROUP};
+use crate::seen::{FrameSeen, ReadingSeen};
+use crate::seen_log::KeepSeen;
+use reference::{Flow, Settings};
+
+const PROMISCUOUS: [(&str, bool); 2] = [("", false), (", promiscuous", true)];
+const LISTED: [(&str, bool); 2] = [("", false), (", listed", true)];
+
+pub fn rows(t: &mut Table) {
+    own(t);
+    listed(t);
+    equal_entries(t);
+    broadcasts(t);
+    promiscuous(t);
+    control_to_the_group(t);
+    other_control(t);
+    others_to_the_group(t);
+    not_let_in(t);
+    kept(t);
+    kept_over(t);
+}
+
+/// A frame of which this is true was let in, and says this number.
+fn by(r: &ReadingSeen, way: u8, test: impl FnOnce(&FrameSeen) -> bool) -> bool {
+    r.way == way && r.framed(8, test)
+}
+
+/// The same of one that is no control frame.
+fn client_by(r: &ReadingSeen, way: u8, test: impl FnOnce(&[u8; 6]) -> bool) -> bool {
+    by(r, way, |f| !f.control() && test(&f.to))
+}
+
+/// The number of a listed entry.
+fn entry(i: usize) -> u8 {
+    2 + i as u8
+}
+
+/// The first entry that counts and is this address.
+fn first_listed(s: &Settings, to: &[u8; 6]) -> Option<usize> {
+    let mut counting = s.listed.iter().take(usize::from(s.count));
+    counting.position(|address| address == to)
+}
+
+/// Neither own nor broadcast: the list has a say.
+fn by_list(s: &Settings, to: &[u8; 6]) -> bool {
+    *to != s.own && *to != BROADCAST
+}
+
+fn own(t: &mut Table) {
+    for (also, listed) in LISTED {
+        for (with, promiscuous) in PROMISCUOUS {
+            t.reading(format!("way: to own{also}{with}: 1"), move |r| {
+                r.s.promiscuous == promiscuous
+                    && client_by(r, 1, |to| *to == r.s.own && r.listed(to) == listed)
+            });
+        }
+    }
+}
+
+/// Each entry, where it alone matches; with promiscuous settings it says the same.
+fn listed(t: &mut Table) {
+    for i in 0..4 {
+        for (with, promiscuous) in PROMISCUOUS {
+            let name = format!("way: to listed entry {i}{with}: {}", entry(i));
+            t.reading(name, move |r| {
+                let alone = |to: &[u8; 6]| by_list(r.s, to) && r.listed_at(to).eq([i]);
+                r.s.promiscuous == promiscuous
+                    && usize::from(r.s.count) > i
+                    && client_by(r, entry(i), alone)
+            });
+        }
+    }
+    t.reading("way: listed beyond the count, promiscuous: 7", |r| {
+        client_by(r, 7, |to| {
+            by_list(r.s, to) && !r.listed(to) && r.listed_at(to).next().is_some()
+        })
+    });
+}
+
+/// Of two equal entries the first, whether the second counts or not.
+fn equal_entries(t: &mut Table) {
+    for (i, j) in [(0, 1), (0, 2), (0, 3), (1, 2), (1, 3), (2, 3)] {
+        let name = format!("way: listed entries {i} and {j} equal: {}", entry(i));
+        t.reading(name, move |r| {
+            let both = |to: &[u8; 6]| by_list(r.s, to) && r.listed_at(to).eq([i, j]);
+            usize::from(r.s.count) > j && client_by(r, entry(i), both)
+        });
+    }
+    t.reading(
+        "way: listed entries equal, the second beyond the count: the first",
+        |r| {
+            let Some(first) = r.frame.as_ref().and_then(|f| first_listed(r.s, &f.to)) else {
+                return false;
+            };
+            client_by(r, entry(first), |to| {
+                let beyond = |i: usize| i >= usize::from(r.s.count);
+                by_list(r.s, to) && r.listed_at(to).any(beyond)
+            })
+        },
+    );
+}
+
+/// By its setting, listed or not.
+fn broadcasts(t: &mut Table) {
+    for (also, listed) in LISTED {
+        for (with, promiscuous) in PROMISCUOUS {
+            let to_all = move |r: &ReadingSeen, on: bool, to: &[u8; 6]| {
+                let set = r.s.promiscuous == promiscuous && r.s.broadcast == on;
+                set && *to == BROADCAST && r.listed(to) == listed
+            };
+            t.reading(format!("way: broadcast on{also}{with}: 6"), move |r| {
+                client_by(r, 6, |to| to_all(r, true, to))
+            });
+            let name = format!("way: broadcast off{also}{with}");
+            if promiscuous {
+                t.reading(format!("{name}: 7"), move |r| {
+                    client_by(r, 7, |to| to_all(r, false, to))
+                });
+            } else {
+                t.reading(format!("{name}: filtered, 0"), move |r| {
+                    r.way == 0 && r.addressed(7, |to| to_all(r, false, to))
+                });
+            }
+        }
+    }
+}
+
+/// No other rule lets it in.
+fn promiscuous(t: &mut Table) {
+    for (name, group) in [("station", 0), ("group", 1)] {
+        t.reading(format!("way: promiscuous only, a {name}: 7"), move |r| {
+            r.s.promiscuous
+                && client_by(r, 7, |to| {
+                    to[0] & 1 == group && by_list(r.s, to) && r.listed_at(to).next().is_none()
+                })
+        });
+    }
+}
+
+/// 8, whatever becomes of it.
+fn control_to_the_group(t: &mut Table) {
+    let reserved = |r: &ReadingSeen, listed: bool| {
+        r.listed(&RESERVED_GROUP) == listed && by(r, 8, |f| f.control() && f.to == RESERVED_GROUP)
+    };
+    for (also, listed) in LISTED {
+        let name = format!("way: control frame to the reserved group{also}");
+        for (mode, flow) in [
+            ("none", Flow::None),
+            ("pause", Flow::Pause),
+            ("PFC", Flow::Pfc),
+        ] {
+            for (passing, pass_control) in [("not passed", false), ("passed", true)] {
+                t.reading(format!("{name}, flow {mode}, {passing}: 8"), move |r| {
+                    r.s.flow == flow && r.s.pass_control == pass_control && reserved(r, listed)
+                });
+            }
+        }
+        t.reading(format!("{name}, promiscuous: 8"), move |r| {
+            r.s.promiscuous && reserved(r, listed)
+        });
+        for outcome in 8..=11 {
+            t.reading(format!("{name}, outcome {outcome}: 8"), move |r| {
+                r.outcome == outcome && reserved(r, listed)
+            });
+        }
+    }
+}
+
+/// To any other destination: as any frame.
+fn other_control(t: &mut Table) {
+    for (also, listed) in LISTED {
+        for outcome in [8, 10, 11] {
+            let name = format!("way: control frame to own{also}, outcome {outcome}: 1");
+            t.reading(name, move |r| {
+                let to_own = |f: &FrameSeen| f.to == r.s.own && r.listed(&f.to) == listed;
+                r.outcome == outcome && by(r, 1, |f| f.control() && to_own(f))
+            });
+        }
+    }
+    for i in 0..4 {
+        let name = format!("way: control frame to listed entry {i}: {}", entry(i));
+        t.reading(name, move |r| {
+            by(r, entry(i), |f| {
+                let listed = by_list(r.s, &f.to) && first_listed(r.s, &f.to) == Some(i);
+                f.control() && f.to != RESERVED_GROUP && listed
+            })
+        });
+    }
+    t.reading("way: control frame to broadcast: 6", |r| {
+        r.s.broadcast && by(r, 6, |f| f.control() && f.to == BROADCAST)
+    });
+    let another = |r: &ReadingSeen, f: &FrameSeen| {
+        f.control() && f.to != BROADCAST && r.to_others(&f.to) && !r.listed(&f.to)
+    };
+    t.reading("way: control frame to another, promiscuous: 7", move |r| {
+        by(r, 7, |f| another(r, f))
+    });
+    t.reading("way: control frame to another: filtered, 0", move |r| {
+        r.way == 0 && r.is(7, |f| another(r, f))
+    });
+}
+
+/// What is no control frame, be it 0x8808 behind a tag, goes by the address rule.
+fn others_to_the_group(t: &mut Table) {
+    type Inside = fn(&FrameSeen) -> bool;
+    let sorts: [(&str, Inside); 2] = [
+        ("no control frame", |f| f.tags == 0 && f.field != 0x8808),
+        ("0x8808 behind a tag", |f| f.tags > 0 && f.field == 0x8808),
+    ];
+    for (sort, inside) in sorts {
+        let to_group = move |f: &FrameSeen| f.to == RESERVED_GROUP && inside(f);
+        let name = format!("way: {sort} to the reserved group");
+        for i in 0..4 {
+            let name = format!("{name}, listed entry {i}: {}", entry(i));
+            t.reading(name, move |r| {
+                first_listed(r.s, &RESERVED_GROUP) == Some(i) && by(r, entry(i), to_group)
+            });
+        }
+        t.reading(format!("{name}, promiscuous: 7"), move |r| {
+            !r.listed(&RESERVED_GROUP) && by(r, 7, to_group)
+        });
+        t.reading(format!("{name}: filtered, 0"), move |r| {
+            r.way == 0 && r.is(7, to_group)
+        });
+    }
+}
+
+/// Outcomes 1 to 7, though the frame is one to the own address.
+fn not_let_in(t: &mut Table) {
+    for outcome in [1, 3, 4, 5, 6] {
+        t.reading(format!("way: outcome {outcome}, to own: 0"), move |r| {
+            r.outcome == outcome && r.way == 0 && r.frame.is_some_and(|f| f.to == r.s.own)
+        });
+    }
+    for outcome in [2, 7] {
+        t.reading(format!("way: outcome {outcome}: 0"), move |r| {
+            r.outcome == outcome && r.way == 0
+        });
+    }
+}
+
+/// A walk kept a frame that was let in with this number, and this is true of its destination and of
+/// whether it is a control frame.
+fn kept_by(k: &KeepSeen, way: u8, test: impl Fn(&[u8; 6], bool) -> bool) -> bool {
+    k.kept.iter().any(|slot| {
+        // behind Start and preamble
+        let frame = k.octets.get(place_of(slot) + 8..).unwrap_or_default();
+        let control = frame.get(12..14) == Some(&[0x88, 0x08]);
+        let to = frame.first_chunk();
+        slot[4] >= 8 && slot[5] == way && to.is_some_and(|to| test(to, control))
+    })
+}
+
+fn kept(t: &mut Table) {
+    t.keep("walk_log: to own: way 1", |k| {
+        kept_by(k, 1, |to, _| *to == k.s.own)
+    });
+    for i in 0..4 {
+        let name = format!("walk_log: to listed entry {i}: way {}", entry(i));
+        t.keep(name, move |k| {
+            kept_by(k, entry(i), |to, control| {
+                let reserved = control && *to == RESERVED_GROUP;
+                by_list(k.s, to) && !reserved && first_listed(k.s, to) == Some(i)
+            })
+        });
+    }
+    t.keep("walk_log: to broadcast: way 6", |k| {
+        k.s.broadcast && kept_by(k, 6, |to, _| *to == BROADCAST)
+    });
+    t.keep("walk_log: broadcast off, promiscuous: way 7", |k| {
+        !k.s.broadcast && kept_by(k, 7, |to, _| *to == BROADCAST)
+    });
+    t.keep("walk_log: promiscuous only: way 7", |k| {
+        kept_by(k, 7, |to, control| {
+            let reserved = control && *to == RESERVED_GROUP;
+            by_list(k.s, to) && !reserved && first_listed(k.s, to).is_none()
+        })
+    });
+    for (also, listed) in LISTED {
+        let name = format!("walk_log: control frame to the reserved group{also}: way 8");
+        t.keep(name, move |k| {
+            let reserved = |to: &[u8; 6], control: bool| control && *to == RESERVED_GROUP;
+            first_listed(k.s, &RESERVED_GROUP).is_some() == listed && kept_by(k, 8, reserved)
+        });
+    }
+    for outcome in 1..=7 {
+        t.keep(format!("walk_log: outcome {outcome}: way 0"), move |k| {
+            k.kept.iter().any(|slot| slot[4..6] == [outcome, 0])
+        });
+    }
+}
+
+/// What stood in the octet of an unused record is overwritten.
+fn kept_over(t: &mut Table) {
+    for (name, let_in) in [("0", false), ("another", true)] {
+        t.keep(format!("walk_log: way {name} over one above 8"), move |k| {
+            let over = |i: usize| {
+                let way = |slot: Option<&[u8]>| slot.map_or(0, |slot| slot[5]);
+                let fresh = !k.log.used(i) && k.log_after.used(i);
+                let after = way(k.log_after.slot(i));
+                fresh && way(k.log.slot(i)) > 8 && after <= 8 && (after > 0) == let_in
+            };
+            (0..k.log.len()).any(over)
+        });
+    }
+}
