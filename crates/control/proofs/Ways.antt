@@ -57,31 +57,6 @@ module _ (s : Settings) (f : List ℕ) where
   some-way WrongLength h = absurd (miss eightToEleven 5 tt h)
   some-way Filtered h = absurd (miss eightToEleven 6 tt h)
 
--- ---- it is at most 8, since at most four are listed
-
-cond-le : (b : Bool) (w : ℕ) → w ≤ 7 → cond b 8 w ≤ 8
-cond-le true w h = omega arith
-cond-le false w h = omega arith
-
-module _ (s : Settings) (f : List ℕ) (few : s .count ≤ 4) where
-  frame-way-le : frameWay s f ≤ 8
-  unfolding frameWay
-  frame-way-le = cond-le (isControlFrame f && toReservedGroup f) (way s (destination f)) (way-le s (destination f) few)
-
-  pub way-carried-le : (o : Outcome) → wayCarried s o f ≤ 8
-  unfolding wayCarried
-  way-carried-le Cut = omega arith
-  way-carried-le BadPreamble = omega arith
-  way-carried-le Undersized = omega arith
-  way-carried-le Oversized = omega arith
-  way-carried-le WrongFcs = omega arith
-  way-carried-le WrongLength = omega arith
-  way-carried-le Filtered = omega arith
-  way-carried-le PauseTaken = frame-way-le
-  way-carried-le PfcTaken = frame-way-le
-  way-carried-le ControlDropped = frame-way-le
-  way-carried-le HandedOut = frame-way-le
-
 -- ---- "Accepted and refused stay as they are": rule 7
 
 broadcast-group : isGroup broadcastAddress ≡ true
@@ -121,3 +96,28 @@ module _ (s : Settings) (f : List ℕ) (valid : isGroup (s .own .0) ≡ false) w
       cond-above b (way s (destination f))
       ∙ ap (cond b true) (way-accepts s (destination f))
       ∙ passed (isControlFrame f) (toReservedGroup f) (toOwn s f) (accepts s (destination f)) own-accepted
+
+-- ---- it is at most 8, since at most four are listed
+
+cond-le : (b : Bool) (w : ℕ) → w ≤ 7 → cond b 8 w ≤ 8
+cond-le true w h = omega arith
+cond-le false w h = omega arith
+
+module _ (s : Settings) (f : List ℕ) (few : s .count ≤ 4) where
+  frame-way-le : frameWay s f ≤ 8
+  unfolding frameWay
+  frame-way-le = cond-le (isControlFrame f && toReservedGroup f) (way s (destination f)) (way-le s (destination f) few)
+
+  pub way-carried-le : (o : Outcome) → wayCarried s o f ≤ 8
+  unfolding wayCarried
+  way-carried-le Cut = omega arith
+  way-carried-le BadPreamble = omega arith
+  way-carried-le Undersized = omega arith
+  way-carried-le Oversized = omega arith
+  way-carried-le WrongFcs = omega arith
+  way-carried-le WrongLength = omega arith
+  way-carried-le Filtered = omega arith
+  way-carried-le PauseTaken = frame-way-le
+  way-carried-le PfcTaken = frame-way-le
+  way-carried-le ControlDropped = frame-way-le
+  way-carried-le HandedOut = frame-way-le
