@@ -1,4 +1,4 @@
-"""An independent model of document 01 with items 1 to 7 of document 02, written from their text alone and not from the definitions in crates/*/specs.
+"""An independent model of document 01 with items 1 to 8 of document 02, written from their text alone and not from the definitions in crates/*/specs.
 
 Each piece stands under the sentence of the documents that it renders. The check is zlib's crc32, not a loop of our own, and a log's record is laid
 out by struct.
@@ -321,6 +321,49 @@ def walk(s: Settings, state: State, octets: List[int], marks: List[int], place: 
         starts = sum(is_start(o, m) for o, m in zip(octets[place:], marks[place:])) - (last.kind == "open")
         assert (sum(last.state.counters) - sum(state.counters) - starts) % 2**64 == 0
     return readings
+
+
+# ---- Why was it thrown away? (item 8)
+
+
+@dataclass
+class Why:
+    kind: str  # refused, none, open or counted; "`none` and `open` have no reason"
+    start: int
+    next: int
+    refusal: int = 0
+    outcome: int = 0
+    evidence: Tuple = ()
+
+
+def evidence(s: Settings, octets: List[int], start: int, end: int, outcome: int) -> Tuple:
+    run = octets[start + 1:end]
+    if outcome == 1:  # "for cut, the place and octet of the ending symbol"
+        return end, octets[end]
+    if outcome == 2:  # "for bad preamble, the run's length if under 7, else the first wrong place"
+        wrong = [start + 1 + n for n, octet in enumerate(PREAMBLE) if run[n:n + 1] != [octet]]
+        return ("length", len(run)) if len(run) < 7 else ("place", wrong[0])
+    f = Frame(run[7:])
+    if outcome in (3, 4):  # "for sizes, length and limit"
+        return len(f.octets), 64 if outcome == 3 else s.limit + 4 * len(f.tags)
+    if outcome == 5:  # "for FCS, both values", the one that stands there first; "low octet first"
+        return int.from_bytes(bytes(f.octets[-4:]), "little"), check(f.octets[:-4])
+    if outcome == 6:  # "for length, field and data length"
+        return f.field, len(f.data)
+    if outcome == 7:  # "for filtered, the destination"
+        return (f.destination,)
+    if outcome <= 10:  # "for 8 to 10, the opcode"
+        return (f.opcode,)
+    return start + 8 + f.data_place, len(f.handed(s))  # "for 11, place and length of the data"
+
+
+def why(s: Settings, octets: List[int], marks: List[int], place: int) -> Why:
+    """"The Start is found from a place as in reading"; "It must be given for each outcome, with the next place equal to the reading's."; "Refusals: 1 to
+    3 as in reading." """
+    r = reading(s, State(), octets, marks, place)
+    if r.kind != "counted":
+        return Why(r.kind, r.start, r.next, r.refusal)
+    return Why(r.kind, r.start, r.next, outcome=r.outcome, evidence=evidence(s, octets, r.start, r.next, r.outcome))
 
 
 # ---- The reading log (item 4)
@@ -895,3 +938,77 @@ def try_addresses():
 
 
 try_addresses()
+
+
+# ---- The reasons, tried with a frame for each outcome and at both sides of each limit
+
+
+def try_reasons():
+    own, other = PRINTING.own, [2, 0, 0, 0, 0, 9]
+
+    def framed(header, data, destination=own):
+        covered = destination + other + [octet for number in header for octet in high_first(number)] + data
+        return covered + fcs(covered)
+
+    def asked(run, by=TERMINATE, s=PRINTING):
+        """Asked from the front and from the Start, which stands at place 2; the next place is that of the ending symbol."""
+        octets, marks = [IDLE, START, START] + run + [by, START], [1, 0, 1] + [0] * len(run) + [1, 1]
+        answers = [why(s, octets, marks, place) for place in range(3)]
+        assert answers[0] == answers[1] == answers[2] and (answers[0].start, answers[0].next) == (2, 3 + len(run))
+        return answers[0].outcome, answers[0].evidence
+
+    def asked_of(frame, s=PRINTING):
+        return asked(PREAMBLE + frame, s=s)
+
+    good = framed([0x0800], [7] * 46)
+    # 1 and 2: the ending symbol, runs of up to 7, and each of the seven places.
+    for n in (0, 6, 7, 71):
+        for by in (IDLE, START, ERROR, 0x9C):
+            assert asked((PREAMBLE + good)[:n], by) == (1, (3 + n, by))
+    for n in range(7):
+        assert asked(PREAMBLE[:n]) == asked([0] * n) == (2, ("length", n))
+        assert asked(PREAMBLE[:n] + [0] * (7 - n)) == asked(PREAMBLE[:n] + [0] + PREAMBLE[n + 1:] + good) == (2, ("place", 3 + n))
+    # 3 and 4: both sides of 64, and of M with each number of tags; a ninth adds nothing.
+    assert [asked_of(good[:n]) for n in (0, 63)] == [(3, (0, 64)), (3, (63, 64))] and asked_of(good[:64])[0] == 11
+    for n in range(10):
+        header = [SERVICE, 5] * n + [0x0800]
+        limit = 1518 + 4 * min(n, 8)
+        data = [7] * (limit - 18 - 4 * n)
+        assert asked_of(framed(header, data))[0] == 11
+        assert asked_of(framed(header, data + [7])) == (4, (limit + 1, limit)) == asked_of(framed(header, data + [7])[:-1] + [0])
+    # 5: a published check value, of digits, stands in the place of another and the other way round.
+    digits = [ord(digit) for digit in "123456789"]
+    assert check(digits) == 0xCBF43926
+    right = check(good[:-4])
+    assert asked_of(good[:-4] + [0x26, 0x39, 0xF4, 0xCB]) == (5, (0xCBF43926, right)) and right != 0xCBF43926
+    assert asked_of(good[:20] + [8] + good[21:]) == (5, (right, check(good[:20] + [8] + good[21:-4])))
+    # 6: the field after the last tag, and all of the data; before the address.
+    for n in range(9):
+        for number, data in [(0, 47), (45, 47), (46, 47), (47, 46), (1501, 46), (1535, 46)]:
+            assert asked_of(framed([CUSTOMER, 5] * n + [number], [7] * data, other)) == (6, (number, data))
+        assert asked_of(framed([CUSTOMER, 5] * n + [1536], [7] * 46))[0] == 11
+    # 7 to 10.
+    passing = replace(PRINTING, pass_control=True)
+    for destination in (other, RESERVED_GROUP, [1, 2, 3, 4, 5, 6]):
+        assert asked_of(framed([0x0800], [7] * 46, destination)) == (7, (destination,))
+    for opcode in (0, 1, 2, 0x0100, 0x0101, 0xFFFF):
+        for destination in (own, RESERVED_GROUP):
+            control = framed([CONTROL], high_first(opcode) + [7] * 44, destination)
+            assert asked_of(control) == (10, (opcode,)) and asked_of(control, passing) == (11, (24, 46))
+            assert asked_of(control, replace(PRINTING, flow="pause")) == (8 if opcode == 1 else 10, (opcode,))
+            taken = opcode == 0x0101 and destination == RESERVED_GROUP
+            assert asked_of(control, replace(PRINTING, flow="PFC")) == (9 if taken else 10, (opcode,))
+    # 11: the data's place, also where nothing is handed out.
+    for n in range(9):
+        for number in (0, 1, 45, 46, 47):
+            frame = framed([CUSTOMER, 5] * n + [number], [7] * max(46, number))
+            assert asked_of(frame) == (11, (24 + 4 * n, number))
+            assert asked_of(frame, replace(PRINTING, checking=False)) == (11, (24 + 4 * n, max(46, number)))
+    # Without a reason, and refused.
+    line = [IDLE, START, 0]
+    assert [why(PRINTING, line, [1, 1, 0], place) for place in range(5)] == [
+        Why("open", 1, 1), Why("open", 1, 1), Why("none", 3, 3), Why("none", 3, 3), Why("refused", 4, 4, 3)]
+    assert why(PRINTING, line, [1, 1], 4) == Why("refused", 4, 4, 2) and why(replace(PRINTING, limit=0), line, [1, 1], 4) == Why("refused", 4, 4, 1)
+
+
+try_reasons()

@@ -7,7 +7,7 @@ use crate::line::{is_group, is_tag, BROADCAST, CONTROL_FIELD, FCS_LEN, FIRST_TYP
 use crate::line::{MAX_TAGS, MIN_DATA, TAG_LEN};
 
 /// Shortest frame that isn't undersized.
-const MIN_FRAME: usize = 64;
+pub(crate) const MIN_FRAME: usize = 64;
 /// Destination and source.
 const ADDRESSES: usize = 12;
 /// The field behind the addresses or behind the last tag.
@@ -71,15 +71,17 @@ impl<'a> Frame<'a> {
         &self.octets[self.data_at()..self.octets.len() - FCS_LEN]
     }
 
-    /// Over the limit? Each tag adds four octets to it, the size doesn't.
-    pub(crate) fn is_oversized(&self, limit: u16) -> bool {
-        self.len() > usize::from(limit) + self.tags * TAG_LEN
+    /// Its limit, from M: each tag adds four octets, the size doesn't.
+    pub(crate) fn limit(&self, limit: u16) -> usize {
+        usize::from(limit) + self.tags * TAG_LEN
     }
 
-    /// Are the last four octets the check of all before them?
-    pub(crate) fn has_right_fcs(&self, kind: Check) -> bool {
+    /// The last four octets, low octet first, and the check of all before
+    /// them.
+    pub(crate) fn checks(&self, kind: Check) -> (u32, u32) {
         let (covered, last) = self.octets.split_at(self.octets.len() - FCS_LEN);
-        fcs(kind, covered).to_le_bytes() == last
+        let low_first = |number, &octet: &u8| number << 8 | u32::from(octet);
+        (last.iter().rev().fold(0, low_first), fcs(kind, covered))
     }
 
     /// "Length rule", checking on: how many octets of data are the client's,

@@ -1,4 +1,4 @@
-//! A reference implementation of document 01, with items 1 to 7 of document 02: the
+//! A reference implementation of document 01, with items 1 to 8 of document 02: the
 //! work of an Ethernet MAC on line symbols kept in memory.
 //!
 //! Written from those documents alone, to be compared with the proved program.
@@ -13,6 +13,7 @@ mod line;
 mod log;
 mod port;
 mod print;
+mod reason;
 mod receive;
 mod refusal;
 mod send;
@@ -23,6 +24,7 @@ pub use log::{append, append_reading, first_unused, record, used_in_front, walk_
 pub use log::{LogEnd, LogReader, Logged, Record};
 pub use port::Port;
 pub use print::print;
+pub use reason::{explain, Explained, Reason, Why};
 pub use receive::{read, walk, Answer, Reading, Walked};
 pub use send::{fill_idle, send_client, send_pause, send_pfc, Client, Form, Sent, Tag, TagKind};
 pub use settings::{screen, Flow, Settings, State};

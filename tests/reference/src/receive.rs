@@ -1,12 +1,14 @@
 //! "Reading one Start", "Control frames" and the walk over a capture; "Which
-//! address let it in?", item 7 of document 02.
+//! address let it in?", item 7 of document 02. What the rules give is a reason
+//! by item 8, and the reading has its outcome.
 
 use crate::check::Check;
-use crate::frame::{number_at, Frame};
+use crate::frame::{number_at, Frame, MIN_FRAME};
 use crate::line::{find_control, find_start, PAUSE_OPCODE, PFC_OPCODE};
 use crate::line::{PREAMBLE, RESERVED_GROUP, TERMINATE};
+use crate::reason::Reason;
 use crate::refusal::{self, Checked};
-use crate::settings::{Flow, Outcome, Settings, State, BY_NONE, BY_RESERVED_GROUP};
+use crate::settings::{Flow, Settings, State, BY_NONE, BY_RESERVED_GROUP};
 
 /// What a reading answers.
 #[derive(Clone, Copy, Debug, PartialEq, Eq)]
@@ -70,10 +72,48 @@ enum Use {
 }
 
 /// A frame that passed rules 1 to 7.
-struct Taken<'a> {
+pub(crate) struct Taken<'a> {
     frame: Frame<'a>,
+    /// The place of the destination's first octet.
+    frame_at: usize,
     what: Use,
     address: u8,
+}
+
+impl Taken<'_> {
+    /// Why it has its outcome.
+    pub(crate) fn reason(&self) -> Reason {
+        let opcode = number_at(self.frame.data(), 0);
+        match self.what {
+            Use::Pause(_) => Reason::PauseTaken { opcode },
+            Use::Pfc { .. } => Reason::PfcTaken { opcode },
+            Use::Drop => Reason::ControlDropped { opcode },
+            Use::HandOut { length } => Reason::HandedOut {
+                place: self.frame_at + self.frame.data_at(),
+                length,
+            },
+        }
+    }
+
+    /// Sets the timers that a pause or PFC frame names.
+    fn set_timers(&self, state: &mut State) {
+        match &self.what {
+            Use::Pause(quanta) => state.pause(*quanta),
+            Use::Pfc { named, quanta } => state.pause_classes(*named, quanta),
+            Use::Drop | Use::HandOut { .. } => (),
+        }
+    }
+
+    /// "Status word".
+    fn status(&self) -> u64 {
+        let all = self.frame.data().len();
+        match self.what {
+            Use::Pause(_) => self.frame.status(all) | 1 << 35,
+            Use::Pfc { .. } => self.frame.status(all) | 1 << 39,
+            Use::Drop => self.frame.status(all),
+            Use::HandOut { length } => self.frame.status(length),
+        }
+    }
 }
 
 /// Which address lets a frame in: "Every control frame to the reserved group
@@ -113,28 +153,59 @@ fn control_use(s: &Settings, frame: &Frame) -> Use {
     }
 }
 
-/// The rules in their order. `run` is the data after the Start, `ending` the
-/// control octet behind it. An error is an outcome from 1 to 7.
-fn judge<'a>(kind: Check, s: &Settings, run: &'a [u8], ending: u8) -> Result<Taken<'a>, Outcome> {
-    if ending != TERMINATE {
-        return Err(Outcome::Cut);
+/// What is wrong with the preamble of the run behind the Start, if anything is.
+fn preamble(run: &[u8], start: usize) -> Option<Reason> {
+    if run.len() < PREAMBLE.len() {
+        return Some(Reason::ShortRun { length: run.len() });
     }
-    let octets = run.strip_prefix(&PREAMBLE).ok_or(Outcome::BadPreamble)?;
-    let frame = Frame::parse(octets).ok_or(Outcome::Undersized)?;
-    if frame.is_oversized(s.limit) {
-        return Err(Outcome::Oversized);
+    let mut pairs = run.iter().zip(PREAMBLE);
+    let wrong = pairs.position(|(&octet, right)| octet != right)?;
+    let place = start + 1 + wrong;
+    Some(Reason::WrongPreamble { place })
+}
+
+/// The rules in their order, for the Start at `start` whose run ends with the
+/// control symbol at `end`. An error is the reason of an outcome from 1 to 7.
+pub(crate) fn judge<'a>(
+    kind: Check,
+    s: &Settings,
+    octets: &'a [u8],
+    start: usize,
+    end: usize,
+) -> Result<Taken<'a>, Reason> {
+    let (run, octet) = (&octets[start + 1..end], octets[end]);
+    if octet != TERMINATE {
+        return Err(Reason::Cut { place: end, octet });
     }
-    if !frame.has_right_fcs(kind) {
-        return Err(Outcome::WrongFcs);
+    if let Some(wrong) = preamble(run, start) {
+        return Err(wrong);
     }
+    let octets = &run[PREAMBLE.len()..];
+    let length = octets.len();
+    let frame = Frame::parse(octets).ok_or(Reason::Undersized {
+        length,
+        limit: MIN_FRAME,
+    })?;
+    let limit = frame.limit(s.limit);
+    if length > limit {
+        return Err(Reason::Oversized { length, limit });
+    }
+    let (stands, computed) = frame.checks(kind);
+    if stands != computed {
+        return Err(Reason::WrongFcs { stands, computed });
+    }
+    let data = frame.data().len();
     let length = if s.checking {
-        frame.checked_length().ok_or(Outcome::WrongLength)?
+        let field = frame.field;
+        let wrong = Reason::WrongLength { field, data };
+        frame.checked_length().ok_or(wrong)?
     } else {
-        frame.data().len()
+        data
     };
     let address = address(s, &frame);
     if address == BY_NONE {
-        return Err(Outcome::Filtered);
+        let destination = frame.destination;
+        return Err(Reason::Filtered { destination });
     }
     let what = if frame.is_control() {
         control_use(s, &frame)
@@ -143,41 +214,28 @@ fn judge<'a>(kind: Check, s: &Settings, run: &'a [u8], ending: u8) -> Result<Tak
     };
     Ok(Taken {
         frame,
+        frame_at: start + 1 + PREAMBLE.len(),
         what,
         address,
     })
 }
 
-/// Counts the outcome, sets the timers and forms the answer. `frame_at` is
-/// the place of the destination's first octet.
-fn settle(state: &mut State, judged: Result<Taken, Outcome>, frame_at: usize) -> Answer {
-    let (mut at, mut len, mut address) = (0, 0, BY_NONE);
-    let (outcome, status) = match judged {
-        Err(outcome) => (outcome, 0),
+/// Counts the outcome, sets the timers and forms the answer.
+fn settle(state: &mut State, judged: Result<Taken, Reason>) -> Answer {
+    let (reason, status, address) = match judged {
+        Err(reason) => (reason, 0, BY_NONE),
         Ok(taken) => {
-            let frame = taken.frame;
-            let all = frame.data().len();
-            address = taken.address;
-            match taken.what {
-                Use::Pause(quanta) => {
-                    state.pause(quanta);
-                    (Outcome::PauseTaken, frame.status(all) | 1 << 35)
-                }
-                Use::Pfc { named, quanta } => {
-                    state.pause_classes(named, &quanta);
-                    (Outcome::PfcTaken, frame.status(all) | 1 << 39)
-                }
-                Use::Drop => (Outcome::ControlDropped, frame.status(all)),
-                Use::HandOut { length } => {
-                    (at, len) = (frame_at + frame.data_at(), length);
-                    (Outcome::HandedOut, frame.status(length))
-                }
-            }
+            taken.set_timers(state);
+            (taken.reason(), taken.status(), taken.address)
         }
     };
-    state.count(outcome);
+    let (at, len) = match reason {
+        Reason::HandedOut { place, length } => (place, length),
+        _ => (0, 0),
+    };
+    state.count(reason.of());
     Answer::Counted {
-        outcome: outcome as u8,
+        outcome: reason.outcome(),
         status,
         at,
         len,
@@ -189,6 +247,32 @@ fn settle(state: &mut State, judged: Result<Taken, Outcome>, frame_at: usize) ->
 pub(crate) fn check(s: &Settings, octets: &[u8], marks: &[u8], place: usize) -> Checked {
     refusal::settings(s)?;
     refusal::line(octets, marks, place)
+}
+
+/// What there is at a place or later.
+pub(crate) enum Found {
+    /// Refused, with the number of the refusal.
+    Refused(u8),
+    /// No further Start.
+    None,
+    /// A Start whose run hasn't ended.
+    Open { start: usize },
+    /// A Start whose run ends with the control symbol at `end`.
+    Run { start: usize, end: usize },
+}
+
+/// Finds the first Start at `place` or later and its run.
+pub(crate) fn find(s: &Settings, octets: &[u8], marks: &[u8], place: usize) -> Found {
+    if let Err(number) = check(s, octets, marks, place) {
+        return Found::Refused(number);
+    }
+    let Some(start) = find_start(octets, marks, place) else {
+        return Found::None;
+    };
+    match find_control(marks, start + 1) {
+        None => Found::Open { start },
+        Some(end) => Found::Run { start, end },
+    }
 }
 
 /// Reads the first Start at `place` or later.
@@ -205,18 +289,15 @@ pub fn read(
         start,
         next,
     };
-    if let Err(number) = check(s, octets, marks, place) {
-        return at(Answer::Refused(number), place, place);
+    match find(s, octets, marks, place) {
+        Found::Refused(number) => at(Answer::Refused(number), place, place),
+        Found::None => at(Answer::None, octets.len(), octets.len()),
+        Found::Open { start } => at(Answer::Open, start, start),
+        Found::Run { start, end } => {
+            let judged = judge(kind, s, octets, start, end);
+            at(settle(state, judged), start, end)
+        }
     }
-    let Some(start) = find_start(octets, marks, place) else {
-        return at(Answer::None, octets.len(), octets.len());
-    };
-    let Some(end) = find_control(marks, start + 1) else {
-        return at(Answer::Open, start, start);
-    };
-    let judged = judge(kind, s, &octets[start + 1..end], octets[end]);
-    let frame_at = start + 1 + PREAMBLE.len();
-    at(settle(state, judged, frame_at), start, end)
 }
 
 /// Walks a capture and shows each counted reading to `see`. Every reading

@@ -1,4 +1,4 @@
-//! The rules of document 01 and of items 1 to 7 of document 02, one module for each
+//! The rules of document 01 and of items 1 to 8 of document 02, one module for each
 //! part.
 
 mod addresses;
@@ -11,6 +11,7 @@ mod limits;
 mod log;
 mod printing;
 mod reading;
+mod reasons;
 mod refusals;
 mod robust;
 mod round_trip;
