@@ -1,8 +1,8 @@
 /*
- * The driver of tools/count_instructions: `count walk|keep|read|send|lanes OCTETS FRAMES` has that many untagged frames of that size walked in one call,
- * walked and kept in a log, read or sent one by one, or sent so on the four-lane port. They are good ones of a type, to the own address; of 0 octets they
- * are Starts alone, each of which cuts the one before it. All that is done beside is the same for any number of frames, so that the difference between two
- * numbers is what the frames took. Exits with 1 if an answer is not as expected.
+ * The driver of tools/count_instructions: `count walk|keep|read|explain|send|lanes OCTETS FRAMES` has that many untagged frames of that size walked in one
+ * call, walked and kept in a log, read, explained or sent one by one, or sent so on the four-lane port. They are good ones of a type, to the own address; of
+ * 0 octets they are Starts alone, each of which cuts the one before it. All that is done beside is the same for any number of frames, so that the difference
+ * between two numbers is what the frames took. Exits with 1 if an answer is not as expected.
  */
 #include <stdio.h>
 #include <stdlib.h>
@@ -90,6 +90,16 @@ static void read_frames(size_t frames) {
   }
 }
 
+static void explain_frames(size_t frames) {
+  fenhamper_explained explained;
+  size_t place = 0;
+  while (frames-- > 0) {
+    fenhamper_explain(&settings, octets, LINE, marks, LINE, place, &explained);
+    expect(explained.outcome == (uint64_t)outcome, "a frame has another outcome");
+    place = explained.next;
+  }
+}
+
 static void walk_frames(size_t frames, size_t symbols) {
   fenhamper_walked walked;
   if (frames == 0) return; /* so that a whole call can be counted too */
@@ -109,7 +119,7 @@ static void keep_frames(size_t frames, size_t symbols) {
 
 int main(int words, char **word) {
   size_t size, frames, frame, symbols;
-  expect(words == 4, "count walk|keep|read|send|lanes OCTETS FRAMES");
+  expect(words == 4, "count walk|keep|read|explain|send|lanes OCTETS FRAMES");
   size = number(word[2]);
   frames = number(word[3]);
   expect(size == 0 || (size >= FENHAMPER_LEAST_FRAME && size <= BESIDE_DATA + sizeof data), "a frame has 64 to 1518 octets");
@@ -122,6 +132,7 @@ int main(int words, char **word) {
     case 'w': walk_frames(frames, symbols); break;
     case 'k': keep_frames(frames, symbols); break;
     case 'r': read_frames(frames); break;
+    case 'e': explain_frames(frames); break;
     case 'l': port = FENHAMPER_PORT_FOUR_LANE; /* and as the next */
     /* fall through */
     case 's': send_frames(frames, size - BESIDE_DATA); break;

@@ -1,5 +1,6 @@
 #!/usr/bin/env python3
-"""Makes the sample captures of this folder, NAME.capture, and beside each what the printing program prints of it, NAME.txt; of one also a log of its
+"""Makes the sample captures of this folder, NAME.capture, and beside each what the printing program prints of it, NAME.txt, and what `why` does,
+NAME.why.txt; of one also a log of its
 readings, NAME.log, and a line on each record, NAME.log.txt: all by the independent model (tools/oracle/model.py). `samples/make.py` writes them;
 `samples/make.py --check` writes nothing and compares them with the files kept."""
 import random
@@ -12,6 +13,7 @@ sys.dont_write_bytecode = True  # nothing but the samples is written into the re
 sys.path.insert(0, str(HERE.parent / "tools" / "oracle"))
 from model import (BROADCAST, CONTROL, CUSTOMER, ERROR, IDLE, PRINTING, SERVICE, START, TERMINATE, Client, State, client_symbols,  # noqa: E402
                    high_first, idle_symbols, log_records, logged_walk, on_line, pause_symbols, pfc_symbols, printed, read_back, records, walks_on)
+from reason_text import whys  # noqa: E402
 
 US = PRINTING.own
 PEER = replace(PRINTING, own=[0x02, 0, 0, 0, 0, 0x09])  # the station at the other end: the source of every frame here
@@ -170,6 +172,7 @@ def files():
     captures = samples()
     made = {f"{name}.capture": data for name, data in captures.items()}
     made.update({f"{name}.txt": printed(data) for name, data in captures.items()})
+    made.update({f"{name}.why.txt": whys(data) for name, data in captures.items()})
     walked = kept_walk(captures[LOGGED])
     made.update({f"{LOGGED}.log": bytes(walked.log), f"{LOGGED}.log.txt": log_lines(walked)})
     return made

@@ -1,9 +1,10 @@
 #!/usr/bin/env python3
-"""The printing program, as built, against the independent model (tools/oracle/model.py).
+"""The programs `readings` and `why`, as built, against the independent model (tools/oracle/model.py).
 
-`tests/printing.py [PROGRAM] [N] [SEED]` runs PROGRAM (target/bin/readings if none is named) on every sample, on the edges of document 01, "The
-printing program", and on N drawn inputs (300), each whole from a file and again in short pieces through a pipe. Standard output is compared to
-the octet; exit status 0 and nothing on standard error are asked for. It says how many inputs agree, or the first difference, and then exits 1.
+`tests/printing.py [FOLDER] [N] [SEED]` runs both of FOLDER (target/bin if none is named) on every sample, on the edges of document 01, "The
+printing program", and on N drawn inputs (300), each whole from a file and, of `readings`, again in short pieces through a pipe. Standard output is
+compared to the octet; exit status 0 and nothing on standard error are asked for. It says how many inputs agree, or the first difference, and then
+exits 1.
 """
 import fcntl
 import random
@@ -20,6 +21,7 @@ sys.path[:0] = [str(ROOT / "tools" / "oracle"), str(ROOT / "samples")]
 import make  # noqa: E402
 from model import (BROADCAST, IDLE, MOST_RECORDS, PREAMBLE, PRINTING, RESERVED_GROUP, START, TAG_KINDS, TERMINATE, fcs, high_first,  # noqa: E402
                    on_line, printed, records)
+from reason_text import whys  # noqa: E402
 
 SLOW = 5  # seconds that 32,768 Starts may take: far above what they do, so that no busy machine fails this
 HANGS = 60  # seconds after which a program is given up
@@ -157,21 +159,11 @@ def fail(why):
     sys.exit(1)
 
 
-def main():
-    program = Path(sys.argv[1]).resolve() if len(sys.argv) > 1 else ROOT / "target" / "bin" / "readings"
-    n, seed = int(sys.argv[2]) if len(sys.argv) > 2 else 300, int(sys.argv[3]) if len(sys.argv) > 3 else 1
-    if not program.is_file():
-        fail(f"no program {program}; `rt check readings` builds target/bin/readings")
-    stale = make.differences()  # so that the samples kept, and what stands beside them, are the model's
-    if stale:
-        fail(stale[0])
-    rng = random.Random(seed)
-    inputs = {path.name: path.read_bytes() for path in sorted((ROOT / "samples").glob("*.capture"))}
-    inputs.update(edges())
-    inputs.update({f"drawn input {i} of seed {seed}": drawn(rng) for i in range(n)})
+def agree(program, text, ways, inputs, rng):
+    """Runs a program in these ways on all inputs, each against what the model says is printed of it."""
     for name, data in inputs.items():
-        due = printed(data)
-        for how, run in [("whole", whole), ("in pieces", in_pieces)]:
+        due = text(data)
+        for how, run in ways:
             began = time.monotonic()
             try:
                 wrong = difference(run(program, data, rng), due)
@@ -181,8 +173,25 @@ def main():
                 took = time.monotonic() - began
                 wrong = wrong or (took > SLOW and f"it takes {took:.1f} s")
             if wrong:
-                fail(f"{name}, {how}: {wrong}")
-    print(f"printing: {len(inputs)} inputs agree, each whole and in pieces; {STARTS} took {took * 1000:.0f} ms")
+                fail(f"{program.name}: {name}, {how}: {wrong}")
+    print(f"printing: {program.name}: {len(inputs)} inputs agree, each {' and '.join(how for how, _ in ways)}; {STARTS} took {took * 1000:.0f} ms")
+
+
+def main():
+    folder = Path(sys.argv[1]).resolve() if len(sys.argv) > 1 else ROOT / "target" / "bin"
+    n, seed = int(sys.argv[2]) if len(sys.argv) > 2 else 300, int(sys.argv[3]) if len(sys.argv) > 3 else 1
+    for name in ("readings", "why"):
+        if not (folder / name).is_file():
+            fail(f"no program {folder / name}; `rt check {name}` builds target/bin/{name}")
+    stale = make.differences()  # so that the samples kept, and what stands beside them, are the model's
+    if stale:
+        fail(stale[0])
+    rng = random.Random(seed)
+    inputs = {path.name: path.read_bytes() for path in sorted((ROOT / "samples").glob("*.capture"))}
+    inputs.update(edges())
+    inputs.update({f"drawn input {i} of seed {seed}": drawn(rng) for i in range(n)})
+    agree(folder / "readings", printed, [("whole", whole), ("in pieces", in_pieces)], inputs, rng)
+    agree(folder / "why", whys, [("whole", whole)], inputs, rng)
 
 
 if __name__ == "__main__":

@@ -1,5 +1,5 @@
 //! Fenhamper's speed beside an independent Rust program and C: symbols per second of `walk`, of
-//! `walk_log`, of `read` Start by Start and of sending.
+//! `walk_log`, of `read` and `explain` Start by Start and of sending.
 #![deny(unsafe_code)]
 mod baseline;
 mod captures;
@@ -31,7 +31,7 @@ bench/run [--markdown FILE] [--rounds N] [--turn MILLISECONDS]
 const SIZES: [usize; 8] = [128, 1024, 2048, 4096, 8192, 16_384, 32_768, 65_536];
 
 /// What reads and what sends, in the order of the table.
-const READINGS: [&str; 4] = ["walk", "walk_log", "read", "readings"];
+const READINGS: [&str; 5] = ["walk", "walk_log", "read", "readings", "explain"];
 const SENDINGS: [(&str, Port); 2] = [("send", Port::Plain), ("send, four lanes", Port::FourLane)];
 
 struct Bench {
@@ -48,7 +48,7 @@ impl Bench {
         rates.collect()
     }
 
-    // `walk`, `walk_log` and `read` on one capture. What the others keep of a walk are its counters.
+    // `walk`, `walk_log`, `read` and `explain` on one capture. What the others keep of a walk are its counters.
     fn reading(&self, kind: &Kind, line: &Line) -> Vec<Row> {
         let (name, limit, symbols) = (kind.name, kind.limit, line.octets.len());
         let proved = |by| Box::new(Proved::new(by, line, limit));
@@ -80,9 +80,18 @@ impl Bench {
             independent(Check::ByteTable, By::Read),
             independent(Check::Slicing16, By::Read),
         ];
+        // of a reason there is no status word: these agree among themselves, and are timed in the same turns
+        let mut whys: Rivals = vec![
+            proved(By::Explain),
+            independent(Check::ByteTable, By::Explain),
+            independent(Check::Slicing16, By::Explain),
+        ];
         let counted = agree(name, &mut walks);
         let read = agree(name, &mut reads);
         assert!(counted == read, "{name}: walk and read count otherwise");
+        let explained = agree(name, &mut whys);
+        assert!(read == explained, "{name}: explain counts otherwise");
+        reads.append(&mut whys);
 
         let walk = self.rates(symbols, &mut walks);
         let read = self.rates(symbols, &mut reads);
@@ -93,6 +102,11 @@ impl Bench {
             row("walk", walk[0], walkers),
             row("walk_log", walk[1], walkers),
             row("read", read[0], byte_and_16),
+            row(
+                "explain",
+                read[4],
+                [Some(read[5]), Some(read[6]), None, None],
+            ),
         ];
         // the iterator is the same call for each Start: good traffic shows what it adds or saves
         if kind.has_frames() {

@@ -12,6 +12,13 @@ pub const COLUMNS: [&str; 5] = [
 const BY_16: usize = 2;
 const ZLIB: usize = 4;
 
+// Calls that are compared with each other.
+const LOGGED: (&str, &str) = ("walk_log", "walk");
+const EXPLAINED: (&str, &str) = ("explain", "read");
+
+// Frames that the check finds damaged.
+const DAMAGED: &str = "83, wrong FCS";
+
 /// A call on one capture, or one sending: 10^9 symbols per second by column.
 pub struct Row {
     pub call: &'static str,
@@ -120,18 +127,21 @@ impl Report {
         }
     }
 
-    // How many times as fast as `walk` a walk with a log is, in the same run.
-    fn logged(&self, capture: &str) -> Option<f64> {
+    // How many times as fast as another call one is, in the same run.
+    fn beside(&self, (call, other): (&str, &str), capture: &str) -> Option<f64> {
         let rate = |call| self.row(call, capture)?.rates[0];
-        Some(rate("walk_log")? / rate("walk")?)
+        Some(rate(call)? / rate(other)?)
     }
 
     // That of each capture, side by side.
-    fn logs(&self, out: &mut String) {
-        let walks = self.rows.iter().filter(|row| row.call == "walk");
-        let captures: Vec<&str> = walks.map(|row| row.capture).collect();
+    fn by_capture(&self, out: &mut String, calls: (&str, &str)) {
+        let others = self.rows.iter().filter(|row| row.call == calls.1);
+        let captures: Vec<&str> = others.map(|row| row.capture).collect();
         head(out, captures.iter().map(|&c| c.to_owned()).collect(), 0);
-        line(out, captures.iter().map(|&c| cell(self.logged(c), 2)));
+        line(
+            out,
+            captures.iter().map(|&c| cell(self.beside(calls, c), 2)),
+        );
     }
 
     // One table by size, of the figures that `of` picks.
@@ -192,13 +202,20 @@ impl Report {
         ask(
             "`walk_log` to `walk`: 64".to_owned(),
             0.8,
-            self.logged("64"),
+            self.beside(LOGGED, "64"),
         );
         ask(
             "`walk_log` to reference's walk, by 16: all Starts".to_owned(),
             0.5,
             ratio("walk_log", "all Starts", BY_16),
         );
+        for capture in ["64", "mix", "1518", "9018", DAMAGED] {
+            ask(
+                format!("`explain` to `read`, at most 1.3 times its time: {capture}"),
+                1.0 / 1.3,
+                self.beside(EXPLAINED, capture),
+            );
+        }
         for capture in ["64", "mix", "1518"] {
             ask(
                 format!("`walk` to C, zlib: {capture}"),
@@ -242,7 +259,9 @@ impl Report {
         out.push('\n');
         self.rates(&mut out);
         out.push_str("\n### `walk_log`: how many times as fast as `walk`, by capture\n\n");
-        self.logs(&mut out);
+        self.by_capture(&mut out, LOGGED);
+        out.push_str("\n### `explain`: how many times as fast as `read`, by capture\n\n");
+        self.by_capture(&mut out, EXPLAINED);
         out.push_str("\n### `walk`: nanoseconds per symbol by the capture's size in symbols\n\n");
         self.by_size(&mut out, 3, |cell| cell.walk);
         out.push_str("\n### `walk`: how many times as fast as reference, by 16, by the capture's size in symbols\n\n");
@@ -260,7 +279,12 @@ impl Report {
                 Some(measured) if measured >= target.asked => "met",
                 Some(_) => "**missed**",
             };
-            let asked = cell(Some(target.asked), 1);
+            let digits = if target.asked * 10.0 % 1.0 == 0.0 {
+                1
+            } else {
+                2
+            };
+            let asked = cell(Some(target.asked), digits);
             let cells = [target.text, asked, cell(target.measured, 2)];
             line(&mut out, cells.into_iter().chain([verdict.to_owned()]));
         }

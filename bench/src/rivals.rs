@@ -2,8 +2,9 @@
 use std::hint::black_box;
 
 use fenhamper::limits::RECORD_SIZE;
-use fenhamper::{Address, Capture, End, Frame, Log, Reading, Sender, Settings, State};
-use reference::{Answer, Check, Client, Form, Port, Sent, Walked};
+use fenhamper::{Address, Capture, End, Explained, Frame, Log, Reading, Reason};
+use fenhamper::{Sender, Settings, State};
+use reference::{Answer, Check, Client, Form, Port, Sent, Walked, Why};
 
 use crate::baseline::Reader;
 use crate::captures::{data_length, Line, TYPE};
@@ -58,6 +59,8 @@ pub enum By {
     Readings,
     /// All in one call, with a record of each Start in a log.
     WalkLog,
+    /// A call for each Start that says why it has its outcome.
+    Explain,
 }
 
 /// Fenhamper, reading.
@@ -67,6 +70,8 @@ pub struct Proved<'a> {
     settings: Settings,
     state: State,
     log: Vec<u8>,
+    // of reasons, which no state has a part in
+    counters: [u64; 11],
 }
 
 /// Records that a log has beyond those that a walk needs.
@@ -94,6 +99,7 @@ impl<'a> Proved<'a> {
             settings: settings(limit),
             state: State::default(),
             log,
+            counters: [0; 11],
         }
     }
 
@@ -139,6 +145,29 @@ impl<'a> Proved<'a> {
         tally
     }
 
+    // What a reason tells of data is its length, as a reading does.
+    fn explain(&mut self, capture: Capture) -> Tally {
+        let (mut tally, mut place) = (Tally::default(), 0);
+        while let Ok(explained) = capture.explain(&self.settings, place) {
+            match explained {
+                Explained::Because { next, reason, .. } => {
+                    tally.count += 1;
+                    if let Reason::Handed { length, .. } = reason {
+                        tally.octets += length;
+                    }
+                    self.counters[usize::from(reason.outcome().number()) - 1] += 1;
+                    place = next;
+                }
+                Explained::Open { .. } => {
+                    tally.open = true;
+                    break;
+                }
+                Explained::Nothing { .. } => break,
+            }
+        }
+        tally
+    }
+
     fn readings(&mut self, capture: Capture) -> Tally {
         let mut tally = Tally::default();
         let mut readings = capture.readings(&self.settings, &mut self.state);
@@ -170,11 +199,15 @@ impl Rival for Proved<'_> {
             By::Read => self.read(capture),
             By::Readings => self.readings(capture),
             By::WalkLog => self.walk_log(capture),
+            By::Explain => self.explain(capture),
         }
     }
 
     fn kept(&self) -> Vec<u64> {
-        self.state.counters().to_vec()
+        match self.by {
+            By::Explain => self.counters.to_vec(),
+            _ => self.state.counters().to_vec(),
+        }
     }
 
     fn ready(&mut self) -> bool {
@@ -183,10 +216,10 @@ impl Rival for Proved<'_> {
     }
 }
 
-/// The reference, reading by its walk or Start by Start.
+/// The reference, reading by its walk or Start by Start, or explaining.
 pub struct Independent<'a> {
     check: Check,
-    walk: bool,
+    by: By,
     line: &'a Line,
     settings: reference::Settings,
     state: reference::State,
@@ -196,7 +229,7 @@ impl<'a> Independent<'a> {
     pub fn new(check: Check, by: By, line: &'a Line, limit: u16) -> Self {
         Independent {
             check,
-            walk: matches!(by, By::Walk),
+            by,
             line,
             settings: reference_settings(limit),
             state: reference::State::default(),
@@ -209,14 +242,35 @@ impl Rival for Independent<'_> {
         let (check, s, state) = (self.check, &self.settings, &mut self.state);
         let (octets, marks) = (black_box(&self.line.octets), black_box(&self.line.marks));
         let mut tally = Tally::default();
-        if self.walk {
-            if let Walked::Ended { starts, open } = reference::walk(check, s, state, octets, marks)
-            {
-                (tally.count, tally.open) = (starts, open);
-            }
-            return tally;
-        }
         let mut place = 0;
+        match self.by {
+            By::Walk => {
+                let walk = reference::walk(check, s, state, octets, marks);
+                if let Walked::Ended { starts, open } = walk {
+                    (tally.count, tally.open) = (starts, open);
+                }
+                return tally;
+            }
+            By::Explain => loop {
+                let explained = reference::explain(check, s, octets, marks, place);
+                match explained.why {
+                    Why::Because(reason) => {
+                        tally.count += 1;
+                        if let reference::Reason::HandedOut { length, .. } = reason {
+                            tally.octets += length;
+                        }
+                        state.counters[usize::from(reason.outcome()) - 1] += 1;
+                        place = explained.next;
+                    }
+                    Why::Open => {
+                        tally.open = true;
+                        return tally;
+                    }
+                    Why::None | Why::Refused(_) => return tally,
+                }
+            },
+            By::Read | By::Readings | By::WalkLog => {}
+        }
         loop {
             let reading = reference::read(check, s, state, octets, marks, place);
             match reading.answer {

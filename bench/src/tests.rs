@@ -27,8 +27,13 @@ fn same(name: &str, line: &Line, limit: u16) -> Vec<u64> {
         Box::new(Proved::new(By::Readings, line, limit)),
         Box::new(Independent::new(Check::Slicing16, By::Read, line, limit)),
     ];
+    let mut whys: Rivals = vec![
+        Box::new(Proved::new(By::Explain, line, limit)),
+        Box::new(Independent::new(Check::Slicing16, By::Explain, line, limit)),
+    ];
     let counted = agree(name, &mut walks);
     assert_eq!(counted, agree(name, &mut reads));
+    assert_eq!(counted, agree(name, &mut whys));
     assert!(logs_alike(line, limit), "{name}: another log");
     counted
 }

@@ -5,8 +5,8 @@
  *                 fenhamper), which itself needs memset and nothing else.
  *   Memory        No heap. The archive is code and constants: it has no data section, neither .data nor .bss.
  *   Reentrant     Yes. Nothing is kept between calls but what the caller lends.
- *   Stack         At most FENHAMPER_STACK_READ octets for a reading or a call on a log, .._SEND for a sending call,
- *                 .._WALK for a walk, of which 16 KB are for tables; a test measures them.
+ *   Stack         At most FENHAMPER_STACK_READ octets for a reading, its reason or a call on a log, .._SEND for a
+ *                 sending call, .._WALK for a walk, of which 16 KB are for tables; a test measures them.
  *   Client data   Of a reading: data_length octets from octets + data_place on, in the caller's own octets and
  *                 never a copy. They always lie inside, so that no fenhamper_client_data is needed for them.
  *
@@ -71,7 +71,7 @@ static uint32_t (*const fenhamper_layout)(void) __attribute__((used)) = fenhampe
 #define FENHAMPER_CLASSES 8          /* 0 to 7, a timer each */
 #define FENHAMPER_OUTCOMES 11        /* 1 to 11, a counter each */
 #define FENHAMPER_RECORD_SIZE 16     /* octets of a record of a log */
-#define FENHAMPER_STACK_READ 1280    /* octets of stack that a call takes at most: fenhamper_read, fenhamper_log_.. */
+#define FENHAMPER_STACK_READ 1280    /* octets of stack that a call takes at most: fenhamper_read, .._explain, .._log_.. */
 #define FENHAMPER_STACK_SEND 512     /* the sending calls and Idle fill */
 #define FENHAMPER_STACK_WALK 18944   /* fenhamper_walk and fenhamper_walk_log */
 
@@ -220,6 +220,44 @@ FENHAMPER_HOLDS(offsetof(fenhamper_reading, spare) == 72);
 #define FENHAMPER_STATUS_TAGGED (UINT64_C(1) << 33)    /* exactly one tag */
 #define FENHAMPER_STATUS_STACKED (UINT64_C(1) << 32)   /* two tags or more */
 
+/* Why a Start has its outcome, and what the evidence then is: `first` and `second`, 0 where nothing is said of it. */
+typedef enum fenhamper_reason {
+  FENHAMPER_REASON_NONE = 0,             /* none, open and a refused call have no reason */
+  FENHAMPER_REASON_CUT_AT = 1,           /* cut: place and octet of the ending symbol */
+  FENHAMPER_REASON_SHORT_RUN = 2,        /* bad preamble: the run's octets, under 7 */
+  FENHAMPER_REASON_WRONG_OCTET = 3,      /* bad preamble of a longer run: the first wrong place */
+  FENHAMPER_REASON_TOO_SHORT = 4,        /* undersized: the frame's octets, and FENHAMPER_LEAST_FRAME */
+  FENHAMPER_REASON_TOO_LONG = 5,         /* oversized: the frame's octets, and the limit: M, and 4 for each tag */
+  FENHAMPER_REASON_FCS_DIFFERS = 6,      /* wrong FCS: the one that stands there, and the one computed */
+  FENHAMPER_REASON_LENGTH_BROKEN = 7,    /* wrong length: the field, and the octets of data */
+  FENHAMPER_REASON_NOT_FOR_US = 8,       /* filtered: the destination's number, by fenhamper_address_of its octets */
+  FENHAMPER_REASON_TOOK_PAUSE = 9,       /* pause taken: the opcode */
+  FENHAMPER_REASON_TOOK_PFC = 10,        /* PFC taken: the opcode */
+  FENHAMPER_REASON_DROPPED_CONTROL = 11, /* control dropped: the opcode */
+  FENHAMPER_REASON_HANDED = 12           /* handed out: place and length of the client data */
+} fenhamper_reason;
+
+/* The answer to why. What it shares with a reading is what a reading from the same place says. */
+typedef struct fenhamper_explained {
+  uint64_t refusal; /* 0, or the refusal, 1 to 3: then both places are the call's and the rest is 0 */
+  uint64_t kind;    /* FENHAMPER_COUNTED, NONE or OPEN; 0 for a refusal */
+  uint64_t outcome; /* 1 to 11 if counted, else 0 */
+  uint64_t start;   /* the Start's place; for NONE the capture's length */
+  uint64_t next;    /* the ending symbol; for OPEN the Start, for NONE the length */
+  uint64_t reason;  /* FENHAMPER_REASON_..: 1 to 12 if counted, else 0 */
+  uint64_t first;   /* the evidence: its first number, */
+  uint64_t second;  /* and its second; 0 where it has none */
+} fenhamper_explained;
+FENHAMPER_HOLDS(sizeof(fenhamper_explained) == 64);
+FENHAMPER_HOLDS(offsetof(fenhamper_explained, refusal) == 0);
+FENHAMPER_HOLDS(offsetof(fenhamper_explained, kind) == 8);
+FENHAMPER_HOLDS(offsetof(fenhamper_explained, outcome) == 16);
+FENHAMPER_HOLDS(offsetof(fenhamper_explained, start) == 24);
+FENHAMPER_HOLDS(offsetof(fenhamper_explained, next) == 32);
+FENHAMPER_HOLDS(offsetof(fenhamper_explained, reason) == 40);
+FENHAMPER_HOLDS(offsetof(fenhamper_explained, first) == 48);
+FENHAMPER_HOLDS(offsetof(fenhamper_explained, second) == 56);
+
 /* A walk's answer. */
 typedef struct fenhamper_walked {
   uint64_t refusal; /* 0, or the refusal: then the rest is 0 */
@@ -336,6 +374,10 @@ FENHAMPER_HOLDS(offsetof(fenhamper_client, tags) == 12);
 void fenhamper_read(const fenhamper_settings *settings, fenhamper_state *state, const uint8_t *octets,
                     size_t octets_length, const uint8_t *marks, size_t marks_length, size_t place,
                     fenhamper_reading *reading);
+
+/* Why the first Start at `place` or later has its outcome, with the evidence. It needs no state, and counts nothing. */
+void fenhamper_explain(const fenhamper_settings *settings, const uint8_t *octets, size_t octets_length,
+                       const uint8_t *marks, size_t marks_length, size_t place, fenhamper_explained *explained);
 
 /* Read Start after Start from place 0 until NONE or OPEN, all in one call. */
 void fenhamper_walk(const fenhamper_settings *settings, fenhamper_state *state, const uint8_t *octets,
@@ -473,6 +515,13 @@ static inline fenhamper_reading fenhamper_capture_read(const fenhamper_settings 
   return reading;
 }
 
+static inline fenhamper_explained fenhamper_capture_explain(const fenhamper_settings *settings,
+                                                            fenhamper_capture capture, size_t place) {
+  fenhamper_explained explained;
+  fenhamper_explain(settings, capture.octets, capture.length, capture.marks, capture.length, place, &explained);
+  return explained;
+}
+
 static inline fenhamper_walked fenhamper_capture_walk(const fenhamper_settings *settings, fenhamper_state *state,
                                                       fenhamper_capture capture) {
   fenhamper_walked walked;
@@ -547,6 +596,14 @@ static inline const uint8_t *fenhamper_destination(fenhamper_capture capture, co
 static inline const uint8_t *fenhamper_source(fenhamper_capture capture, const fenhamper_reading *reading) {
   const uint8_t *destination = fenhamper_destination(capture, reading);
   return destination ? destination + 6 : NULL;
+}
+
+/* The address that a number says, its first octet highest, as `first` does of FENHAMPER_REASON_NOT_FOR_US. */
+static inline fenhamper_address fenhamper_address_of(uint64_t number) {
+  fenhamper_address address;
+  unsigned i;
+  for (i = 0; i < sizeof address.octets; i++) address.octets[i] = (uint8_t)(number >> (40 - 8 * i) & 0xFF);
+  return address;
 }
 
 /* Whether a status word has this bit. (An int is narrower than the masks: what status & mask gives does not fit.) */

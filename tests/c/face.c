@@ -673,6 +673,88 @@ static void a_walk_with_a_log_is_refused_in_order(void) {
   CHECK(refused(&s, LINE, 0, 1, FENHAMPER_BAD_LOG));
 }
 
+/* Whether the first Start from a place on has this reason, and the answer agrees with a reading from there. */
+static int because(const fenhamper_settings *s, fenhamper_capture capture, size_t place, uint64_t reason, uint64_t first, uint64_t second) {
+  fenhamper_explained e = fenhamper_capture_explain(s, capture, place);
+  fenhamper_reading r = fenhamper_capture_read(s, &state, capture, place);
+  CHECK(e.refusal == r.refusal && e.kind == r.kind && e.outcome == r.outcome && e.start == r.start && e.next == r.next);
+  CHECK((e.reason == FENHAMPER_REASON_NONE) == (e.outcome == 0));
+  return e.reason == reason && e.first == first && e.second == second;
+}
+
+/* The FCS that stands at a place. */
+static uint32_t fcs_at(size_t place) {
+  return octets[place] | (uint32_t)octets[place + 1] << 8 | (uint32_t)octets[place + 2] << 16 | (uint32_t)octets[place + 3] << 24;
+}
+
+static void a_reason_has_its_evidence(void) {
+  fenhamper_settings s = fenhamper_settings_for(own), theirs = fenhamper_settings_for(other);
+  fenhamper_capture capture = traffic();
+  fenhamper_address address = fenhamper_address_of(UINT64_C(0x0123456789AB));
+  fenhamper_explained e;
+  uint32_t fcs;
+  CHECK(because(&s, capture, 0, FENHAMPER_REASON_HANDED, 3 + 8 + 14, 4));
+  CHECK(because(&s, capture, 4, FENHAMPER_REASON_FCS_DIFFERS, fcs_at(155), fenhamper_fcs(octets + 95, 60)));
+  CHECK(fcs_at(155) != fenhamper_fcs(octets + 95, 60));
+  CHECK(because(&s, capture, 88, FENHAMPER_REASON_CUT_AT, 201, 0xFB));
+  CHECK(because(&s, capture, 201, FENHAMPER_REASON_SHORT_RUN, 0, 0));
+  CHECK(because(&s, capture, 202, FENHAMPER_REASON_NONE, 0, 0) && fenhamper_capture_explain(&s, capture, 202).kind == FENHAMPER_OPEN);
+  CHECK(because(&s, capture, LINE, FENHAMPER_REASON_NONE, 0, 0) && fenhamper_capture_explain(&s, capture, LINE).kind == FENHAMPER_NONE);
+  CHECK(because(&s, capture, LINE + 1, FENHAMPER_REASON_NONE, 0, 0));
+  e = fenhamper_capture_explain(&s, capture, LINE + 1);
+  CHECK(e.refusal == FENHAMPER_BAD_PLACE && e.start == LINE + 1 && e.next == LINE + 1);
+  fenhamper_explain(&s, octets, LINE, marks, LINE - 1, 5, &e);
+  CHECK(e.refusal == FENHAMPER_BAD_BUFFERS && e.start == 5 && e.next == 5 && e.reason == FENHAMPER_REASON_NONE);
+  CHECK(because(&theirs, capture, 0, FENHAMPER_REASON_NOT_FOR_US, UINT64_C(0x020000000001), 0));
+  e = fenhamper_capture_explain(&theirs, capture, 0);
+  CHECK(memcmp(fenhamper_address_of(e.first).octets, own.octets, 6) == 0 && address.octets[0] == 0x01 && address.octets[5] == 0xAB);
+  /* a field of 47 before 46 octets of data, under its own FCS */
+  octets[3 + 8 + 13] = 47;
+  fcs = fenhamper_fcs(octets + 11, 60);
+  octets[71] = (uint8_t)(fcs & 0xFF);
+  octets[72] = (uint8_t)(fcs >> 8 & 0xFF);
+  octets[73] = (uint8_t)(fcs >> 16 & 0xFF);
+  octets[74] = (uint8_t)(fcs >> 24 & 0xFF);
+  CHECK(because(&s, capture, 0, FENHAMPER_REASON_LENGTH_BROKEN, 47, 46));
+  octets[31] = 0xFD;
+  marks[31] = 1;
+  CHECK(because(&s, capture, 0, FENHAMPER_REASON_TOO_SHORT, 20, FENHAMPER_LEAST_FRAME));
+  octets[6] ^= 1;
+  CHECK(because(&s, capture, 0, FENHAMPER_REASON_WRONG_OCTET, 6, 0));
+}
+
+/* With one tag a frame may have four octets more. */
+static void a_reason_says_the_limit(void) {
+  static uint8_t o[8 + 1523 + 1], m[8 + 1523 + 1];
+  fenhamper_settings s = fenhamper_settings_for(own);
+  fenhamper_capture capture;
+  memset(o, 0x55, 7);
+  o[0] = 0xFB;
+  o[7] = 0xD5;
+  o[8 + 12] = 0x81;
+  o[8 + 1523] = 0xFD;
+  m[0] = m[8 + 1523] = 1;
+  capture.octets = o;
+  capture.marks = m;
+  capture.length = sizeof o;
+  CHECK(because(&s, capture, 0, FENHAMPER_REASON_TOO_LONG, 1523, FENHAMPER_LEAST_LIMIT + 4));
+}
+
+static void a_reason_says_the_opcode(void) {
+  static const uint16_t quanta[FENHAMPER_CLASSES] = {0};
+  fenhamper_settings s = fenhamper_settings_for(own), none = fenhamper_settings_for(own);
+  fenhamper_line line = fresh_line();
+  fenhamper_capture capture = fenhamper_captured(line, LINE);
+  s.flow = FENHAMPER_FLOW_PAUSE;
+  CHECK(fenhamper_line_pause(&s, &state, FENHAMPER_PORT_PLAIN, line, 0, 1).refusal == 0);
+  CHECK(because(&s, capture, 0, FENHAMPER_REASON_TOOK_PAUSE, 0x0001, 0));
+  CHECK(because(&none, capture, 0, FENHAMPER_REASON_DROPPED_CONTROL, 0x0001, 0));
+  s.flow = FENHAMPER_FLOW_PFC;
+  CHECK(fenhamper_line_pfc(&s, &state, FENHAMPER_PORT_PLAIN, line, 0, 1, quanta).refusal == 0);
+  CHECK(because(&s, capture, 0, FENHAMPER_REASON_TOOK_PFC, 0x0101, 0));
+  CHECK(because(&none, capture, 0, FENHAMPER_REASON_DROPPED_CONTROL, 0x0101, 0));
+}
+
 int main(void) {
   CHECK(fenhamper_layout_3() == FENHAMPER_LAYOUT);
   settings_are_the_printing_programs();
@@ -703,5 +785,8 @@ int main(void) {
   a_walk_keeps_its_readings();
   a_full_log_goes_on_with_another();
   a_walk_with_a_log_is_refused_in_order();
+  a_reason_has_its_evidence();
+  a_reason_says_the_limit();
+  a_reason_says_the_opcode();
   return wrong;
 }

@@ -50,6 +50,11 @@ static void read_one(void) {
   fenhamper_read(&settings, &state, octets, symbols, marks, symbols, 0, &reading);
 }
 
+static void explain_one(void) {
+  fenhamper_explained explained;
+  fenhamper_explain(&settings, octets, symbols, marks, symbols, 0, &explained);
+}
+
 static void walk_short(void) {
   fenhamper_walked walked;
   fenhamper_walk(&settings, &state, octets, 4096, marks, 4096, &walked);
@@ -141,6 +146,7 @@ int main(void) {
   for (sent.place = 0, sent.refusal = 0; sent.refusal == 0;)
     fenhamper_send_client(&settings, &state, port, octets, symbols, marks, symbols, (size_t)sent.place, &client, data, 100, &sent);
   hold("read", read_one, FENHAMPER_STACK_READ);
+  hold("explain", explain_one, FENHAMPER_STACK_READ);
   hold("walk, under 8,192 symbols", walk_short, FENHAMPER_STACK_WALK);
   hold("walk", walk_long, FENHAMPER_STACK_WALK);
   hold("walk_log, under 8,192 symbols", walk_log_short, FENHAMPER_STACK_WALK);

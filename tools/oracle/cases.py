@@ -37,7 +37,7 @@ PUBLISHED = [
 
 @dataclass
 class Case:
-    call: str  # reading, walk, client, pause, pfc, idle, fcs; of a log append, look, keep
+    call: str  # reading, walk, why, client, pause, pfc, idle, fcs; of a log append, look, keep
     settings: Any = None
     state: Any = None
     octets: Any = None
@@ -67,6 +67,24 @@ def reading_numbers(r):
 def answer_reading(c):
     r = model.reading(c.settings, c.state, c.octets, c.marks, c.place)
     return reading_numbers(r), reading_hits(c, r)
+
+
+def answer_why(c):
+    w = model.why(c.settings, c.octets, c.marks, c.place)
+    hits = {"why: " + {"refused": f"refused {w.refusal}", "counted": f"outcome {w.outcome}"}.get(w.kind, w.kind)}
+    evidence = list(w.evidence)
+    if w.outcome == 2:  # which of the two it is, as a number
+        hits.add(f"why: bad preamble, {evidence[0] if evidence[0] == 'length' else f'octet {evidence[1] - w.start}'}")
+        evidence[0] = int(evidence[0] == "place")
+    if w.outcome == 4:
+        hits.add(f"why: limit M+{evidence[1] - c.settings.limit}")
+    if w.outcome == 6:
+        hits.add(f"why: {tags_said(len(model.Frame(c.octets[w.start + 8:w.next]).tags))}, length broken")
+    if w.outcome == 7:
+        evidence = evidence[0]
+    if w.outcome == 11:
+        hits.add(f"why: handed out, {'data' if evidence[1] else 'no data'}")
+    return [KINDS[w.kind], w.refusal or w.outcome, w.start, w.next] + evidence, hits
 
 
 def answer_walk(c):
@@ -346,7 +364,7 @@ def tag_hits(f, status):
     return hits
 
 
-ANSWERS = {"reading": answer_reading, "walk": answer_walk, "client": answer_client, "pause": answer_pause, "pfc": answer_pfc, "idle": answer_idle,
+ANSWERS = {"reading": answer_reading, "walk": answer_walk, "why": answer_why, "client": answer_client, "pause": answer_pause, "pfc": answer_pfc, "idle": answer_idle,
            "fcs": answer_fcs, "append": answer_append, "look": answer_look, "keep": answer_keep}
 
 # ---- Drawing
@@ -774,14 +792,26 @@ def drawn(r, recipes, n):
 
 
 def generate(n, seed) -> List[Case]:
-    """n drawn cases, three readings or walks to two sendings, one in twenty large; beside them the published values of the check, and a call on a log for
-    each four of them, each recipe once at most."""
+    """n drawn cases, three readings or walks to two sendings, one in twenty large; beside them the published values of the check, a call on a log for
+    each four of them, each recipe once at most, and of some readings why they have their outcomes."""
     r = random.Random(seed)
     large = min(n // 20, len(LARGE))
     readings = (n - large) * 3 // 5
     chosen = drawn(r, READING_RECIPES, readings) + drawn(r, SENDING_RECIPES, n - large - readings) + drawn(r, LARGE, large)
     cases = [make(r, given) for make, given in chosen] + [Case("fcs", asked=(list(text), value)) for text, value in PUBLISHED]
-    return cases + [make(r, given) for make, given in drawn(r, LOG_RECIPES, min(n // 4, len(LOG_RECIPES)))]
+    cases += [make(r, given) for make, given in drawn(r, LOG_RECIPES, min(n // 4, len(LOG_RECIPES)))]
+    return cases + why_cases(cases)
+
+
+def why_cases(cases):
+    """Why the readings among them have their outcomes: of one in three, and of each that hits something new."""
+    whys = [Case("why", c.settings, None, c.octets, c.marks, c.place) for c in cases if c.call == "reading"]
+    hit, out = set(), []
+    for n, c in enumerate(whys):
+        if n % 3 == 0 or c.hits - hit:
+            out.append(c)
+            hit |= c.hits
+    return out
 
 
 # ---- Coverage: what must be hit (every outcome, every refusal of every call, both sides of each limit), and what else was
@@ -789,6 +819,9 @@ def generate(n, seed) -> List[Case]:
 MUST = (
     ["reading: none", "reading: open"] + [f"reading: outcome {n}" for n in range(1, 12)] + [f"reading: refused {n}" for n in (1, 2, 3)]
     + ["walk: ends none", "walk: ends open", "walk: refused 1", "walk: refused 2", "walk: a Start that ended the run before it"]
+    + ["why: none", "why: open"] + [f"why: outcome {n}" for n in range(1, 12)] + [f"why: refused {n}" for n in (1, 2, 3)]
+    + ["why: bad preamble, length", "why: bad preamble, octet 7", "why: handed out, data", "why: handed out, no data"]
+    + ["why: limit M+0", "why: limit M+4"] + [f"why: {t}, length broken" for t in ("untagged", "1 tag", "2 tags", "8 tags")]
     + [f"client: refused {n}" for n in (1, 2, 3, 5, 6, 7, 8, 9, 10)] + [f"{c}: refused {n}" for c in ("pause", "pfc") for n in (1, 2, 3, 4, 8)]
     + [f"idle: refused {n}" for n in (2, 3, 8)] + [f"{c}: written" for c in ("client", "pause", "pfc", "idle")]
     + [f"{c}: {x} refused" for c in ("reading", "client", "pause", "pfc") for x in ("group bit", "count 5", "M 1517", "M 9619")]
@@ -848,7 +881,7 @@ def coverage(cases) -> str:
         for hit in c.hits:
             counts[hit] = counts.get(hit, 0) + 1
     lines = []
-    for call in ("reading", "walk", "client", "pause", "pfc", "idle", "fcs", "append", "look", "keep"):
+    for call in ("reading", "walk", "why", "client", "pause", "pfc", "idle", "fcs", "append", "look", "keep"):
         mine = {k.split(": ", 1)[1]: v for k, v in counts.items() if k.startswith(call + ": ")}
         lines.append(f"{call} ({sum(c.call == call for c in cases)} cases)")
         key = lambda k: [int(w) if w.isdigit() else w for w in k.split()]

@@ -1,8 +1,8 @@
 #!/usr/bin/env python3
 """tools/oracle/run.py N SEED: compare the definitions of crates/*/specs with model.py on N drawn cases.
 
-The definitions are copied to a temporary folder (nothing is written into the repository), where a crate `oracle` sees receive, send and logging and all
-that they list. Each case is a theorem there, which antt admits only if the definition computes to the model's answer.
+The definitions are copied to a temporary folder (nothing is written into the repository), where a crate `oracle` sees receive, reason, send and logging
+and all that they list. Each case is a theorem there, which antt admits only if the definition computes to the model's answer.
 """
 import os
 import re
@@ -22,7 +22,7 @@ import model  # noqa: E402
 REPOSITORY = HERE.parent.parent
 BATCH, MOST = 50, 30000  # cases to a run of antt, and numbers in their buffers and answers, so that memory stays low
 EXPLAINED = 5  # of how many cases that do not agree the fields are told
-WANTED = ["receive", "send", "logging"]
+WANTED = ["receive", "reason", "send", "logging"]
 
 
 # ---- The copy
@@ -154,6 +154,8 @@ def call(c):
         return f"giveAppend {numbers(c.log)} (recordMade {' '.join(map(str, c.asked))})"
     if c.call == "look":
         return f"giveLook {numbers(c.log)} {c.asked}"
+    if c.call == "why":
+        return f"giveWhy {settings(c.settings)}\n    {numbers(c.octets)}\n    {numbers(c.marks)}\n    {c.place}"
     line = f"{state(c.state)}\n    {numbers(c.octets)}\n    {numbers(c.marks)}"
     if c.call == "idle":
         return f"giveIdle {line}\n    {c.place} {c.asked}"
@@ -178,6 +180,7 @@ STATE = [("counters", 11), ("timers", 8), ("deficit count", 1)]
 READING = [("kind", 1), ("outcome or refusal", 1), ("status word", 1), ("part", 2), ("which address", 1), ("start", 1), ("next", 1)] + STATE
 READING += [("octets of the part", None)]
 WALK = [("kind", 1), ("refusal", 1), ("Starts counted", 1), ("open", 1)] + STATE + [("octets handed out", None)]
+WHY = [("kind", 1), ("outcome or refusal", 1), ("start", 1), ("next", 1), ("evidence", None)]
 LOOK = [("record's refusal", 1), ("record", 5), ("reader's place", 1), ("its refusal", 1), ("its record", 5), ("used records", 2), ("first unused", None)]
 KEEP = [("end", 1), ("refusal", 1), ("next", 1), ("kept", 1)] + STATE + [("log", None)]
 
@@ -186,7 +189,7 @@ def fields(c):
     """Each field's name, where it begins, how many numbers it has."""
     sent = [("kind", 1), ("refusal", 1), ("place", 1)] + STATE + [("octets", len(c.octets or [])), ("marks", None)]
     place = 0
-    known = {"reading": READING, "walk": WALK, "fcs": [("check", 1), ("its octets", None)], "append": [("refusal", 1), ("log", None)], "look": LOOK,
+    known = {"reading": READING, "walk": WALK, "why": WHY, "fcs": [("check", 1), ("its octets", None)], "append": [("refusal", 1), ("log", None)], "look": LOOK,
              "keep": KEEP}
     for name, n in known.get(c.call, sent):
         n = len(c.answer) - place if n is None else n

@@ -11,10 +11,12 @@ the log: 0 plain, anything else the four-lane one.
 Calls on a log: kinds 5 append, 6 append a reading, 7 look (record, next record and used records), 8 the walk that keeps its readings. In that walk the log is
 the last number. In the others it stands in place of the octets, a record of 16 octets in place of the client frame, the numbers of a reading in place of the
 state, and a record number in place of the place; record and number are also what a refusal must leave.
+
+Kind 9 asks why the first Start at a place or later has its outcome. It has settings, place and both buffers; the rest is not looked at.
 """
 import zlib
 
-READINGS, CLIENT, PAUSE, PFC, IDLE, APPEND, APPEND_READING, LOOK, KEEP = range(9)
+READINGS, CLIENT, PAUSE, PFC, IDLE, APPEND, APPEND_READING, LOOK, KEEP, EXPLAIN = range(10)
 MOST_READINGS = 16
 LONGEST = 262144  # what the program reads
 ONES = 2**64 - 1

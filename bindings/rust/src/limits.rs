@@ -49,7 +49,7 @@ pub const OUTCOMES: usize = sys::OUTCOMES;
 /// Octets of a record of a log: 16.
 pub const RECORD_SIZE: usize = sys::RECORD_SIZE;
 
-/// Octets of stack that a reading takes at most: 1280.
+/// Octets of stack that a reading or its reason takes at most: 1280.
 pub const STACK_READ: usize = 1280;
 
 /// Octets of stack that a sending call or an Idle fill takes at most: 512.

@@ -1,6 +1,7 @@
 //! Settings and state together.
 use crate::answers::Refusal;
 use crate::log::{Kept, Log};
+use crate::reason::Explained;
 use crate::receive::{Capture, Reading, Readings, Walk};
 use crate::send::{Frame, Sender};
 use crate::settings::Settings;
@@ -62,6 +63,26 @@ impl Station {
     /// Refusals 1 to 3.
     pub fn read<'a>(&mut self, capture: Capture<'a>, place: usize) -> Result<Reading<'a>, Refusal> {
         capture.read(&self.settings, &mut self.state, place)
+    }
+
+    /// [`Capture::explain`]: why the first Start at `place` or later has its outcome.
+    ///
+    /// ```
+    /// use fenhamper::{Capture, Outcome, Station};
+    ///
+    /// let capture = Capture::new(&[0xFB, 0x07, 0xFB, 0x55], &[1, 1, 1, 0]);
+    /// let station = Station::default();
+    /// let reason = station.explain(capture, 0)?.reason();
+    /// assert_eq!(reason.map(|r| r.to_string()).as_deref(), Some("cut at 1 by 0x07 (Idle)"));
+    /// assert_eq!(station.state.counter(Outcome::Cut), 0);
+    /// # Ok::<(), fenhamper::Refusal>(())
+    /// ```
+    ///
+    /// # Errors
+    ///
+    /// Refusals 1 to 3.
+    pub fn explain(&self, capture: Capture<'_>, place: usize) -> Result<Explained, Refusal> {
+        capture.explain(&self.settings, place)
     }
 
     /// [`Capture::readings`]: reading after reading.

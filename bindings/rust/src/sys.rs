@@ -35,6 +35,21 @@ pub const WAY_BROADCAST: u8 = 6;
 pub const WAY_PROMISCUOUS: u8 = 7;
 pub const WAY_RESERVED: u8 = 8;
 
+#[cfg(test)]
+pub const REASON_NONE: u64 = 0;
+pub const REASON_CUT_AT: u64 = 1;
+pub const REASON_SHORT_RUN: u64 = 2;
+pub const REASON_WRONG_OCTET: u64 = 3;
+pub const REASON_TOO_SHORT: u64 = 4;
+pub const REASON_TOO_LONG: u64 = 5;
+pub const REASON_FCS_DIFFERS: u64 = 6;
+pub const REASON_LENGTH_BROKEN: u64 = 7;
+pub const REASON_NOT_FOR_US: u64 = 8;
+pub const REASON_TOOK_PAUSE: u64 = 9;
+pub const REASON_TOOK_PFC: u64 = 10;
+pub const REASON_DROPPED_CONTROL: u64 = 11;
+pub const REASON_HANDED: u64 = 12;
+
 pub const END_NONE: u64 = 1;
 pub const END_OPEN: u64 = 2;
 pub const END_FULL: u64 = 3;
@@ -104,6 +119,19 @@ pub struct Reading {
 
 #[repr(C)]
 #[derive(Default)]
+pub struct Explained {
+    pub refusal: u64,
+    pub kind: u64,
+    pub outcome: u64,
+    pub start: u64,
+    pub next: u64,
+    pub reason: u64,
+    pub first: u64,
+    pub second: u64,
+}
+
+#[repr(C)]
+#[derive(Default)]
 pub struct Walked {
     pub refusal: u64,
     pub starts: u64,
@@ -167,6 +195,7 @@ pub struct Client {
 // Members of the same names, order and numbers in the layout of C: with the sizes, all is the same.
 const _: () = assert!(size_of::<Settings>() == 48 && size_of::<State>() == 192);
 const _: () = assert!(size_of::<Reading>() == 96 && size_of::<Walked>() == 32);
+const _: () = assert!(size_of::<Explained>() == 64);
 const _: () = assert!(size_of::<Kept>() == 32 && size_of::<Record>() == RECORD_SIZE);
 const _: () = assert!(size_of::<Sent>() == 16 && size_of::<Part>() == 16);
 const _: () = assert!(size_of::<Tag>() == 4 && size_of::<Client>() == 44);
@@ -182,6 +211,15 @@ extern "C" {
         marks_length: usize,
         place: usize,
         reading: &mut Reading,
+    );
+    fn fenhamper_explain(
+        settings: &Settings,
+        octets: *const u8,
+        octets_length: usize,
+        marks: *const u8,
+        marks_length: usize,
+        place: usize,
+        explained: &mut Explained,
     );
     fn fenhamper_walk(
         settings: &Settings,
@@ -307,6 +345,23 @@ pub fn read(
         );
     }
     reading
+}
+
+pub fn explain(settings: &Settings, octets: &[u8], marks: &[u8], place: usize) -> Explained {
+    let mut explained = Explained::default();
+    // SAFETY: each pointer and length is one slice's.
+    unsafe {
+        fenhamper_explain(
+            settings,
+            octets.as_ptr(),
+            octets.len(),
+            marks.as_ptr(),
+            marks.len(),
+            place,
+            &mut explained,
+        );
+    }
+    explained
 }
 
 pub fn client_data(octets_length: usize, place: usize, length: usize) -> Part {

@@ -294,6 +294,22 @@ fn reading(name: &[u8], c: Call, o: &[u8], m: &[u8]) {
     }
 }
 
+fn explained(a: &[u64; 8]) {
+    told(
+        b" refused 0 kind 1 outcome 2 start 3 next 4 reason 5 of 6 and 7\n",
+        0,
+        a,
+    );
+}
+
+// Why a Start has its outcome: all eight numbers, each of which is written.
+fn explain(c: Call, o: &[u8], m: &[u8]) {
+    let s = c.settings;
+    let mut a = [1u64; 8];
+    fenhamper::fenhamper_explain(&s, o, m, c.place, &mut a);
+    explained(&a);
+}
+
 // ---- sendings
 
 struct Sent {
@@ -522,6 +538,10 @@ fn called(t: &[u8], r: usize, o: &mut [u8], m: &mut [u8]) {
     io::write_all(1, name);
     if c.kind == 8 {
         kept(t, r, c, o, m);
+        return;
+    }
+    if c.kind == 9 {
+        explain(c, o, m);
         return;
     }
     if 4 < c.kind {

@@ -1,5 +1,6 @@
 -- What the arrays' meanings keep: a part handed over as place and length is the module's own client data; a state that crossed back is the
--- same state; the record of a reading is the same by its numbers; a record of a log is given out as it stands there. Assume nothing.
+-- same state; the record of a reading is the same by its numbers; a record of a log is given out as it stands there; what why tells of a Start beside its
+-- reason is what a reading tells. Assume nothing.
 use Prim.Native.Nat.{ℕ, zero, suc, _+_, _-_, _%_, _^_, _<_}
 use native.Mathlib.Nat.{mod-eq-of-lt}
 use native.Mathlib.Numerals.{add-one}
@@ -7,6 +8,9 @@ use mathlib.Core.Path.{_≡_, refl, sym, ap, ap₂, _∙_, subst}
 use mathlib.Core.List.{List, [], _∷_}
 use lib.ListN.{length, getD, take, drop}
 use lib.Dec.{leb, lit<}
+use Rattle.line.specs.declared.Found.{Found}
+use Rattle.line.specs.declared.Found.the-variants.{At}
+use Rattle.line.specs.Line.{capture, findStart, findControl}
 use Rattle.line.specs.Table.{first}
 use Rattle.line.proofs.Symbols.{by-test}
 use Rattle.station.specs.declared.Part.{Part}
@@ -24,8 +28,12 @@ use Rattle.receive.specs.declared.Answer.{Answer}
 use Rattle.receive.specs.declared.Answer.the-variants.{Counted}
 use Rattle.receive.specs.declared.Reading.{Reading}
 use Rattle.receive.specs.Values.{answerOutcome, answerStatus, answerPart, answerWay}
-use Rattle.receive.specs.Reading.{partOf, readRefusals, reading}
-use Rattle.receive.proofs.Cases.{read-refused}
+use Rattle.receive.specs.Reading.{partOf, readRefusals, readRun, reading}
+use Rattle.receive.proofs.Cases.{read-refused, read-none, read-open, read-ended}
+use Rattle.reason.specs.declared.Explained.{Explained}
+use Rattle.reason.specs.Reasons.{explained}
+use Rattle.reason.proofs.Laws.{explain-refused, explain-none, explain-open, explain-ended}
+use Rattle.reason.proofs.Claims.{explain-reads}
 use Rattle.log.specs.declared.LogRead.the-variants.{Holds}
 use Rattle.log.specs.Log.{recordOf, slotAt, recordRead}
 use Rattle.log.specs.Claims.{OfOctets, IsMultiple, Used}
@@ -33,7 +41,8 @@ use Rattle.log.proofs.Searches.{slot-stands}
 use Rattle.log.proofs.Calls.{good-log, read-used}
 use Rattle.logging.specs.Records.{recordAt, recordOfReading}
 use Rattle.logging.proofs.Readings.{reading-sound}
-use Rattle.fenhamper.specs.Face.{each, lowAt, countersOf, timersOf, stateOf, stateNumbers, partWithin, recordNamed, readingNumbers, recordLeft}
+use Rattle.fenhamper.specs.Face.{each, lowAt, countersOf, timersOf, stateOf, stateNumbers, partWithin, recordNamed, answerKind, readingNumbers, recordLeft}
+use Rattle.fenhamper.specs.Face.{whyKind, explainNumbers}
 
 -- the octets from the place, so many of them, are what `client_data` hands out
 pub part-is : (os : List ℕ) (at len : ℕ)
@@ -126,3 +135,34 @@ module _ (l before : List ℕ) (k : ℕ) (octets : OfOctets l) (good : IsMultipl
 
   pub record-crosses : Holds (recordOf (recordLeft before (recordRead l k))) ≡ recordRead l k
   record-crosses = ap (λ (s : List ℕ). Holds (recordOf s)) record-given ∙ sym (read-used l k (good-log l good) used)
+
+-- ---- why a Start has its outcome: refusal, kind, outcome and both places are a reading's from there, whatever its state
+
+module _ (s : Settings) (st : State) (os ms : List ℕ) (p : ℕ) where
+  abbrev SameKind : Type 0
+  SameKind = whyKind (explained s os ms p .answer) ≡ answerKind (reading s st os ms p .answer)
+
+  kind-of : (e : Explained) (r : Reading) → explained s os ms p ≡ e → reading s st os ms p ≡ r → whyKind (e .answer) ≡ answerKind (r .answer) → SameKind
+  kind-of e r f g h = rw (f, g) h
+
+  module _ (fine : first (readRefusals s os ms p) ≡ Fine) where
+    module _ (i : ℕ) (found : findStart (capture os ms) p ≡ At i) where
+      kind-ended : (x : Found) → findControl (capture os ms) (i + 1) ≡ x → SameKind
+      unfolding readRun
+      kind-ended Found.Nothing h = kind-of _ _ (explain-open s os ms p fine i found h) (read-open s st os ms p fine i found h) refl
+      kind-ended (At e) h = kind-of _ _ (explain-ended s os ms p fine i found e h) (read-ended s st os ms p fine i found e h) refl
+
+    kind-found : (x : Found) → findStart (capture os ms) p ≡ x → SameKind
+    kind-found Found.Nothing h = kind-of _ _ (explain-none s os ms p fine h) (read-none s st os ms p fine h) refl
+    kind-found (At i) h = kind-ended i h (findControl (capture os ms) (i + 1)) refl
+
+  kind-checked : (k : Checked) → first (readRefusals s os ms p) ≡ k → SameKind
+  kind-checked Fine h = kind-found h (findStart (capture os ms) p) refl
+  kind-checked (Checked.Refused x) h = kind-of _ _ (explain-refused s os ms p x h) (read-refused s st os ms p x h) refl
+
+  pub explain-crosses : take 5 (explainNumbers (explained s os ms p)) ≡ take 5 (readingNumbers (reading s st os ms p))
+  unfolding explainNumbers readingNumbers
+  explain-crosses =
+      let w = explain-reads s st os ms p in
+      let k = kind-checked (first (readRefusals s os ms p)) refl in
+      cc (w .refusal, k, w .outcome, w .start, w .next)

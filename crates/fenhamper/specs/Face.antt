@@ -21,6 +21,14 @@ use Rattle.receive.specs.declared.Answer.the-variants.{Nothing, Open, Counted}
 use Rattle.receive.specs.declared.Reading.{Reading}
 use Rattle.receive.specs.declared.WalkEnd.{WalkEnd}
 use Rattle.receive.specs.Values.{answerOutcome, answerRefusal, answerStatus, answerPart, answerWay, walkedRefusal, walkedStarts, walkedOpen}
+use Rattle.reason.specs.declared.Six.{Six}
+use Rattle.reason.specs.declared.Reason.{Reason}
+use Rattle.reason.specs.declared.Reason.the-variants.{CutAt, ShortRun, WrongOctet, TooShort, TooLong, FcsDiffers}
+use Rattle.reason.specs.declared.Reason.the-variants.{LengthBroken, NotForUs, TookPause, TookPfc, DroppedControl, Handed}
+use Rattle.reason.specs.declared.Why.{Why}
+use Rattle.reason.specs.declared.Why.the-variants.{Because}
+use Rattle.reason.specs.declared.Explained.{Explained}
+use Rattle.reason.specs.Values.{whyOutcome, whyRefusal}
 use Rattle.log.specs.declared.Record.{Record}
 use Rattle.log.specs.declared.LogRead.{LogRead}
 use Rattle.log.specs.declared.LogRead.the-variants.{Holds}
@@ -163,6 +171,43 @@ readingNumbers r =
     ∷ answerPart (r .answer) .len
     ∷ answerWay (r .answer)
     ∷ replicate 3 0
+
+-- six octets as one number, the first octet highest
+unfoldable pub sixNumber : Six → ℕ
+sixNumber d = d .0 * 0x100_0000_0000 + d .1 * 0x1_0000_0000 + d .2 * 0x100_0000 + d .3 * 0x1_0000 + d .4 * 0x100 + d .5
+
+-- a reason, as 3 numbers: which one, 1 to 12 in the order of `enum Reason`, and its evidence, 0 where it has none
+unfoldable pub reasonNumbers : Reason → List ℕ
+reasonNumbers (CutAt p o) = 1 ∷ p ∷ o ∷ []
+reasonNumbers (ShortRun n) = 2 ∷ n ∷ 0 ∷ []
+reasonNumbers (WrongOctet p) = 3 ∷ p ∷ 0 ∷ []
+reasonNumbers (TooShort n m) = 4 ∷ n ∷ m ∷ []
+reasonNumbers (TooLong n m) = 5 ∷ n ∷ m ∷ []
+reasonNumbers (FcsDiffers a b) = 6 ∷ a ∷ b ∷ []
+reasonNumbers (LengthBroken n m) = 7 ∷ n ∷ m ∷ []
+reasonNumbers (NotForUs d) = 8 ∷ sixNumber d ∷ 0 ∷ []
+reasonNumbers (TookPause n) = 9 ∷ n ∷ 0 ∷ []
+reasonNumbers (TookPfc n) = 10 ∷ n ∷ 0 ∷ []
+reasonNumbers (DroppedControl n) = 11 ∷ n ∷ 0 ∷ []
+reasonNumbers (Handed p n) = 12 ∷ p ∷ n ∷ []
+
+-- 0 for a reason or a refusal, 1 `none`, 2 `open`, as of a reading
+abbrev pub whyKind : Why → ℕ
+whyKind (Why.Refused x) = 0
+whyKind Why.Nothing = 1
+whyKind Why.Open = 2
+whyKind (Because r) = 0
+
+-- "`none` and `open` have no reason"
+unfoldable pub whyReason : Why → List ℕ
+whyReason (Why.Refused x) = replicate 3 0
+whyReason Why.Nothing = replicate 3 0
+whyReason Why.Open = replicate 3 0
+whyReason (Because r) = reasonNumbers r
+
+-- why a Start has its outcome, as 8 numbers: refusal, kind, outcome, the Start's place, the next place, and the reason's three
+unfoldable pub explainNumbers : Explained → List ℕ
+explainNumbers e = whyRefusal (e .answer) ∷ whyKind (e .answer) ∷ whyOutcome (e .answer) ∷ e .start ∷ e .next ∷ whyReason (e .answer)
 
 -- a walk, as 4 numbers: refusal, counted Starts, 1 if it ended open, and a zero
 unfoldable pub walkNumbers : WalkEnd → List ℕ

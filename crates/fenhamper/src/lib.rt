@@ -7,6 +7,10 @@ use log::Record;
 use logging::KeepRefusal;
 use logging::LogEnd;
 use logging::LogWalk;
+use reason::Explained;
+use reason::Reason;
+use reason::Six;
+use reason::Why;
 use receive::Answer;
 use receive::Reading;
 use receive::WalkEnd;
@@ -27,6 +31,7 @@ use writing::Kind;
 use writing::Tag;
 ghost use mathlib.Core.Path.{_≡_};
 ghost use mathlib.Core.Bool.{cond, not};
+ghost use mathlib.Core.List.{_∷_};
 ghost use Prim.Native.Nat.{_+_, _<_, _≤_};
 ghost use lib.ListN.{length};
 ghost use lib.Dec.{eqb};
@@ -37,6 +42,8 @@ ghost use Rattle.station.specs.Station.{fresh, screenOf};
 ghost use Rattle.flow.specs.Timers.{timer};
 ghost use Rattle.receive.specs.Reading.{reading};
 ghost use Rattle.receive.specs.Walk.{walked};
+ghost use Rattle.reason.specs.Reasons.{explained};
+ghost use Rattle.reason.specs.Values.{reasonNumber};
 ghost use Rattle.log.specs.Numbers.{loggedRefusal};
 ghost use Rattle.log.specs.Log.{recordOf, appending, recordRead, usedInFront};
 ghost use Rattle.log.specs.Readers.{nextStep};
@@ -45,6 +52,7 @@ ghost use Rattle.send.specs.Sending.{clientSending, pauseSending, pfcSending, i
 ghost use Rattle.fenhamper.specs.Face.{layout, flowOf, addressAt, settingsOf, countersOf, timersOf, stateOf};
 ghost use Rattle.fenhamper.specs.Face.{portOf, kindOf, tagAt, countedTag, tagsOf, formOf, clientOf, quantaOf, classesOf};
 ghost use Rattle.fenhamper.specs.Face.{recordNamed, stateNumbers, readingNumbers, walkNumbers, sentNumbers, keepRefusalNumber, keepNumbers, partWithin};
+ghost use Rattle.fenhamper.specs.Face.{sixNumber, reasonNumbers, explainNumbers};
 ghost use Rattle.fenhamper.specs.Face.{stateLeft, told, readTold, walkTold, wrote, sendTold};
 ghost use Rattle.fenhamper.specs.Face.{kept, keepTold, lodged, appendTold, recordGiven, recordTold, stepGiven, stepTold, numberGiven, numberTold};
 
@@ -363,6 +371,66 @@ fn reading_numbers(r: Reading) -> [u64; 12]
     }
 }
 
+// An octet as a number of 64 bits.
+fn wide64(x: u8) -> u64
+    ensures { λ r. ⌜ (r ≡ x) × (r < 256) ⌝ }
+{
+    x as u64
+}
+
+// Six octets as one number, the first octet highest.
+fn six_number(d: Six) -> u64
+    ensures { λ n. ⌜ n ≡ sixNumber d ⌝ }
+{
+    let a = wide64(d.0);
+    let b = wide64(d.1);
+    let c = wide64(d.2);
+    let e = wide64(d.3);
+    let f = wide64(d.4);
+    let g = wide64(d.5);
+    a * 0x100_0000_0000 + b * 0x1_0000_0000 + c * 0x100_0000 + e * 0x1_0000 + f * 0x100 + g
+}
+
+// The number of the outcome that a reason is for, and the reason's three.
+fn reason_numbers(r: Reason) -> [u64; 4]
+    ensures { λ n. ⌜ n ≡ reasonNumber r ∷ reasonNumbers r ⌝ }
+{
+    match r {
+        Reason::CutAt(place, by) => [1, 1, place as u64, by as u64],
+        Reason::ShortRun(length) => [2, 2, length as u64, 0],
+        Reason::WrongOctet(place) => [2, 3, place as u64, 0],
+        Reason::TooShort(length, limit) => [3, 4, length as u64, limit as u64],
+        Reason::TooLong(length, limit) => [4, 5, length as u64, limit as u64],
+        Reason::FcsDiffers(there, made) => [5, 6, there as u64, made as u64],
+        Reason::LengthBroken(field, length) => [6, 7, field as u64, length as u64],
+        Reason::NotForUs(d) => [7, 8, six_number(d), 0],
+        Reason::TookPause(opcode) => [8, 9, opcode as u64, 0],
+        Reason::TookPfc(opcode) => [9, 10, opcode as u64, 0],
+        Reason::DroppedControl(opcode) => [10, 11, opcode as u64, 0],
+        Reason::Handed(place, length) => [11, 12, place as u64, length as u64],
+    }
+}
+
+fn explain_numbers(e: Explained) -> [u64; 8]
+    ensures { λ n. ⌜ n ≡ explainNumbers e ⌝ }
+{
+    let answer = e.answer;
+    let start = e.start as u64;
+    let next = e.next as u64;
+    match answer {
+        Why::Refused(x) => {
+            let n = station::refusal_number(x) as u64;
+            [n, 0, 0, start, next, 0, 0, 0]
+        }
+        Why::Nothing => [0, 1, 0, start, next, 0, 0, 0],
+        Why::Open => [0, 2, 0, start, next, 0, 0, 0],
+        Why::Because(r) => {
+            let n = reason_numbers(r);
+            [0, 0, n[0], start, next, n[1], n[2], n[3]]
+        }
+    }
+}
+
 fn walk_numbers(w: WalkEnd) -> [u64; 4]
     ensures { λ n. ⌜ n ≡ walkNumbers w ⌝ }
 {
@@ -517,6 +585,20 @@ pub extern "C" fn fenhamper_read(
     let r = receive::read(settings(s), state_of(state), octets, marks, place);
     *answer = reading_numbers(r);
     leave(state, answer[0], r.state);
+}
+
+#[no_mangle]
+pub extern "C" fn fenhamper_explain(
+    s: &[u8; 48],
+    octets: &[u8],
+    marks: &[u8],
+    place: usize,
+    answer: &mut [u64; 8],
+)
+    ensures { λ _. ⌜ now (answer .exit)
+        ≡ explainNumbers (explained (settingsOf (now (s .entry))) (now (octets .entry)) (now (marks .entry)) place) ⌝ }
+{
+    *answer = explain_numbers(reason::explain(settings(s), octets, marks, place));
 }
 
 #[no_mangle]

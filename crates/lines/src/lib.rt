@@ -16,9 +16,10 @@ ghost use Rattle.lines.specs.Decimal.{decimal};
 ghost use Rattle.lines.specs.Lines.{programSettings, followed, fourNumbers, lastLine, captureLines, badInput, printed, recordOctets, recordMarks};
 ghost use Rattle.splice.specs.Written.{Put};
 
-// ---- writers: each gives the place behind what it wrote
+// ---- writers: each gives the place behind what it wrote, and asks for the room; those that are public are so for this repository's crates only
 
-fn put_octet(out: &mut [u8], at: usize, v: u8) -> usize
+// One octet.
+pub fn put_octet(out: &mut [u8], at: usize, v: u8) -> usize
     requires { ⌜ at + 1 ≤ length (now out) ⌝ }
     ensures { λ r. ⌜ Put (now (out .entry)) at (v ∷ []) r (now (out .exit)) ⌝ }
 {
@@ -27,7 +28,7 @@ fn put_octet(out: &mut [u8], at: usize, v: u8) -> usize
 }
 
 // The digits of n: those of its tenth, and the last one.
-fn put_decimal(out: &mut [u8], at: usize, n: u64) -> usize
+pub fn put_decimal(out: &mut [u8], at: usize, n: u64) -> usize
     requires { ⌜ at + length (decimal n) ≤ length (now out) ⌝ }
     ensures { λ r. ⌜ Put (now (out .entry)) at (decimal n) r (now (out .exit)) ⌝ }
 {
@@ -39,7 +40,7 @@ fn put_decimal(out: &mut [u8], at: usize, n: u64) -> usize
 }
 
 // A number and the octet after it: 21 octets at most.
-fn put_followed(out: &mut [u8], at: usize, n: u64, v: u8) -> usize
+pub fn put_followed(out: &mut [u8], at: usize, n: u64, v: u8) -> usize
     requires { ⌜ at + 21 ≤ length (now out) ⌝ }
     ensures { λ r. ⌜ Put (now (out .entry)) at (followed n v) r (now (out .exit)) ⌝ }
     ensures { λ r. ⌜ r ≤ at + 21 ⌝ }
@@ -60,7 +61,8 @@ fn put_line(out: &mut [u8], at: usize, a: u64, b: u64, c: u64, d: u64) -> usize
     put_followed(out, k, d, 10)
 }
 
-fn put_last(out: &mut [u8], at: usize, n: u64, opened: u64) -> usize
+// The last line: 84 octets at most.
+pub fn put_last(out: &mut [u8], at: usize, n: u64, opened: u64) -> usize
     requires { ⌜ at + 84 ≤ length (now out) ⌝ }
     ensures { λ r. ⌜ Put (now (out .entry)) at (lastLine n opened) r (now (out .exit)) ⌝ }
     ensures { λ r. ⌜ r ≤ at + 84 ⌝ }
@@ -73,7 +75,8 @@ fn put_last(out: &mut [u8], at: usize, n: u64, opened: u64) -> usize
 
 // ---- the lines of a capture
 
-fn settings() -> Settings
+// The settings of the program.
+pub fn settings() -> Settings
     ensures { λ r. ⌜ r ≡ programSettings ⌝ }
 {
     let nobody = Address([0, 0, 0, 0, 0, 0]);
@@ -134,7 +137,7 @@ fn put_lines(octets: &[u8], marks: &[u8], out: &mut [u8]) -> usize
 // ---- the whole output
 
 // An odd input, or one of more than 32,768 records.
-fn bad_input(input: &[u8]) -> bool
+pub fn bad_input(input: &[u8]) -> bool
     ensures { λ r. ⌜ r ≡ badInput (now (input .entry)) ⌝ }
 {
     if input.len() % 2 == 1 {
@@ -144,7 +147,7 @@ fn bad_input(input: &[u8]) -> bool
 }
 
 // The octets and the marks of the records, from the start of the two buffers on.
-fn split(input: &[u8], octets: &mut [u8], marks: &mut [u8])
+pub fn split(input: &[u8], octets: &mut [u8], marks: &mut [u8])
     requires { ⌜ (length (now input) ≤ length (now octets) * 2) × (length (now input) ≤ length (now marks) * 2) ⌝ }
     ensures { λ r. ⌜ Put (now (octets .entry)) 0 (recordOctets (now (input .entry))) (length (now (input .entry)) / 2) (now (octets .exit)) ⌝ }
     ensures { λ r. ⌜ Put (now (marks .entry)) 0 (recordMarks (now (input .entry))) (length (now (input .entry)) / 2) (now (marks .exit)) ⌝ }

@@ -240,7 +240,8 @@ fn keep_on(
                 kept: n,
             };
         }
-        let o = outcome::outcome(t, s, &octets[from..end], octets[end]);
+        let judged = outcome::judge(t, s, &octets[from..end], octets[end]);
+        let o = judged.outcome;
         station::count(o, &mut counters);
         if flow::sets_timers(o) {
             let f = outcome::frame_of(&octets[from..end]);

@@ -1,7 +1,7 @@
 -- Rules 1 and 2, a table row by row, and the table of outcomes in the steps that the code takes. Assumes nothing.
 use Prim.Native.Nat.{ℕ, zero, suc, _≤_, _<_}
 use native.Mathlib.Omega.{arith}
-use mathlib.Core.Path.{_≡_, refl, sym, ap, ap₂, _∙_}
+use mathlib.Core.Path.{_≡_, refl, sym, ap, ap₂, _∙_, subst}
 use mathlib.Core.Bool.{Bool, true, false, not, _||_, or-true}
 use mathlib.Core.List.{List, [], _∷_}
 use lib.ListN.{length, getD, take, drop, drop-of-length-le}
@@ -16,12 +16,15 @@ use Rattle.station.specs.declared.Settings.{Settings}
 use Rattle.station.specs.declared.Outcome.{Outcome}
 use Rattle.station.specs.declared.Outcome.the-variants.{Cut, BadPreamble, Undersized, Oversized, WrongFcs}
 use Rattle.station.specs.Numbers.{outcomeNumber}
+use Rattle.fcs.specs.Fcs.{fcsOf}
+use Rattle.fields.specs.declared.Layout.{Layout}
 use Rattle.fields.specs.Places.{layoutOf}
-use Rattle.frame.specs.Frame.{undersized, oversized, wrongFcs}
+use Rattle.frame.specs.Frame.{undersized, oversized, covered, wrongFcs}
 use Rattle.frame.specs.Length.{wrongLength}
 use Rattle.outcome.specs.declared.Early.{Early}
 use Rattle.outcome.specs.declared.Early.the-variants.{Decided, Framed}
-use Rattle.outcome.specs.Outcomes.{cut, badPreamble, frameOf, outcomes, outcome}
+use Rattle.outcome.specs.declared.Judged.{Judged}
+use Rattle.outcome.specs.Outcomes.{cut, badPreamble, frameOf, outcomes, outcome, checkMade, judged}
 use Rattle.outcome.specs.Steps.{earlyOutcomes, lateOutcomes}
 
 -- ---- rule 1
@@ -119,6 +122,58 @@ module _ (s : Settings) (run : List ℕ) (by : ℕ) where
   pub outcome-framed : first (earlyOutcomes run by) ≡ Framed → outcome s run by ≡ first late
   unfolding outcome
   outcome-framed h = agrees .framed h
+
+-- ---- the check that was made: none where rules 1 to 4 decide, and one where a later rule does
+
+module _ {A : Type 0} (P : A → Type 0) where
+  -- P holds of all that a table can give
+  unfoldable Gives : Table A → Type 0
+  Gives (otherwise a) = P a
+  Gives (r ∣ rows) = P (r .gives) × Gives rows
+
+  gives-either : (b : Bool) (x y : A) → P x → P y → P (elim b [ true ↦ x | false ↦ y ])
+  gives-either true x y p q = p
+  gives-either false x y p q = q
+
+  gives-first : (t : Table A) → Gives t → P (first t)
+  unfolding Gives first
+  gives-first (otherwise a) h = h
+  gives-first (r ∣ rows) h = gives-either (r .holds) (r .gives) (first rows) (h .0) (gives-first rows (h .1))
+
+-- what rules 1 to 3 leave made no check
+abbrev NoneMade : List ℕ → Early → Type 0
+NoneMade f (Decided o) = 0 ≡ checkMade o f
+NoneMade f Framed = Unit {0}
+
+pub early-made : (run : List ℕ) (by : ℕ) (o : Outcome) (f : List ℕ) → first (earlyOutcomes run by) ≡ Decided o → 0 ≡ checkMade o f
+early-made run by o g h =
+    subst (NoneMade g) h
+    (gives-first (NoneMade g) (earlyOutcomes run by) (unfold Gives earlyOutcomes checkMade in (refl, (refl, (refl, tt)))))
+
+pub late-made : (s : Settings) (f : List ℕ) (l : Layout) → fcsOf (covered f) ≡ checkMade (first (lateOutcomes s f l)) f
+late-made s g l =
+    gives-first (λ (o : Outcome). fcsOf (covered g) ≡ checkMade o g) (lateOutcomes s g l)
+    (unfold Gives lateOutcomes checkMade in (refl, (refl, (refl, (refl, (refl, refl))))))
+
+pub none-made : (f : List ℕ) → 0 ≡ checkMade Oversized f
+unfolding checkMade
+none-made f = refl
+
+pub wrong-made : (f : List ℕ) → fcsOf (covered f) ≡ checkMade WrongFcs f
+unfolding checkMade
+wrong-made f = refl
+
+-- what is told is what is judged
+pub told : (s : Settings) (run : List ℕ) (by : ℕ) (o : Outcome) (n : ℕ) → o ≡ outcome s run by → n ≡ checkMade o (frameOf run)
+    → _≡_ {A = Judged} (record { outcome = o; check = n }) (judged s run by)
+unfolding judged
+told s run by o n e m =
+    ap₂ (λ (p : Outcome) (k : ℕ). record { outcome = p; check = k }) e (m ∙ ap (λ (p : Outcome). checkMade p (frameOf run)) e)
+
+-- so of what is judged the outcome is the table's
+pub judged-outcome : (s : Settings) (run : List ℕ) (by : ℕ) {j : Judged} → j ≡ judged s run by → j .outcome ≡ outcome s run by
+unfolding judged
+judged-outcome s run by e = ap (λ (k : Judged). k .outcome) e
 
 -- ---- the table bears document 01's numbers, in order
 

@@ -1,18 +1,21 @@
 -- Document 01, "Reading one Start": the table of outcomes.
 use Prim.Native.Nat.{ℕ}
-use mathlib.Core.Bool.{Bool, not, _||_}
+use mathlib.Core.Bool.{Bool, not, _||_, cond}
 use mathlib.Core.List.{List}
 use lib.ListN.{length, take, drop}
-use lib.Dec.{eqb, ltb}
+use lib.Dec.{eqb, ltb, leb}
 use Rattle.line.specs.Line.{terminate, preamble}
 use Rattle.line.specs.Octets.{sameOctets}
 use Rattle.line.specs.Table.{Table, _⇒_, _∣_, otherwise, first}
 use Rattle.station.specs.declared.Settings.{Settings}
 use Rattle.station.specs.declared.Outcome.{Outcome}
 use Rattle.station.specs.declared.Outcome.the-variants.{Cut, BadPreamble, Undersized, Oversized, WrongFcs, WrongLength, Filtered, PauseTaken, PfcTaken, ControlDropped, HandedOut}
-use Rattle.frame.specs.Frame.{undersized, oversized, wrongFcs}
+use Rattle.station.specs.Numbers.{outcomeNumber}
+use Rattle.fcs.specs.Fcs.{fcsOf}
+use Rattle.frame.specs.Frame.{undersized, oversized, covered, wrongFcs}
 use Rattle.frame.specs.Length.{wrongLength}
 use Rattle.control.specs.Control.{filtered, takesPause, takesPfc, dropsControl}
+use Rattle.outcome.specs.declared.Judged.{Judged}
 
 -- rule 1: "ended by anything but Terminate"
 unfoldable pub cut : ℕ → Bool
@@ -44,3 +47,10 @@ outcomes s run by f =
 -- "the first rule that holds gives the outcome"
 unfoldable pub outcome : Settings → List ℕ → ℕ → Outcome
 outcome s run by = first (outcomes s run by (frameOf run))
+
+-- the outcome with the check that rule 5 compared with, of a frame that came so far, else 0
+unfoldable pub checkMade : Outcome → List ℕ → ℕ
+checkMade o f = cond (leb 5 (outcomeNumber o)) (fcsOf (covered f)) 0
+
+unfoldable pub judged : Settings → List ℕ → ℕ → Judged
+judged s run by = record { outcome = outcome s run by; check = checkMade (outcome s run by) (frameOf run) }

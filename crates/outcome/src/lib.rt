@@ -12,7 +12,7 @@ ghost use Rattle.station.specs.Station.{isGroup};
 ghost use Rattle.fields.specs.Fields.{destination};
 ghost use Rattle.fields.specs.Places.{laidOut};
 ghost use Rattle.frame.specs.Frame.{dataFrom};
-ghost use Rattle.outcome.specs.Outcomes.{badPreamble, frameOf, outcome};
+ghost use Rattle.outcome.specs.Outcomes.{badPreamble, frameOf, outcome, judged};
 ghost use Rattle.outcome.specs.Steps.{earlyOutcomes, lateOutcomes};
 ghost use Rattle.outcome.specs.Status.{frameBits, statusOf};
 
@@ -20,6 +20,12 @@ ghost use Rattle.outcome.specs.Status.{frameBits, statusOf};
 enum Early {
     Decided(Outcome),
     Framed,
+}
+
+// The outcome of a run, and the check that rule 5 compared with: 0 where an earlier rule held.
+pub struct Judged {
+    pub outcome: Outcome,
+    pub check: u32,
 }
 
 // ---- the outcome
@@ -91,25 +97,39 @@ fn after_fcs(s: Settings, f: &[u8], tags: u8) -> Outcome
     Outcome::HandedOut
 }
 
-// The outcome of a run ended by the control octet `by`: the first rule that holds. In steps, so that a run which rules 1 to 3 decide costs no look at
+// What becomes of a run ended by the control octet `by`: the first rule that holds. In steps, so that a run which rules 1 to 3 decide costs no look at
 // the settings, and tags are counted once for rules 4 and 6. The FCS by tables if they are lent, and so public for this repository's crates only.
-pub fn outcome(t: &[u32], s: Settings, run: &[u8], by: u8) -> Outcome
+pub fn judge(t: &[u32], s: Settings, run: &[u8], by: u8) -> Judged
     requires { ⌜ Lent (now t) ⌝ }
-    ensures { λ r. ⌜ r ≡ outcome s (now (run .entry)) by ⌝ }
+    ensures { λ r. ⌜ r ≡ judged s (now (run .entry)) by ⌝ }
 {
     let e = before_tags(run, by);
     if let Early::Decided(o) = e {
-        return o;
+        return Judged {
+            outcome: o,
+            check: 0,
+        };
     }
     let f = frame_of(run);
     let tags = fields::tag_count(f);
     if frame::oversized(s.limit, f, tags) {
-        return Outcome::Oversized;
+        return Judged {
+            outcome: Outcome::Oversized,
+            check: 0,
+        };
     }
-    if frame::wrong_fcs(t, f) {
-        return Outcome::WrongFcs;
+    let check = frame::check_of(t, f);
+    if frame::differs(f, check) {
+        return Judged {
+            outcome: Outcome::WrongFcs,
+            check,
+        };
     }
-    after_fcs(s, f, tags)
+    let late = after_fcs(s, f, tags);
+    Judged {
+        outcome: late,
+        check,
+    }
 }
 
 // ---- the status word

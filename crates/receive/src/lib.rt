@@ -136,7 +136,8 @@ fn look(s: Settings, octets: &[u8], marks: &[u8], place: usize) -> Sight
     };
     // a single reading has no time to make tables
     let none = [0u32; 1];
-    let o = outcome::outcome(&none[..0], s, &octets[from..end], octets[end]);
+    let judged = outcome::judge(&none[..0], s, &octets[from..end], octets[end]);
+    let o = judged.outcome;
     // here and not in `look_run`: settings that are lent on from one place only are not taken apart, which is a sixth of a short reading
     let way = match o {
         Outcome::PauseTaken | Outcome::PfcTaken | Outcome::ControlDropped | Outcome::HandedOut =>
@@ -235,7 +236,8 @@ fn walk_on(t: &[u32], s: Settings, state: State, octets: &[u8], marks: &[u8]) ->
                 },
             };
         };
-        let o = outcome::outcome(t, s, &octets[from..end], octets[end]);
+        let judged = outcome::judge(t, s, &octets[from..end], octets[end]);
+        let o = judged.outcome;
         station::count(o, &mut counters);
         if flow::sets_timers(o) {
             let f = outcome::frame_of(&octets[from..end]);

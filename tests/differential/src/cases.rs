@@ -10,7 +10,7 @@ use reference::{Client, Flow, Form, Port, Settings};
 /// Makes the calls of one case of a seed.
 pub fn run(bench: &mut Bench, seed: u64, case: u64) -> Result<(), Difference> {
     let mut prng = bench.begin(seed, case);
-    match prng.below(21) {
+    match prng.below(22) {
         0..=7 => reading(bench, &mut prng),
         8..=13 => sending(bench, &mut prng),
         14 => holding(bench, &mut prng),
@@ -18,6 +18,7 @@ pub fn run(bench: &mut Bench, seed: u64, case: u64) -> Result<(), Difference> {
         16..=17 => records(bench, &mut prng),
         18 => logging(bench, &mut prng),
         19 => keeping(bench, &mut prng),
+        20 => reasons(bench, &mut prng),
         _ => lanes(bench, &mut prng),
     }
 }
@@ -45,6 +46,37 @@ fn reading(bench: &mut Bench, prng: &mut Prng) -> Result<(), Difference> {
     for _ in 0..prng.between(1, 6) {
         let place = generate::place(prng, &symbols);
         bench.read(&s, &mut going_on, &lent, place)?;
+    }
+    Ok(())
+}
+
+/// Short captures, each at a limit of some reason, are explained, and one like those that are read.
+fn reasons(bench: &mut Bench, prng: &mut Prng) -> Result<(), Difference> {
+    let drawn = generate::settings(prng);
+    let mut settings = generate::settings_record(prng, &drawn);
+    if prng.one_in(8) {
+        generate::spoil(prng, &mut settings.0);
+    }
+    let s = records::settings(&settings);
+    for _ in 0..prng.between(8, 16) {
+        let symbols = generate::explained_capture(prng, &s);
+        let lent = lend(prng, &symbols);
+        let place = match prng.below(3) {
+            0 => generate::place(prng, &symbols),
+            _ => 0,
+        };
+        if prng.coin() {
+            bench.explain(&s, &lent, place)?;
+        } else {
+            bench.c_explain(&settings, &lent, place)?;
+        }
+    }
+    let symbols = generate::capture(prng, &s);
+    let lent = lend(prng, &symbols);
+    for _ in 0..prng.between(1, 4) {
+        let place = generate::place(prng, &symbols);
+        bench.explain(&s, &lent, place)?;
+        bench.c_explain(&settings, &lent, place)?;
     }
     Ok(())
 }

@@ -1,6 +1,7 @@
 //! The coverage table: what has to be hit, and how often it was.
 use crate::seen::{CSeen, FcsSeen, ReadingSeen, RowSeen, SendingSeen, WalkSeen};
 use crate::seen_log::{GoingOnSeen, KeepSeen, LogSeen};
+use crate::seen_reason::ReasonSeen;
 use crate::table;
 use std::fmt;
 
@@ -10,6 +11,8 @@ pub(crate) enum When {
     Reading(Box<dyn Fn(&ReadingSeen) -> bool>),
     /// By a walk.
     Walk(Box<dyn Fn(&WalkSeen) -> bool>),
+    /// By a reason asked for.
+    Reason(Box<dyn Fn(&ReasonSeen) -> bool>),
     /// By a sending.
     Sending(Box<dyn Fn(&SendingSeen) -> bool>),
     /// By a row of frames on both ports.
@@ -57,6 +60,14 @@ impl Coverage {
     pub(crate) fn walk(&mut self, seen: &WalkSeen) {
         for row in &mut self.rows {
             if let When::Walk(test) = &row.when {
+                row.count += u64::from(test(seen));
+            }
+        }
+    }
+
+    pub(crate) fn reason(&mut self, seen: &ReasonSeen) {
+        for row in &mut self.rows {
+            if let When::Reason(test) = &row.when {
                 row.count += u64::from(test(seen));
             }
         }

@@ -68,6 +68,16 @@ pub const COUNTED: u64 = 0;
 pub const NONE: u64 = 1;
 pub const OPEN: u64 = 2;
 
+/// Numbers of the answer that names a reason.
+pub const EXPLAINED: usize = 8;
+pub const EXPLAINED_REFUSAL: usize = 0;
+pub const EXPLAINED_KIND: usize = 1;
+pub const EXPLAINED_OUTCOME: usize = 2;
+pub const EXPLAINED_START: usize = 3;
+pub const EXPLAINED_NEXT: usize = 4;
+/// The reason's number, and its evidence behind it.
+pub const EXPLAINED_REASON: usize = 5;
+
 /// Numbers of a walk: those that mean something, then zeros.
 pub const WALKED: usize = 4;
 pub const WALKED_REFUSAL: usize = 0;
@@ -143,6 +153,15 @@ extern "C" {
         marks_length: usize,
         place: usize,
         reading: &mut [u64; READING],
+    );
+    fn fenhamper_explain(
+        settings: &Settings,
+        octets: *const u8,
+        octets_length: usize,
+        marks: *const u8,
+        marks_length: usize,
+        place: usize,
+        explained: &mut [u64; EXPLAINED],
     );
     fn fenhamper_walk(
         settings: &Settings,
@@ -270,6 +289,25 @@ pub fn read(
         );
     }
     reading
+}
+
+pub fn explain(settings: &Settings, (octets, marks): Capture, place: usize) -> [u64; EXPLAINED] {
+    let mut explained = [UNWRITTEN; EXPLAINED];
+    let (octets, octets_length) = (octets.as_ptr(), octets.len());
+    let (marks, marks_length) = (marks.as_ptr(), marks.len());
+    // SAFETY: each pointer and length is one slice's.
+    unsafe {
+        fenhamper_explain(
+            settings,
+            octets,
+            octets_length,
+            marks,
+            marks_length,
+            place,
+            &mut explained,
+        );
+    }
+    explained
 }
 
 pub fn walk(settings: &Settings, state: &mut State, (octets, marks): Capture) -> [u64; WALKED] {

@@ -21,6 +21,7 @@ use Rattle.station.specs.Station.{counted}
 use Rattle.flow.specs.Timers.{timersAfter}
 use Rattle.flow.proofs.Stays.{stays}
 use Rattle.outcome.specs.Outcomes.{outcome, frameOf}
+use Rattle.outcome.proofs.Rules.{judged-outcome}
 use Rattle.log.specs.declared.Record.{Record}
 use Rattle.log.specs.Log.{frontCount, octetsOfRecord}
 use Rattle.log.specs.Searched.{unusedFrom}
@@ -62,10 +63,10 @@ turning c = c .before .before .before .before
 abbrev starting : tie.After-known-told2 Inv-loop μ-loop → tie.After-known-told Inv-loop μ-loop
 starting c = c .before .before .before .before
 
-abbrev unused : tie.After-outcome Inv-loop μ-loop → tie.Else1 Inv-loop μ-loop
+abbrev unused : tie.After-judge Inv-loop μ-loop → tie.Else1 Inv-loop μ-loop
 unused c = c .before .before .before
 
-abbrev settled : tie.Joined2 Inv-loop μ-loop → tie.After-outcome Inv-loop μ-loop
+abbrev settled : tie.Joined2 Inv-loop μ-loop → tie.After-judge Inv-loop μ-loop
 settled c = c .before .before .before .before
 
 abbrev made : tie.After-record-of-run Inv-loop μ-loop → tie.Joined2 Inv-loop μ-loop
@@ -195,20 +196,20 @@ returns-3 c =
     (sym (i .4) ∙ c .if1 .taken ∙ ap (λ (m : ℕ). m / 16) (sym (i .3))))
     ∙ i .0
 
-sub-outcome : tie.Need-sub-outcome Inv-loop μ-loop
-sub-outcome c = let e = end-inside (c .before) in omega arith
+sub-judge : tie.Need-sub-judge Inv-loop μ-loop
+sub-judge c = let e = end-inside (c .before) in omega arith
 
-part-outcome-start : tie.Need-part-outcome-start Inv-loop μ-loop
-part-outcome-start c = let e = end-inside (c .before) in omega arith
+part-judge-start : tie.Need-part-judge-start Inv-loop μ-loop
+part-judge-start c = let e = end-inside (c .before) in omega arith
 
-part-outcome-end : tie.Need-part-outcome-end Inv-loop μ-loop
-part-outcome-end c = let e = end-inside (c .before) in omega arith
+part-judge-end : tie.Need-part-judge-end Inv-loop μ-loop
+part-judge-end c = let e = end-inside (c .before) in omega arith
 
-shared-slice-read-outcome : tie.Need-shared-slice-read-outcome Inv-loop μ-loop
-shared-slice-read-outcome c = let e = end-inside (c .before .before .before) in omega arith
+shared-slice-read-judge : tie.Need-shared-slice-read-judge Inv-loop μ-loop
+shared-slice-read-judge c = let e = end-inside (c .before .before .before) in omega arith
 
-outcome-requires : tie.Need-outcome-requires Inv-loop μ-loop
-outcome-requires c κs = call (turning (starting (c .before .before .before))) .pre .0
+judge-requires : tie.Need-judge-requires Inv-loop μ-loop
+judge-requires c κs = call (turning (starting (c .before .before .before))) .pre .0
 
 count-requires : tie.Need-count-requires Inv-loop μ-loop
 count-requires c κs = search needs
@@ -292,9 +293,9 @@ becomes c = let k = ending c in let l = turning (starting k) in outcome (call l 
 abbrev recorded : tie.Joined2 Inv-loop μ-loop → Record
 recorded c = let k = starting (ending c) in recordOfFrame (call (turning k) .args .s) (start k) (frameOf (run c)) (becomes c)
 
-outcome-is : (c : tie.Joined2 Inv-loop μ-loop) → settled c .outcome .result ≡ becomes c
+outcome-is : (c : tie.Joined2 Inv-loop μ-loop) → settled c .judge .result .outcome ≡ becomes c
 unfolding between
-outcome-is c = settled c .outcome .ensures
+outcome-is c = judged-outcome _ _ _ (settled c .judge .ensures)
 
 -- the counters and the timers after a turn, these set or left as they were
 counters-now : (c : tie.Joined2 Inv-loop μ-loop) → c .before .before .count .last .1 .0 ≡ counted (becomes c) (turning (starting (ending c)) .loop .counters)
@@ -306,7 +307,7 @@ Moved c o = c .if2 .timers ≡ timersAfter o (frameOf (run c)) (turning (startin
 timers-now : (c : tie.Joined2 Inv-loop μ-loop) → Moved c (becomes c)
 unfolding between
 timers-now c =
-    let o = settled c .outcome .result in
+    let o = settled c .judge .result .outcome in
     let was = turning (starting (ending c)) .loop .timers in
     ⊎-elim {C = Moved c o}
     (λ w. w .4 ∙ w .3 .ensures ∙ ap (λ (l : List ℕ). timersAfter o l was) (w .2 .ensures))
@@ -383,11 +384,11 @@ keep-on-spec =
     returns-2
     same-length-3
     returns-3
-    sub-outcome
-    part-outcome-start
-    part-outcome-end
-    shared-slice-read-outcome
-    outcome-requires
+    sub-judge
+    part-judge-start
+    part-judge-end
+    shared-slice-read-judge
+    judge-requires
     count-requires
     sets-timers-requires
     sub-frame-of

@@ -18,6 +18,7 @@ use Rattle.receive.proofs.Refusals.{passed}
 use Rattle.control.specs.Control.{frameWay, wayCarried}
 use Rattle.control.proofs.Ways.{some-way, no-way}
 use Rattle.outcome.specs.Outcomes.{outcome, frameOf}
+use Rattle.outcome.proofs.Rules.{judged-outcome}
 use Rattle.receive.proofs.Sights.{sight-read}
 use Rattle.receive.specs.declared.Sight.{Sight}
 use Rattle.receive.specs.Reading.{readRefusals, readRun}
@@ -37,7 +38,7 @@ passing c = c .before .before .before .before
 abbrev starting : tie.After-known-told3 → tie.After-known-told2
 starting c = c .before .before .before .before
 
-abbrev ending : tie.After-outcome → tie.After-known-told3
+abbrev ending : tie.After-judge → tie.After-known-told3
 ending c = c .before .before .before .before
 
 -- the octets, the Start's place and that of the end of its run
@@ -124,23 +125,23 @@ returns-3 c =
 array-share-prefix-none : tie.Need-array-share-prefix-none
 array-share-prefix-none c = search needs
 
-slice-aggregate-outcome : tie.Need-slice-aggregate-outcome
-slice-aggregate-outcome c = search needs
+slice-aggregate-judge : tie.Need-slice-aggregate-judge
+slice-aggregate-judge c = search needs
 
-sub-outcome : tie.Need-sub-outcome
-sub-outcome c = let e = end-inside (c .before) in omega arith
+sub-judge : tie.Need-sub-judge
+sub-judge c = let e = end-inside (c .before) in omega arith
 
-part-outcome-start : tie.Need-part-outcome-start
-part-outcome-start c = let e = end-inside (c .before) in omega arith
+part-judge-start : tie.Need-part-judge-start
+part-judge-start c = let e = end-inside (c .before) in omega arith
 
-part-outcome-end : tie.Need-part-outcome-end
-part-outcome-end c = let e = end-inside (c .before) in omega arith
+part-judge-end : tie.Need-part-judge-end
+part-judge-end c = let e = end-inside (c .before) in omega arith
 
-shared-slice-read-outcome : tie.Need-shared-slice-read-outcome
-shared-slice-read-outcome c = let e = end-inside (c .before .before .before) in omega arith
+shared-slice-read-judge : tie.Need-shared-slice-read-judge
+shared-slice-read-judge c = let e = end-inside (c .before .before .before) in omega arith
 
-outcome-requires : tie.Need-outcome-requires
-outcome-requires c κs = λ h. absurd (omega arith)
+judge-requires : tie.Need-judge-requires
+judge-requires c κs = λ h. absurd (omega arith)
 
 sub-frame-of : tie.Need-sub-frame-of
 sub-frame-of c = let e = end-inside (ending (c .before)) in omega arith
@@ -159,12 +160,12 @@ frame-way-requires c κs = search needs
 
 -- where the ways of the outcome meet, the number is the one that a reading carries
 way-is : (c : tie.At-match4-came) → let k = ending (c .before) in
-    c .match4 .way ≡ wayCarried (call (passing (starting k)) .args .s) (c .before .outcome .result) (frameOf (between (octets (starting k)) (start (starting k) + 1) (end k)))
+    c .match4 .way ≡ wayCarried (call (passing (starting k)) .args .s) (c .before .judge .result .outcome) (frameOf (between (octets (starting k)) (start (starting k) + 1) (end k)))
 unfolding between
 way-is c =
     let k = ending (c .before) in
     let s = call (passing (starting k)) .args .s in
-    let o = c .before .outcome .result in
+    let o = c .before .judge .result .outcome in
     ⊎-elim
     (λ w. w .4 ∙ w .3 .ensures ∙ ap (frameWay s) (w .2 .ensures) ∙ some-way s _ o (w .0 .keys1))
     (λ w. w .1 ∙ no-way s _ o (w .0 .keys2))
@@ -200,8 +201,8 @@ returns-4 c =
     let n : length run ≡ end k - (from + 1) = simp (length-take, length-drop) (omega arith) in
     let next : from + 1 + length run ≡ end k = omega arith in (
       λ st. ap (λ (l : Sight). readOf os l st) (c .look-run .ensures)
-          ∙ sight-read (a .s) os from run (o .outcome .result) st (ap (between os (from + 1)) next)
-          ∙ ap (readRun (a .s) st from run) (o .outcome .ensures)
+          ∙ sight-read (a .s) os from run (o .judge .result .outcome) st (ap (between os (from + 1)) next)
+          ∙ ap (readRun (a .s) st from run) (judged-outcome _ _ _ (o .judge .ensures))
           ∙ sym (read-ended _ st _ _ _ (fine (passing (starting k))) _ (found-start (starting k)) _ (found-end k)),
       subst (Inside os) (sym (c .look-run .ensures)) (λ h. (omega arith, omega arith)),
     )
@@ -224,12 +225,12 @@ look-spec =
     enum-told-3
     returns-3
     array-share-prefix-none
-    slice-aggregate-outcome
-    sub-outcome
-    part-outcome-start
-    part-outcome-end
-    shared-slice-read-outcome
-    outcome-requires
+    slice-aggregate-judge
+    sub-judge
+    part-judge-start
+    part-judge-end
+    shared-slice-read-judge
+    judge-requires
     sub-frame-of
     part-frame-of-start
     part-frame-of-end

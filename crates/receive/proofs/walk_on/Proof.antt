@@ -19,6 +19,7 @@ use Rattle.receive.specs.Reading.{stateAfter}
 use Rattle.receive.specs.Walk.{walked}
 use Rattle.line.proofs.Places.{start-found, control-found}
 use Rattle.outcome.specs.Outcomes.{outcome, frameOf}
+use Rattle.outcome.proofs.Rules.{judged-outcome}
 use Rattle.station.specs.declared.Outcome.{Outcome}
 use Rattle.station.specs.declared.Slots.{Slots}
 use Rattle.station.specs.Station.{counted}
@@ -46,10 +47,10 @@ turning c = c .before .before .before .before
 abbrev starting : tie.After-known-told2 Inv-loop μ-loop → tie.After-known-told Inv-loop μ-loop
 starting c = c .before .before .before .before
 
-abbrev ending : tie.After-outcome Inv-loop μ-loop → tie.After-known-told2 Inv-loop μ-loop
+abbrev ending : tie.After-judge Inv-loop μ-loop → tie.After-known-told2 Inv-loop μ-loop
 ending c = c .before .before .before
 
-abbrev settled : tie.Joined1 Inv-loop μ-loop → tie.After-outcome Inv-loop μ-loop
+abbrev settled : tie.Joined1 Inv-loop μ-loop → tie.After-judge Inv-loop μ-loop
 settled c = c .before .before .before .before
 
 -- the octets, the Start's place and that of the end of its run
@@ -118,20 +119,20 @@ returns-2 c =
     let unended = sym (c .before .before .find-control .ensures) ∙ c .enum-told2 .given .1 in
     sym (turn-open _ _ _ _ _ _ _ (found-start k) unended) ∙ turning k .loop .inv .0
 
-sub-outcome : tie.Need-sub-outcome Inv-loop μ-loop
-sub-outcome c = let e = end-inside c in omega arith
+sub-judge : tie.Need-sub-judge Inv-loop μ-loop
+sub-judge c = let e = end-inside c in omega arith
 
-part-outcome-start : tie.Need-part-outcome-start Inv-loop μ-loop
-part-outcome-start c = let e = end-inside c in omega arith
+part-judge-start : tie.Need-part-judge-start Inv-loop μ-loop
+part-judge-start c = let e = end-inside c in omega arith
 
-part-outcome-end : tie.Need-part-outcome-end Inv-loop μ-loop
-part-outcome-end c = let e = end-inside c in omega arith
+part-judge-end : tie.Need-part-judge-end Inv-loop μ-loop
+part-judge-end c = let e = end-inside c in omega arith
 
-shared-slice-read-outcome : tie.Need-shared-slice-read-outcome Inv-loop μ-loop
-shared-slice-read-outcome c = let e = end-inside (c .before .before) in omega arith
+shared-slice-read-judge : tie.Need-shared-slice-read-judge Inv-loop μ-loop
+shared-slice-read-judge c = let e = end-inside (c .before .before) in omega arith
 
-outcome-requires : tie.Need-outcome-requires Inv-loop μ-loop
-outcome-requires c κs = call (turning (starting (c .before .before))) .pre .0
+judge-requires : tie.Need-judge-requires Inv-loop μ-loop
+judge-requires c κs = call (turning (starting (c .before .before))) .pre .0
 
 count-requires : tie.Need-count-requires Inv-loop μ-loop
 count-requires c κs = search needs
@@ -165,14 +166,14 @@ abbrev frame : tie.Joined1 Inv-loop μ-loop → List ℕ
 frame c = let k = ending (settled c) in frameOf (between (octets (starting k)) (start (starting k) + 1) (end k))
 
 abbrev Moved : tie.Joined1 Inv-loop μ-loop → Type 0
-Moved c = c .if1 .timers ≡ timersAfter (settled c .outcome .result) (frame c) (turning (starting (ending (settled c))) .loop .timers)
+Moved c = c .if1 .timers ≡ timersAfter (settled c .judge .result .outcome) (frame c) (turning (starting (ending (settled c))) .loop .timers)
 
 timers-now : (c : tie.Joined1 Inv-loop μ-loop) → Moved c
 unfolding between
 timers-now c =
     let was = turning (starting (ending (settled c))) .loop .timers in
     ⊎-elim {C = Moved c}
-    (λ w. w .4 ∙ w .3 .ensures ∙ ap (λ (l : List ℕ). timersAfter (settled c .outcome .result) l was) (w .2 .ensures))
+    (λ w. w .4 ∙ w .3 .ensures ∙ ap (λ (l : List ℕ). timersAfter (settled c .judge .result .outcome) l was) (w .2 .ensures))
     (λ w. w .1 ∙ stays _ _ _ (sym (c .before .sets-timers .ensures) ∙ w .0 .left))
     (c .if1 .came)
 
@@ -183,7 +184,7 @@ loop-again c =
     let l = turning (starting k) in
     let a = call l .args in
     let even = passed _ _ _ _ (call l .pre .1) .even in
-    let o = settled c .outcome .ensures in
+    let o = judged-outcome _ _ _ (settled c .judge .ensures) in
     let s = start-inside (starting k) in
     let e = end-inside k in (
       ap₂ (λ (cs : List ℕ) (ts : List Slots). left (a .s) (now (a .octets)) (now (a .marks)) (l .loop .n + 1) (at-state (a .state .deficit) cs ts) (end k))
@@ -211,11 +212,11 @@ walk-on-spec =
     enum-known-end
     enum-told-2
     returns-2
-    sub-outcome
-    part-outcome-start
-    part-outcome-end
-    shared-slice-read-outcome
-    outcome-requires
+    sub-judge
+    part-judge-start
+    part-judge-end
+    shared-slice-read-judge
+    judge-requires
     count-requires
     sets-timers-requires
     sub-frame-of

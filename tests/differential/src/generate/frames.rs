@@ -24,7 +24,7 @@ pub fn frame(prng: &mut Prng, s: &Settings) -> Vec<u8> {
 }
 
 /// Closes a frame: the FCS goes behind what it covers.
-fn checked(mut covered: Vec<u8>) -> Vec<u8> {
+pub(super) fn checked(mut covered: Vec<u8>) -> Vec<u8> {
     let check = fcs(Check::Slicing16, &covered);
     covered.extend(check.to_le_bytes());
     covered
@@ -43,7 +43,7 @@ fn data(prng: &mut Prng, length: usize) -> Vec<u8> {
 }
 
 /// A frame of these parts, with so many tags of any kinds.
-fn build(prng: &mut Prng, to: [u8; 6], tags: usize, field: u16, data: &[u8]) -> Vec<u8> {
+pub(super) fn build(prng: &mut Prng, to: [u8; 6], tags: usize, field: u16, data: &[u8]) -> Vec<u8> {
     let mut octets = Vec::with_capacity(data.len() + 18 + 4 * tags);
     octets.extend(to);
     octets.extend(station(prng));
@@ -104,7 +104,7 @@ pub fn quanta(prng: &mut Prng) -> u16 {
 }
 
 /// A control frame: pause, PFC or another, seldom longer than it need be.
-fn control(prng: &mut Prng, s: &Settings) -> Vec<u8> {
+pub(super) fn control(prng: &mut Prng, s: &Settings) -> Vec<u8> {
     let opcode: u16 = match prng.below(8) {
         0..=2 => 0x0001,
         3..=5 => 0x0101,

@@ -3,6 +3,7 @@
 mod captures;
 mod frames;
 mod logs;
+mod reasons;
 mod records;
 mod sendings;
 mod settings;
@@ -11,6 +12,7 @@ mod tags;
 pub use captures::{capture, longest_capture, place, starts, tabled_capture, Symbols};
 pub use logs::{log, log_with_room, record, record_number, short_log};
 pub use logs::{reading_record, BEYOND_THE_LOG};
+pub use reasons::explained_capture;
 pub use records::{client_record, port_octet, settings_record, spoil, state_record};
 pub use sendings::{blank_line, port, sending, sending_place, timed, Sending};
 pub use sendings::{short_frame, timed_frame};

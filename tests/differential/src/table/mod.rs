@@ -7,6 +7,7 @@ mod keeping;
 mod log;
 mod ports;
 mod reading;
+mod reasons;
 mod sending;
 mod tags;
 mod ways;
@@ -14,6 +15,7 @@ mod ways;
 use crate::coverage::{Row, When};
 use crate::seen::{CSeen, FcsSeen, ReadingSeen, RowSeen, SendingSeen, WalkSeen};
 use crate::seen_log::{GoingOnSeen, KeepSeen, LogSeen};
+use crate::seen_reason::ReasonSeen;
 use std::collections::BTreeSet;
 
 /// All rows, none hit yet.
@@ -24,6 +26,7 @@ pub(crate) fn rows() -> Vec<Row> {
     tags::rows(&mut table);
     control::rows(&mut table);
     ways::rows(&mut table);
+    reasons::rows(&mut table);
     sending::rows(&mut table);
     ports::rows(&mut table);
     log::rows(&mut table);
@@ -66,6 +69,10 @@ impl Table {
 
     fn reading(&mut self, name: impl Into<String>, test: impl Fn(&ReadingSeen) -> bool + 'static) {
         self.row(name, When::Reading(Box::new(test)));
+    }
+
+    fn reason(&mut self, name: impl Into<String>, test: impl Fn(&ReasonSeen) -> bool + 'static) {
+        self.row(name, When::Reason(Box::new(test)));
     }
 
     fn walk(&mut self, name: impl Into<String>, test: impl Fn(&WalkSeen) -> bool + 'static) {
