@@ -1,4 +1,4 @@
-"""An independent model of document 01 with items 1 to 8 of document 02, written from their text alone and not from the definitions in crates/*/specs.
+"""An independent model of document 01 with items 1 to 9 of document 02, written from their text alone and not from the definitions in crates/*/specs.
 
 Each piece stands under the sentence of the documents that it renders. The check is zlib's crc32, not a loop of our own, and a log's record is laid
 out by struct.
@@ -84,8 +84,9 @@ def bad_buffers(octets: List[int], marks: List[int]) -> bool:
 
 
 def order(refusal: int) -> float:
-    """"Lowest number first."; item 1: "new 10, …, tested after 6 and before 7"; item 5: "3 …, then new 19" """
-    return {10: 6.5, 19: 3.5}.get(refusal, refusal)
+    """"Lowest number first."; item 1: "new 10, …, tested after 6 and before 7"; item 5: "3 …, then new 19"; item 9: "Refusals, after 3 and 19 …: 21 …;
+    22 …" """
+    return {10: 6.5, 19: 3.5, 21: 3.6, 22: 3.7}.get(refusal, refusal)
 
 
 def first(*tests: Tuple[int, bool]) -> Optional[int]:
@@ -551,6 +552,46 @@ def walks_on(s: Settings, state: State, octets: List[int], marks: List[int], pla
     return walks
 
 
+# ---- Starts per stretch (item 9)
+
+BLOCK = 256  # "Keep a total for each block of 256 symbols beside the capture."
+
+
+def true_totals(octets: List[int], marks: List[int]) -> List[int]:
+    starts = [is_start(o, m) for o, m in zip(octets, marks)]
+    return [sum(starts[place:place + BLOCK]) for place in range(0, len(starts), BLOCK)]
+
+
+def totals_refusals(octets, totals) -> List[Tuple[int, bool]]:
+    """21: "number of totals isn't the number of blocks, a last short one included"; 22: "a total above 256" """
+    whole, rest = divmod(len(octets), BLOCK)
+    return [(21, len(totals) != whole + (rest > 0)), (22, any(total > BLOCK for total in totals))]
+
+
+def starts_before(octets, marks, totals, place) -> Tuple[int, Optional[int]]:
+    """Refusal, or 0 and how many: "The answer adds whole blocks and looks only into the last"; 2 and 3, then 21 and 22."""
+    refusal = first((2, bad_buffers(octets, marks)), (3, place > len(octets)), *totals_refusals(octets, totals))
+    if refusal:
+        return refusal, None
+    last = place - place % BLOCK
+    answer = sum(totals[:last // BLOCK]) + sum(is_start(o, m) for o, m in zip(octets[last:place], marks[last:place]))
+    # "and equals a count over everything before the place"; "The answer is right whenever the totals are true."
+    assert totals != true_totals(octets, marks) or answer == sum(is_start(o, m) for o, m in zip(octets[:place], marks[:place]))
+    return 0, answer
+
+
+def filling(octets, marks, totals) -> Tuple[int, List[int]]:
+    """"one call fills them all for a capture"; "filling gives 2 and 21 only": refusal or 0, and the totals."""
+    refusal = first((2, bad_buffers(octets, marks)), *totals_refusals(octets, totals)[:1])
+    return (refusal, totals) if refusal else (0, true_totals(octets, marks))
+
+
+def counted_anew(octets, marks, totals, place, after) -> List[int]:
+    """"counts anew the blocks it writes into and touches no other total" """
+    written = {at // BLOCK for at in range(place, after)}
+    return [anew if n in written else old for n, (old, anew) in enumerate(zip(totals, true_totals(octets, marks)))]
+
+
 # ---- Sending
 
 
@@ -578,6 +619,7 @@ class Sending:
     state: State
     octets: List[int]
     marks: List[int]
+    totals: Optional[List[int]] = None  # item 9, if the call takes them
 
 
 def high_first(n: int) -> List[int]:
@@ -621,10 +663,11 @@ def idle_symbols(n: int) -> List[Tuple[int, int]]:
     return [(IDLE, 1)] * n
 
 
-def sent(refusal: Optional[int], state, octets, marks, place, symbols, deficit: Optional[int] = None) -> Sending:
-    """What is written, if there is no refusal, and the deficit count behind it: the old one, unless a frame's gap gives one."""
-    if refusal:  # "A refusal gives its number, …, the place it was called with …, the old state, and untouched buffers."
-        return Sending(refusal, place, state, octets, marks)
+def sent(refusals, state, octets, marks, place, symbols, deficit: Optional[int] = None, totals: Optional[List[int]] = None) -> Sending:
+    """What is written, if there is no refusal; the deficit count behind it, the old one unless a frame's gap gives one; the totals, if there are any."""
+    refusal = first(*refusals, *(totals_refusals(octets, totals) if totals is not None else []))
+    if refusal:  # "A refusal gives its number, …, the place it was called with …, the old state, and untouched buffers."; item 9: "changes none"
+        return Sending(refusal, place, state, octets, marks, totals)
     n = len(symbols)
     # "written into the line buffers from the place the caller names on; every other symbol stays"
     octets = octets[:place] + [o for o, _ in symbols] + octets[place + n:]
@@ -632,7 +675,7 @@ def sent(refusal: Optional[int], state, octets, marks, place, symbols, deficit: 
     # "Every call that writes n symbols lowers each timer by n, not below zero."; item 5: "those really written"
     state = replace(state, timers=[max(0, t - n) for t in state.timers], deficit=state.deficit if deficit is None else deficit)
     # "gives its own place plus the number of symbols it wrote"
-    return Sending(0, place + n, state, octets, marks)
+    return Sending(0, place + n, state, octets, marks, None if totals is None else counted_anew(octets, marks, totals, place, place + n))
 
 
 def common(octets, marks, place, needed) -> List[Tuple[int, bool]]:
@@ -660,10 +703,10 @@ def gap_behind(port, state, place, symbols) -> Tuple[int, int]:
     return GAP - missing, state.deficit + missing
 
 
-def frame_sending(refusals, state, octets, marks, place, port, symbols) -> Sending:
+def frame_sending(refusals, state, octets, marks, place, port, totals, symbols) -> Sending:
     """A frame; symbols(gap) gives those to be written."""
     gap, deficit = gap_behind(port, state, place, symbols(GAP))
-    return sent(first(*refusals), state, octets, marks, place, symbols(gap), deficit)
+    return sent(refusals, state, octets, marks, place, symbols(gap), deficit, totals)
 
 
 def client_refusals(s, state, octets, marks, place, c: Client, port=PLAIN) -> List[Tuple[int, bool]]:
@@ -693,23 +736,23 @@ def idle_refusals(octets, marks, place, n) -> List[Tuple[int, bool]]:
     return common(octets, marks, place, n)
 
 
-def client_sending(s, state, octets, marks, place, c: Client, port=PLAIN) -> Sending:
+def client_sending(s, state, octets, marks, place, c: Client, port=PLAIN, totals=None) -> Sending:
     refusals = client_refusals(s, state, octets, marks, place, c, port)
-    return frame_sending(refusals, state, octets, marks, place, port, lambda gap: client_symbols(s, c, gap))
+    return frame_sending(refusals, state, octets, marks, place, port, totals, lambda gap: client_symbols(s, c, gap))
 
 
-def pause_sending(s, state, octets, marks, place, quanta: int, port=PLAIN) -> Sending:
+def pause_sending(s, state, octets, marks, place, quanta: int, port=PLAIN, totals=None) -> Sending:
     refusals = control_refusals(s, octets, marks, place, "pause", state, port)
-    return frame_sending(refusals, state, octets, marks, place, port, lambda gap: pause_symbols(s, quanta, gap))
+    return frame_sending(refusals, state, octets, marks, place, port, totals, lambda gap: pause_symbols(s, quanta, gap))
 
 
-def pfc_sending(s, state, octets, marks, place, named: int, quanta: List[int], port=PLAIN) -> Sending:
+def pfc_sending(s, state, octets, marks, place, named: int, quanta: List[int], port=PLAIN, totals=None) -> Sending:
     refusals = control_refusals(s, octets, marks, place, "PFC", state, port)
-    return frame_sending(refusals, state, octets, marks, place, port, lambda gap: pfc_symbols(s, named, quanta, gap))
+    return frame_sending(refusals, state, octets, marks, place, port, totals, lambda gap: pfc_symbols(s, named, quanta, gap))
 
 
-def idle_sending(state, octets, marks, place, n: int) -> Sending:
-    return sent(first(*idle_refusals(octets, marks, place, n)), state, octets, marks, place, idle_symbols(n))
+def idle_sending(state, octets, marks, place, n: int, totals=None) -> Sending:
+    return sent(idle_refusals(octets, marks, place, n), state, octets, marks, place, idle_symbols(n), totals=totals)
 
 
 # ---- The printing program
@@ -1012,3 +1055,88 @@ def try_reasons():
 
 
 try_reasons()
+
+
+# ---- The totals of Starts, tried on both sides of their limits
+
+
+def try_totals():
+    client = Client([2, 0, 0, 0, 0, 9], [], None, 0, [])
+    pausing, by_class, bad = replace(PRINTING, flow="pause"), replace(PRINTING, flow="PFC"), replace(PRINTING, limit=0)
+
+    def line(length):
+        """Starts as control and as data, and other symbols, with no pattern in the blocks."""
+        symbols = [(START if n % 3 else IDLE, n * n % 7 % 3) for n in range(length)]
+        return [octet for octet, _ in symbols], [mark for _, mark in symbols]
+
+    # The number of blocks; every place around them, each held against the count over everything.
+    for length, blocks in [(0, 0), (1, 1), (255, 1), (256, 1), (257, 2), (511, 2), (512, 2), (513, 3)]:
+        octets, marks = line(length)
+        refusal, totals = filling(octets, marks, [999] * blocks)
+        assert refusal == 0 and totals == true_totals(octets, marks) and len(totals) == blocks
+        for place in {0, 1, 254, 255, 256, 257, 511, 512, 513} & set(range(length + 1)):
+            assert starts_before(octets, marks, totals, place)[0] == 0
+        for number in {0, blocks - 1, blocks + 1, blocks + 2} - {-1, blocks}:
+            assert filling(octets, marks, [7] * number) == (21, [7] * number) and starts_before(octets, marks, [7] * number, 0) == (21, None)
+            assert idle_sending(State(), octets, marks, 0, 0, totals=[7] * number).refusal == 21
+    # Totals that are not true are added all the same; the last block is looked into, and a whole one added.
+    octets, marks = [START] * 512, [1] * 512
+    for place, answer in [(0, 0), (1, 1), (255, 255), (256, 3), (257, 4), (511, 258), (512, 8)]:
+        assert starts_before(octets, marks, [3, 5], place) == (0, answer)
+    for total, refusal in [(255, 0), (256, 0), (257, 22), (65535, 22)]:
+        for totals in ([total, 0], [0, total]):
+            assert starts_before(octets, marks, totals, 0)[0] == refusal == idle_sending(State(), octets, marks, 512, 0, totals=totals).refusal
+            assert filling(octets, marks, totals) == (0, [256, 256])
+    # The refusals, one after the other, with what comes behind them wrong too.
+    assert starts_before(octets, marks[1:], [300], 513) == (2, None) and filling(octets, marks[1:], [300]) == (2, [300])
+    assert starts_before(octets, marks, [300], 513) == (3, None) and starts_before(octets, marks, [300], 512) == (21, None)
+    assert starts_before(octets, marks, [300, 0], 512) == (22, None)
+    worse, wrong, fresh = replace(client, cls=8), State(deficit=4), State()
+
+    def client_call(totals, place=508, c=worse, state=fresh, s=PRINTING, marks_given=marks):
+        return client_sending(s, state, octets, marks_given, place, c, FOUR_LANE, totals)
+
+    def pause_call(totals, place=9, port=PLAIN):
+        return pause_sending(PRINTING, wrong, octets, marks, place, 9, port, totals)
+
+    def pfc_call(totals, place=9, port=PLAIN):
+        return pfc_sending(PRINTING, wrong, octets, marks, place, 9, [9] * 8, port, totals)
+
+    def idle_call(totals, place=512, marks_given=marks):
+        return idle_sending(wrong, octets, marks_given, place, 9, totals)
+
+    for number, totals, call, given in [
+            (1, [300], client_call, dict(place=513, state=wrong, s=bad, marks_given=marks[1:])),
+            (2, [300], client_call, dict(place=513, state=wrong, marks_given=marks[1:])), (3, [300], client_call, dict(place=513, state=wrong)),
+            (3, [300], client_call, dict(place=511, state=wrong)), (19, [300], client_call, dict(state=wrong)), (21, [300], client_call, {}),
+            (22, [300, 1], client_call, {}), (5, [256, 1], client_call, {}), (8, [256, 1], client_call, dict(c=client)),
+            (3, [300], pause_call, dict(place=513)), (19, [300], pause_call, dict(place=8, port=FOUR_LANE)), (21, [300], pause_call, {}),
+            (22, [1, 300], pause_call, {}), (4, [1, 256], pause_call, {}),
+            (3, [300], pfc_call, dict(place=513)), (19, [300], pfc_call, dict(place=8, port=FOUR_LANE)), (21, [300], pfc_call, {}),
+            (22, [1, 300], pfc_call, {}), (4, [1, 256], pfc_call, {}),
+            (2, [300], idle_call, dict(place=513, marks_given=marks[1:])), (3, [300], idle_call, dict(place=513)), (21, [300], idle_call, {}),
+            (22, [1, 300], idle_call, {}), (8, [1, 256], idle_call, {})]:
+        answer = call(list(totals), **given)
+        assert (answer.refusal, answer.totals, answer.octets) == (number, totals, octets)
+    # What is written, around the blocks: those it lies in are counted anew, the others stay, whatever they say. All else is as without totals.
+    octets, marks = [START] * 768, [1] * 768
+    for place in (0, 171, 172, 173, 255, 256, 257, 428, 429, 684):
+        calls = [lambda t: client_sending(PRINTING, State(), octets, marks, place, client, PLAIN, t),
+                 lambda t: pause_sending(pausing, State(), octets, marks, place, 9, PLAIN, t),
+                 lambda t: pfc_sending(by_class, State(), octets, marks, place, 9, [9] * 8, PLAIN, t),
+                 lambda t: idle_sending(State(), octets, marks, place, 84, t)]
+        for kind, call in enumerate(calls):
+            a = call([9, 9, 9])
+            assert a.refusal == 0 and replace(a, totals=None) == call(None) and call(true_totals(octets, marks)).totals == true_totals(a.octets, a.marks)
+            for n, total in enumerate(a.totals):
+                inside = [at for at in range(256 * n, 256 * n + 256) if place <= at < place + 84]
+                # Of the 84 symbols only a frame's first is a Start.
+                assert total == (256 - len(inside) + (kind < 3 and place in inside) if inside else 9)
+        assert idle_sending(State(), octets, marks, place, 0, [9, 9, 9]).totals == [9, 9, 9]
+    # The four-lane port's own gap: 9 symbols end at 256, 13 behind it.
+    for deficit, totals in [(0, [173, 9]), (3, [173, 256 - 4])]:
+        a = client_sending(PRINTING, State(deficit=deficit), [START] * 512, [1] * 512, 172, replace(client, data=[7] * 49), FOUR_LANE, [9, 9])
+        assert (a.refusal, a.totals) == (0, totals)
+
+
+try_totals()

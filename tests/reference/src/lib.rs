@@ -1,4 +1,4 @@
-//! A reference implementation of document 01, with items 1 to 8 of document 02: the
+//! A reference implementation of document 01, with items 1 to 9 of document 02: the
 //! work of an Ethernet MAC on line symbols kept in memory.
 //!
 //! Written from those documents alone, to be compared with the proved program.
@@ -8,6 +8,7 @@
 #![warn(missing_docs)]
 
 mod check;
+mod counting;
 mod frame;
 mod line;
 mod log;
@@ -18,8 +19,11 @@ mod receive;
 mod refusal;
 mod send;
 mod settings;
+mod totals;
 
 pub use check::{fcs, fcs_update, Check};
+pub use counting::{fill_idle_counting, send_client_counting};
+pub use counting::{send_pause_counting, send_pfc_counting};
 pub use log::{append, append_reading, first_unused, record, used_in_front, walk_log};
 pub use log::{LogEnd, LogReader, Logged, Record};
 pub use port::Port;
@@ -28,3 +32,4 @@ pub use reason::{explain, Explained, Reason, Why};
 pub use receive::{read, walk, Answer, Reading, Walked};
 pub use send::{fill_idle, send_client, send_pause, send_pfc, Client, Form, Sent, Tag, TagKind};
 pub use settings::{screen, Flow, Settings, State};
+pub use totals::{fill_totals, starts_before, Total};

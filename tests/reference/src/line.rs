@@ -53,11 +53,15 @@ pub(crate) fn is_group(address: &[u8; 6]) -> bool {
     address[0] & 1 == 1
 }
 
-/// Place of the first Start at `place` or later. Only a control symbol
-/// starts a frame: 0xFB as data is passed over.
+/// Only a control symbol starts a frame: 0xFB as data is none.
+pub(crate) fn is_start(octet: u8, mark: u8) -> bool {
+    mark != DATA && octet == START
+}
+
+/// Place of the first Start at `place` or later.
 pub(crate) fn find_start(octets: &[u8], marks: &[u8], place: usize) -> Option<usize> {
     let mut symbols = octets.get(place..)?.iter().zip(marks.get(place..)?);
-    let ahead = symbols.position(|(&octet, &mark)| mark != DATA && octet == START)?;
+    let ahead = symbols.position(|(&octet, &mark)| is_start(octet, mark))?;
     Some(place + ahead)
 }
 

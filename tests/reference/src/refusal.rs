@@ -1,13 +1,14 @@
 //! "Refusals and their order". Each check gives its number as the error, so a
 //! call that makes its checks in their order, with `?` between them, gives the
 //! first: the order is that of the numbers, but 10 stands between 6 and 7, and
-//! 19 right behind 3.
+//! 19, 21 and 22 right behind 3.
 
 use crate::line::{is_tag, CONTROL_FIELD, FIRST_TYPE, LAST_LENGTH, MAX_SYMBOLS, MAX_TAGS};
 use crate::log::RECORD_LEN;
 use crate::port::Port;
 use crate::send::{Form, Tag};
 use crate::settings::{Flow, Settings, State};
+use crate::totals::{self, Total, BLOCK};
 
 pub(crate) type Checked = Result<(), u8>;
 
@@ -24,10 +25,15 @@ pub(crate) fn settings(settings: &Settings) -> Checked {
     refuse(1, !settings.are_valid())
 }
 
+/// Refusal 2.
+pub(crate) fn buffers(octets: &[u8], marks: &[u8]) -> Checked {
+    let differ = octets.len() != marks.len();
+    refuse(2, differ || octets.len() > MAX_SYMBOLS)
+}
+
 /// Refusals 2 and 3. A place equal to the length isn't beyond it.
 pub(crate) fn line(octets: &[u8], marks: &[u8], place: usize) -> Checked {
-    let differ = octets.len() != marks.len();
-    refuse(2, differ || octets.len() > MAX_SYMBOLS)?;
+    buffers(octets, marks)?;
     refuse(3, place > octets.len())
 }
 
@@ -103,4 +109,14 @@ pub(crate) fn unused(is_there: bool) -> Checked {
 /// Refusal 13, unless there is a used record of that number: gives that one.
 pub(crate) fn used<T>(record: Option<T>) -> Result<T, u8> {
     record.ok_or(13)
+}
+
+/// Refusal 21.
+pub(crate) fn blocks(octets: &[u8], totals: &[Total]) -> Checked {
+    refuse(21, totals.len() != totals::blocks(octets.len()))
+}
+
+/// Refusal 22.
+pub(crate) fn totals(totals: &[Total]) -> Checked {
+    refuse(22, totals.iter().any(|&total| usize::from(total) > BLOCK))
 }

@@ -1,5 +1,6 @@
-//! "Sending"; tags by "Stacked tags", item 1 of document 02, and gaps by "The
-//! four-lane port", item 5.
+//! "Sending"; tags by "Stacked tags", item 1 of document 02, gaps by "The
+//! four-lane port", item 5, and totals by "Starts per stretch", item 9, for the
+//! calls of `counting`.
 
 use crate::check::{fcs, Check};
 use crate::line::{CONTROL, CONTROL_FIELD, CUSTOMER_TAG, DATA, FCS_LEN, IDLE, MIN_DATA};
@@ -8,6 +9,7 @@ use crate::line::{TAG_LEN, TERMINATE};
 use crate::port::{Gap, Port};
 use crate::refusal;
 use crate::settings::{is_named, Flow, Settings, State};
+use crate::totals::{count_anew, Total};
 
 /// The form of a client frame.
 #[derive(Clone, Copy, Debug, PartialEq, Eq)]
@@ -77,27 +79,69 @@ impl From<Result<usize, u8>> for Sent {
 }
 
 /// The lent buffers and the place to write from.
-struct Line<'a> {
+pub(crate) struct Line<'a> {
     octets: &'a mut [u8],
     marks: &'a mut [u8],
     place: usize,
+    /// The totals of the capture, if the call takes them.
+    totals: Option<&'a mut [Total]>,
 }
 
-impl Line<'_> {
-    /// Refusals 2 and 3.
-    fn check(&self) -> refusal::Checked {
-        refusal::line(self.octets, self.marks, self.place)
+impl<'a> Line<'a> {
+    fn new(octets: &'a mut [u8], marks: &'a mut [u8], place: usize) -> Self {
+        Line {
+            octets,
+            marks,
+            place,
+            totals: None,
+        }
     }
 
-    /// Refusals 2, 3 and 19 of a frame on this port.
+    pub(crate) fn with_totals(
+        octets: &'a mut [u8],
+        marks: &'a mut [u8],
+        totals: &'a mut [Total],
+        place: usize,
+    ) -> Self {
+        Line {
+            totals: Some(totals),
+            ..Line::new(octets, marks, place)
+        }
+    }
+
+    /// Refusals 2 and 3, then 21 and 22.
+    fn check(&self) -> refusal::Checked {
+        refusal::line(self.octets, self.marks, self.place)?;
+        self.check_totals()
+    }
+
+    /// Refusals 2, 3 and 19 of a frame on this port, then 21 and 22.
     fn check_frame(&self, state: &State, port: Port) -> refusal::Checked {
-        self.check()?;
-        refusal::port(port, state, self.place)
+        refusal::line(self.octets, self.marks, self.place)?;
+        refusal::port(port, state, self.place)?;
+        self.check_totals()
+    }
+
+    /// Refusals 21 and 22.
+    fn check_totals(&self) -> refusal::Checked {
+        let Some(totals) = &self.totals else {
+            return Ok(());
+        };
+        refusal::blocks(self.octets, totals)?;
+        refusal::totals(totals)
     }
 
     /// Refusal 8.
     fn has_room(&self, symbols: usize) -> refusal::Checked {
         refusal::room(self.octets, self.place, symbols)
+    }
+
+    /// "counts anew the blocks it writes into": what was written ends before
+    /// `after`.
+    fn count_anew(self, after: usize) {
+        if let Some(totals) = self.totals {
+            count_anew(self.octets, self.marks, totals, self.place..after);
+        }
     }
 }
 
@@ -176,6 +220,7 @@ impl<'a> Outgoing<'a> {
 
         state.pass(symbols);
         state.deficit = gap.deficit;
+        line.count_anew(after);
         after
     }
 }
@@ -193,15 +238,11 @@ pub fn send_client(
     client: &Client,
     data: &[u8],
 ) -> Sent {
-    let line = Line {
-        octets,
-        marks,
-        place,
-    };
+    let line = Line::new(octets, marks, place);
     client_frame(kind, s, state, port, line, client, data).into()
 }
 
-fn client_frame(
+pub(crate) fn client_frame(
     kind: Check,
     s: &Settings,
     state: &mut State,
@@ -244,15 +285,22 @@ pub fn send_pause(
     place: usize,
     quanta: u16,
 ) -> Sent {
-    let line = Line {
-        octets,
-        marks,
-        place,
-    };
+    let line = Line::new(octets, marks, place);
+    pause_frame(kind, s, state, port, line, quanta).into()
+}
+
+pub(crate) fn pause_frame(
+    kind: Check,
+    s: &Settings,
+    state: &mut State,
+    port: Port,
+    line: Line,
+    quanta: u16,
+) -> Result<usize, u8> {
     let mut data = [0; 4];
     data[..2].copy_from_slice(&PAUSE_OPCODE.to_be_bytes());
     data[2..].copy_from_slice(&quanta.to_be_bytes());
-    control_frame(kind, s, state, port, line, Flow::Pause, &data).into()
+    control_frame(kind, s, state, port, line, Flow::Pause, &data)
 }
 
 /// Sends a PFC frame, whatever the timers are. Bit n of `named` names class
@@ -269,11 +317,19 @@ pub fn send_pfc(
     named: u8,
     quanta: &[u16; 8],
 ) -> Sent {
-    let line = Line {
-        octets,
-        marks,
-        place,
-    };
+    let line = Line::new(octets, marks, place);
+    pfc_frame(kind, s, state, port, line, named, quanta).into()
+}
+
+pub(crate) fn pfc_frame(
+    kind: Check,
+    s: &Settings,
+    state: &mut State,
+    port: Port,
+    line: Line,
+    named: u8,
+    quanta: &[u16; 8],
+) -> Result<usize, u8> {
     let mut data = [0; 20];
     data[..2].copy_from_slice(&PFC_OPCODE.to_be_bytes());
     data[3] = named;
@@ -283,7 +339,7 @@ pub fn send_pfc(
             field.copy_from_slice(&quanta.to_be_bytes());
         }
     }
-    control_frame(kind, s, state, port, line, Flow::Pfc, &data).into()
+    control_frame(kind, s, state, port, line, Flow::Pfc, &data)
 }
 
 /// A control frame: both kinds have 46 octets of data, the rest of which is
@@ -315,20 +371,16 @@ pub fn fill_idle(
     place: usize,
     n: usize,
 ) -> Sent {
-    let line = Line {
-        octets,
-        marks,
-        place,
-    };
-    idles(state, line, n).into()
+    idles(state, Line::new(octets, marks, place), n).into()
 }
 
-fn idles(state: &mut State, line: Line, n: usize) -> Result<usize, u8> {
+pub(crate) fn idles(state: &mut State, line: Line, n: usize) -> Result<usize, u8> {
     line.check()?;
     line.has_room(n)?;
     let after = line.place + n;
     line.octets[line.place..after].fill(IDLE);
     line.marks[line.place..after].fill(CONTROL);
     state.pass(n);
+    line.count_anew(after);
     Ok(after)
 }

@@ -1,11 +1,14 @@
 //! Calls whose general promises are checked each time: a refusal changes
 //! nothing, sending changes only what it wrote and lowers every timer, and only
-//! a frame on the four-lane port changes the deficit count.
+//! a frame on the four-lane port changes the deficit count. Every sending call
+//! is made without totals and with them.
 
 use reference::{fill_idle, read, send_client, send_pause, send_pfc, walk};
+use reference::{fill_idle_counting, send_client_counting};
+use reference::{send_pause_counting, send_pfc_counting};
 use reference::{Answer, Check, Client, Port, Reading, Sent, Settings, State, Walked};
 
-use crate::hand::{KINDS, PLAIN};
+use crate::hand::{KINDS, PLAIN, START};
 
 #[derive(Clone, Debug, PartialEq)]
 pub struct Bench {
@@ -15,6 +18,8 @@ pub struct Bench {
     pub port: Port,
     pub octets: Vec<u8>,
     pub marks: Vec<u8>,
+    /// The totals of the capture, for the calls that take them.
+    pub totals: Option<Vec<u16>>,
     pub place: usize,
 }
 
@@ -27,6 +32,7 @@ impl Bench {
             port: Port::Plain,
             octets: vec![0xA7; len],
             marks: vec![0xC9; len],
+            totals: None,
             place: 0,
         }
     }
@@ -41,6 +47,7 @@ impl Bench {
             assert_eq!(call(kind, &mut other), sent);
             assert_eq!(&other, self);
         }
+        self.check_counting(before.clone(), sent, call);
         match sent {
             Sent::Refused(_) => assert_eq!(*self, before),
             Sent::Wrote(after) => {
@@ -59,6 +66,42 @@ impl Bench {
             }
         }
         sent
+    }
+
+    /// Checks that the same call without totals does the same but for them, and
+    /// with true ones leaves true ones. In long captures counting all of it each
+    /// time would take too long.
+    fn check_counting(&self, before: Bench, sent: Sent, call: impl Fn(Check, &mut Bench) -> Sent) {
+        let given = self.totals.is_some();
+        if given && matches!(sent, Sent::Refused(21 | 22)) || before.octets.len() > 4_096 {
+            return;
+        }
+        let other = if given {
+            None
+        } else {
+            Some(before.true_totals())
+        };
+        let mut other = Bench {
+            totals: other,
+            ..before
+        };
+        assert_eq!(call(KINDS[0], &mut other), sent);
+        if !given {
+            assert_eq!(other.totals, Some(self.true_totals()));
+        }
+        other.totals = self.totals.clone();
+        assert_eq!(other, *self);
+    }
+
+    /// How many Starts each block of 256 symbols has.
+    pub fn true_totals(&self) -> Vec<u16> {
+        let mut totals = vec![0; self.octets.len().div_ceil(256)];
+        for (place, (&octet, &mark)) in self.octets.iter().zip(&self.marks).enumerate() {
+            if octet == START && mark != 0 {
+                totals[place / 256] += 1;
+            }
+        }
+        totals
     }
 
     /// The same for a frame: on the four-lane port it begins and ends at a
@@ -81,32 +124,51 @@ impl Bench {
     pub fn client(&mut self, client: &Client, data: &[u8]) -> Sent {
         self.send_frame(|kind, b| {
             let (state, octets, marks) = (&mut b.state, &mut b.octets, &mut b.marks);
-            send_client(
-                kind, &b.s, state, b.port, octets, marks, b.place, client, data,
-            )
+            let (s, port, place) = (&b.s, b.port, b.place);
+            match &mut b.totals {
+                None => send_client(kind, s, state, port, octets, marks, place, client, data),
+                Some(totals) => send_client_counting(
+                    kind, s, state, port, octets, marks, totals, place, client, data,
+                ),
+            }
         })
     }
 
     pub fn pause(&mut self, quanta: u16) -> Sent {
         self.send_frame(|kind, b| {
             let (state, octets, marks) = (&mut b.state, &mut b.octets, &mut b.marks);
-            send_pause(kind, &b.s, state, b.port, octets, marks, b.place, quanta)
+            let (s, port, place) = (&b.s, b.port, b.place);
+            match &mut b.totals {
+                None => send_pause(kind, s, state, port, octets, marks, place, quanta),
+                Some(totals) => {
+                    send_pause_counting(kind, s, state, port, octets, marks, totals, place, quanta)
+                }
+            }
         })
     }
 
     pub fn pfc(&mut self, named: u8, quanta: &[u16; 8]) -> Sent {
         self.send_frame(|kind, b| {
             let (state, octets, marks) = (&mut b.state, &mut b.octets, &mut b.marks);
-            send_pfc(
-                kind, &b.s, state, b.port, octets, marks, b.place, named, quanta,
-            )
+            let (s, port, place) = (&b.s, b.port, b.place);
+            match &mut b.totals {
+                None => send_pfc(kind, s, state, port, octets, marks, place, named, quanta),
+                Some(totals) => send_pfc_counting(
+                    kind, s, state, port, octets, marks, totals, place, named, quanta,
+                ),
+            }
         })
     }
 
     pub fn idle(&mut self, n: usize) -> Sent {
         let deficit = self.state.deficit;
-        let sent =
-            self.send(|_, b| fill_idle(&mut b.state, &mut b.octets, &mut b.marks, b.place, n));
+        let sent = self.send(|_, b| {
+            let (state, octets, marks) = (&mut b.state, &mut b.octets, &mut b.marks);
+            match &mut b.totals {
+                None => fill_idle(state, octets, marks, b.place, n),
+                Some(totals) => fill_idle_counting(state, octets, marks, totals, b.place, n),
+            }
+        });
         assert_eq!(self.state.deficit, deficit);
         sent
     }

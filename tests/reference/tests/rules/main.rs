@@ -1,4 +1,4 @@
-//! The rules of document 01 and of items 1 to 8 of document 02, one module for each
+//! The rules of document 01 and of items 1 to 9 of document 02, one module for each
 //! part.
 
 mod addresses;
@@ -18,3 +18,4 @@ mod round_trip;
 mod sending;
 mod tags;
 mod timers;
+mod totals;

@@ -167,7 +167,7 @@ fn captures_of_all_sorts() {
 #[test]
 fn calls_of_all_sorts() {
     let mut dice = Dice::new(2);
-    let mut answers = [0; 20];
+    let mut answers = [0; 23];
     for _ in 0..4_000 {
         let mut bench = Bench::new(dice.pick(&[0, 83, 84, 88, 200, 1_538, 1_700]));
         bench.s = dice.settings();
@@ -180,6 +180,19 @@ fn calls_of_all_sorts() {
         }
         bench.port = dice.pick(&[Port::Plain, Port::FourLane]);
         bench.state.deficit = dice.pick(&[0, 1, 2, 3, 3, 4, 255]);
+        let mut totals = bench.true_totals();
+        bench.totals = match dice.roll(8) {
+            0 => Some(totals),
+            1 => {
+                totals.push(0);
+                Some(totals)
+            }
+            2 => {
+                totals.fill(dice.pick(&[0, 256, 257]));
+                Some(totals)
+            }
+            _ => None,
+        };
         let client = Client {
             dest: dice.address(),
             tags: tags(dice.pick(&[0, 0, 0, 1, 2, 8, 9])),
@@ -209,7 +222,7 @@ fn calls_of_all_sorts() {
         bench.read();
         bench.walk();
     }
-    let given = (0..=10).chain([19]);
+    let given = (0..=10).chain([19, 21, 22]);
     assert!(
         given.clone().all(|number| answers[number] > 0),
         "{answers:?}"
