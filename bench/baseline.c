@@ -2,7 +2,7 @@
  * A reader in C to compare with, as one writes it for speed with what is at hand: memchr for the next Start and for the end of a
  * long run, words of eight octets for that of a short one, and a CRC that is zlib's (with ZLIB) or one of its own by slicing by 16.
  * It follows document 01 and items 1 to 3 of document 02 with the printing program's settings, but for the limit M, which is named, and it
- * counts outcomes. Little-endian only.
+ * counts outcomes. Little-endian only. And two plain loops over Starts, as one writes them without a thought of speed.
  */
 #include <stddef.h>
 #include <stdint.h>
@@ -43,6 +43,16 @@ const char *NAME(setup)(void);
 
 /* Reads Start after Start from place 0 on and counts their outcomes. */
 struct walked NAME(walk)(uint16_t limit, uint64_t counters[OUTCOMES], const uint8_t *octets, const uint8_t *marks, size_t length);
+
+#ifndef ZLIB
+
+/* Fills the totals of a capture: how many Starts each block of 256 symbols has. */
+void baseline_fill_totals(const uint8_t *octets, const uint8_t *marks, size_t length, uint16_t *totals);
+
+/* How many Starts lie before a place, by a count over everything. */
+size_t baseline_starts_before(const uint8_t *octets, const uint8_t *marks, size_t place);
+
+#endif
 
 #ifdef ZLIB
 
@@ -215,3 +225,25 @@ struct walked NAME(walk)(uint16_t limit, uint64_t counters[OUTCOMES], const uint
     at = end;
   }
 }
+
+#ifndef ZLIB
+
+size_t baseline_starts_before(const uint8_t *octets, const uint8_t *marks, size_t place)
+{
+  size_t starts = 0;
+  for (size_t i = 0; i < place; i++)
+    if (octets[i] == START && marks[i] != 0)
+      starts++;
+  return starts;
+}
+
+void baseline_fill_totals(const uint8_t *octets, const uint8_t *marks, size_t length, uint16_t *totals)
+{
+  enum { BLOCK = 256 };
+  for (size_t at = 0; at < length; at += BLOCK) {
+    size_t symbols = length - at < BLOCK ? length - at : BLOCK;
+    *totals++ = (uint16_t)baseline_starts_before(octets + at, marks + at, symbols);
+  }
+}
+
+#endif

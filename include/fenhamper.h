@@ -6,7 +6,8 @@
  *   Memory        No heap. The archive is code and constants: it has no data section, neither .data nor .bss.
  *   Reentrant     Yes. Nothing is kept between calls but what the caller lends.
  *   Stack         At most FENHAMPER_STACK_READ octets for a reading, its reason or a call on a log, .._SEND for a
- *                 sending call, .._WALK for a walk, of which 16 KB are for tables; a test measures them.
+ *                 sending call, .._COUNTED for one with totals, .._WALK for a walk, of which 16 KB are for tables;
+ *                 a test measures them.
  *   Client data   Of a reading: data_length octets from octets + data_place on, in the caller's own octets and
  *                 never a copy. They always lie inside, so that no fenhamper_client_data is needed for them.
  *
@@ -71,8 +72,11 @@ static uint32_t (*const fenhamper_layout)(void) __attribute__((used)) = fenhampe
 #define FENHAMPER_CLASSES 8          /* 0 to 7, a timer each */
 #define FENHAMPER_OUTCOMES 11        /* 1 to 11, a counter each */
 #define FENHAMPER_RECORD_SIZE 16     /* octets of a record of a log */
+#define FENHAMPER_BLOCK 256          /* symbols, of which one total counts the Starts */
+#define FENHAMPER_MOST_BLOCKS 256    /* of a capture and of line buffers */
 #define FENHAMPER_STACK_READ 1280    /* octets of stack that a call takes at most: fenhamper_read, .._explain, .._log_.. */
-#define FENHAMPER_STACK_SEND 512     /* the sending calls and Idle fill */
+#define FENHAMPER_STACK_SEND 640     /* the sending calls and Idle fill, and the two calls on totals alone */
+#define FENHAMPER_STACK_COUNTED 768  /* the sending calls and Idle fill with totals */
 #define FENHAMPER_STACK_WALK 18944   /* fenhamper_walk and fenhamper_walk_log */
 
 /* ---- settings */
@@ -149,23 +153,25 @@ typedef enum fenhamper_outcome {
 
 /*
  * Why a call was refused: the first that holds, in the order of their numbers, but that 10 is tested after 6
- * and before 7, and 19 right after 3. A refused call leaves the state, every symbol and the log.
+ * and before 7, and 19, 21 and 22 right after 3. A refused call leaves the state, every symbol, the totals and the log.
  */
 typedef enum fenhamper_refusal {
-  FENHAMPER_BAD_SETTINGS = 1, /* own address is a group, listed count above 4, or M out of range */
-  FENHAMPER_BAD_BUFFERS = 2,  /* octets and marks differ in length, or exceed FENHAMPER_MOST_SYMBOLS */
-  FENHAMPER_BAD_PLACE = 3,    /* place beyond the buffers' length; on the four-lane port also one not divisible by 4 */
-  FENHAMPER_OTHER_FLOW = 4,   /* pause or PFC asked in another flow mode */
-  FENHAMPER_BAD_CLASS = 5,    /* class above 7 */
-  FENHAMPER_BAD_TYPE = 6,     /* type under 1536, or 0x8100, 0x8808 or 0x88A8 */
-  FENHAMPER_LONG_DATA = 7,    /* data over 1500 (length form), or over M - 18 (type form) */
-  FENHAMPER_NO_ROOM = 8,      /* too few symbols from the place to the end of the buffers */
-  FENHAMPER_HELD = 9,         /* a client frame, and the timer of its class is above zero */
-  FENHAMPER_MANY_TAGS = 10,   /* more than eight tags */
-  FENHAMPER_BAD_LOG = 11,     /* length of a log no multiple of FENHAMPER_RECORD_SIZE */
-  FENHAMPER_LOG_FULL = 12,    /* no unused record */
-  FENHAMPER_NOT_USED = 13,    /* record number not used */
-  FENHAMPER_HIGH_DEFICIT = 19 /* a frame on the four-lane port, and the deficit count is above 3 */
+  FENHAMPER_BAD_SETTINGS = 1,  /* own address is a group, listed count above 4, or M out of range */
+  FENHAMPER_BAD_BUFFERS = 2,   /* octets and marks differ in length, or exceed FENHAMPER_MOST_SYMBOLS */
+  FENHAMPER_BAD_PLACE = 3,     /* place beyond the buffers' length; on the four-lane port also one not divisible by 4 */
+  FENHAMPER_OTHER_FLOW = 4,    /* pause or PFC asked in another flow mode */
+  FENHAMPER_BAD_CLASS = 5,     /* class above 7 */
+  FENHAMPER_BAD_TYPE = 6,      /* type under 1536, or 0x8100, 0x8808 or 0x88A8 */
+  FENHAMPER_LONG_DATA = 7,     /* data over 1500 (length form), or over M - 18 (type form) */
+  FENHAMPER_NO_ROOM = 8,       /* too few symbols from the place to the end of the buffers */
+  FENHAMPER_HELD = 9,          /* a client frame, and the timer of its class is above zero */
+  FENHAMPER_MANY_TAGS = 10,    /* more than eight tags */
+  FENHAMPER_BAD_LOG = 11,      /* length of a log no multiple of FENHAMPER_RECORD_SIZE */
+  FENHAMPER_LOG_FULL = 12,     /* no unused record */
+  FENHAMPER_NOT_USED = 13,     /* record number not used */
+  FENHAMPER_HIGH_DEFICIT = 19, /* a frame on the four-lane port, and the deficit count is above 3 */
+  FENHAMPER_WRONG_TOTALS = 21, /* number of totals is not the number of blocks, fenhamper_blocks of the length */
+  FENHAMPER_HIGH_TOTAL = 22    /* a total above FENHAMPER_BLOCK, wherever it stands */
 } fenhamper_refusal;
 
 /* Whether a reading found a Start whose run ends inside the capture. */
@@ -432,6 +438,43 @@ void fenhamper_send_pfc(const fenhamper_settings *settings, fenhamper_state *sta
 void fenhamper_fill_idle(fenhamper_state *state, uint8_t *octets, size_t octets_length, uint8_t *marks,
                          size_t marks_length, size_t place, size_t idles, fenhamper_sent *sent);
 
+/*
+ * Totals: for each block of FENHAMPER_BLOCK symbols how many of them are Starts, in order, a last short block included.
+ * They stand beside the symbols, in the caller's memory, and are true where each says so.
+ */
+
+/* Fill all totals of a capture: they are true then. Gives the refusal's number, 2 or 21, or 0. */
+uint32_t fenhamper_fill_totals(const uint8_t *octets, size_t octets_length, const uint8_t *marks, size_t marks_length,
+                               uint16_t *totals, size_t totals_length);
+
+/*
+ * How many Starts lie before `place`: the totals of the whole blocks before it together, and a look into its own. It is
+ * right whenever the totals are true. Gives the refusal's number, 2, 3, 21 or 22, or 0; a refusal leaves *starts.
+ */
+uint32_t fenhamper_starts_before(const uint8_t *octets, size_t octets_length, const uint8_t *marks, size_t marks_length,
+                                 const uint16_t *totals, size_t totals_length, size_t place, size_t *starts);
+
+/*
+ * The four calls above that write, with totals: each counts anew the blocks that it writes into, and touches no other
+ * total. So totals that are true stay so. Refusals are those of the call without totals, and 21 and 22 right after 3
+ * and 19.
+ */
+void fenhamper_send_client_counted(const fenhamper_settings *settings, fenhamper_state *state, uint8_t port,
+                                   uint8_t *octets, size_t octets_length, uint8_t *marks, size_t marks_length,
+                                   uint16_t *totals, size_t totals_length, size_t place, const fenhamper_client *client,
+                                   const uint8_t *data, size_t data_length, fenhamper_sent *sent);
+void fenhamper_send_pause_counted(const fenhamper_settings *settings, fenhamper_state *state, uint8_t port,
+                                  uint8_t *octets, size_t octets_length, uint8_t *marks, size_t marks_length,
+                                  uint16_t *totals, size_t totals_length, size_t place, uint16_t quanta,
+                                  fenhamper_sent *sent);
+void fenhamper_send_pfc_counted(const fenhamper_settings *settings, fenhamper_state *state, uint8_t port,
+                                uint8_t *octets, size_t octets_length, uint8_t *marks, size_t marks_length,
+                                uint16_t *totals, size_t totals_length, size_t place, uint8_t named,
+                                const uint16_t quanta[FENHAMPER_CLASSES], fenhamper_sent *sent);
+void fenhamper_fill_idle_counted(fenhamper_state *state, uint8_t *octets, size_t octets_length, uint8_t *marks,
+                                 size_t marks_length, uint16_t *totals, size_t totals_length, size_t place,
+                                 size_t idles, fenhamper_sent *sent);
+
 /* The FCS of octets, as a number whose low octet is sent first. */
 uint32_t fenhamper_fcs(const uint8_t *octets, size_t length);
 
@@ -576,6 +619,83 @@ static inline fenhamper_sent fenhamper_line_idle(fenhamper_state *state, fenhamp
   return sent;
 }
 
+/* ---- the same, with the totals too */
+
+/* How many blocks so many symbols are, a last short one included. */
+static inline size_t fenhamper_blocks(size_t symbols) {
+  return symbols / FENHAMPER_BLOCK + (symbols % FENHAMPER_BLOCK != 0);
+}
+
+/*
+ * Line buffers and their totals. These are true after fenhamper_counted_fill, and stay so over the calls below. Whoever
+ * writes symbols in another way fills them again.
+ */
+typedef struct fenhamper_counted_line {
+  uint8_t *octets;
+  uint8_t *marks;
+  size_t length;    /* of both */
+  uint16_t *totals; /* fenhamper_blocks(length) of them */
+} fenhamper_counted_line;
+
+/* What stands before `end`, to be read, as fenhamper_captured gives it. */
+static inline fenhamper_capture fenhamper_counted_captured(fenhamper_counted_line line, size_t end) {
+  fenhamper_line symbols;
+  symbols.octets = line.octets;
+  symbols.marks = line.marks;
+  symbols.length = line.length;
+  return fenhamper_captured(symbols, end);
+}
+
+/* Gives the refusal's number, here only 2, or 0. */
+static inline uint32_t fenhamper_counted_fill(fenhamper_counted_line line) {
+  return fenhamper_fill_totals(line.octets, line.length, line.marks, line.length, line.totals,
+                               fenhamper_blocks(line.length));
+}
+
+/* Gives the refusal's number, here 2, 3 or 22, or 0. */
+static inline uint32_t fenhamper_counted_starts(fenhamper_counted_line line, size_t place, size_t *starts) {
+  return fenhamper_starts_before(line.octets, line.length, line.marks, line.length, line.totals,
+                                 fenhamper_blocks(line.length), place, starts);
+}
+
+/* Here too data of no octets may be null. */
+static inline fenhamper_sent fenhamper_counted_client(const fenhamper_settings *settings, fenhamper_state *state,
+                                                      fenhamper_port port, fenhamper_counted_line line, size_t place,
+                                                      const fenhamper_client *client, const uint8_t *data,
+                                                      size_t data_length) {
+  fenhamper_sent sent;
+  if (data_length == 0) data = client->destination.octets;
+  fenhamper_send_client_counted(settings, state, (uint8_t)port, line.octets, line.length, line.marks, line.length,
+                                line.totals, fenhamper_blocks(line.length), place, client, data, data_length, &sent);
+  return sent;
+}
+
+static inline fenhamper_sent fenhamper_counted_pause(const fenhamper_settings *settings, fenhamper_state *state,
+                                                     fenhamper_port port, fenhamper_counted_line line, size_t place,
+                                                     uint16_t quanta) {
+  fenhamper_sent sent;
+  fenhamper_send_pause_counted(settings, state, (uint8_t)port, line.octets, line.length, line.marks, line.length,
+                               line.totals, fenhamper_blocks(line.length), place, quanta, &sent);
+  return sent;
+}
+
+static inline fenhamper_sent fenhamper_counted_pfc(const fenhamper_settings *settings, fenhamper_state *state,
+                                                   fenhamper_port port, fenhamper_counted_line line, size_t place,
+                                                   uint8_t named, const uint16_t quanta[FENHAMPER_CLASSES]) {
+  fenhamper_sent sent;
+  fenhamper_send_pfc_counted(settings, state, (uint8_t)port, line.octets, line.length, line.marks, line.length,
+                             line.totals, fenhamper_blocks(line.length), place, named, quanta, &sent);
+  return sent;
+}
+
+static inline fenhamper_sent fenhamper_counted_idle(fenhamper_state *state, fenhamper_counted_line line, size_t place,
+                                                    size_t idles) {
+  fenhamper_sent sent;
+  fenhamper_fill_idle_counted(state, line.octets, line.length, line.marks, line.length, line.totals,
+                              fenhamper_blocks(line.length), place, idles, &sent);
+  return sent;
+}
+
 /* ---- taking answers apart */
 
 /* How many Starts had this outcome, modulo 2^64. */
@@ -648,6 +768,8 @@ static inline const char *fenhamper_refusal_name(uint64_t refusal) {
     case FENHAMPER_LOG_FULL: return "log full";
     case FENHAMPER_NOT_USED: return "not used";
     case FENHAMPER_HIGH_DEFICIT: return "high deficit";
+    case FENHAMPER_WRONG_TOTALS: return "wrong totals";
+    case FENHAMPER_HIGH_TOTAL: return "high total";
     default: return "none";
   }
 }

@@ -11,6 +11,9 @@ pub struct Walked {
     pub open: usize,
 }
 
+/// Symbols of a block, which a total counts the Starts of.
+const BLOCK: usize = 256;
+
 type Setup = unsafe extern "C" fn() -> *const c_char;
 type Walk = unsafe extern "C" fn(u16, &mut [u64; 11], *const u8, *const u8, usize) -> Walked;
 
@@ -23,6 +26,8 @@ extern "C" {
         marks: *const u8,
         length: usize,
     ) -> Walked;
+    fn baseline_fill_totals(octets: *const u8, marks: *const u8, length: usize, totals: *mut u16);
+    fn baseline_starts_before(octets: *const u8, marks: *const u8, place: usize) -> usize;
 }
 
 #[cfg(zlib)]
@@ -77,4 +82,26 @@ impl Reader {
             )
         }
     }
+}
+
+/// Fills the totals by a plain loop in C, as many as there are blocks.
+pub fn fill_totals(line: &Line, totals: &mut [u16]) {
+    let length = line.octets.len().min(line.marks.len());
+    assert!(totals.len() == length.div_ceil(BLOCK));
+    // SAFETY: both pointers are to `length` octets, and there is a total for each block of them.
+    unsafe {
+        baseline_fill_totals(
+            line.octets.as_ptr(),
+            line.marks.as_ptr(),
+            length,
+            totals.as_mut_ptr(),
+        );
+    }
+}
+
+/// How many Starts lie before a place, counted by a plain loop in C.
+pub fn starts_before(line: &Line, place: usize) -> usize {
+    assert!(place <= line.octets.len().min(line.marks.len()));
+    // SAFETY: both pointers are to `place` octets or more.
+    unsafe { baseline_starts_before(line.octets.as_ptr(), line.marks.as_ptr(), place) }
 }

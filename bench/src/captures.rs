@@ -30,6 +30,13 @@ impl Line {
         Line { octets, marks }
     }
 
+    /// As many symbols as a capture has at most: Idles behind what there is.
+    pub fn filled(mut self) -> Line {
+        self.octets.resize(SYMBOLS, IDLE);
+        self.marks.resize(SYMBOLS, 1);
+        self
+    }
+
     // One pattern, over and over.
     fn repeat(size: usize, pattern: &[(u8, u8)]) -> Line {
         Line::of(size, |place| pattern[place % pattern.len()])

@@ -1,5 +1,5 @@
 //! Fenhamper's speed beside an independent Rust program and C: symbols per second of `walk`, of
-//! `walk_log`, of `read` and `explain` Start by Start and of sending.
+//! `walk_log`, of `read` and `explain` Start by Start, of sending and of totals.
 #![deny(unsafe_code)]
 mod baseline;
 mod captures;
@@ -18,8 +18,9 @@ use baseline::Reader;
 use captures::{Kind, Line, FRAMES, HOSTILE, SYMBOLS};
 use measure::{agree, Effort, Rivals};
 use reference::{Check, Port};
-use report::{placed, Cell, Growth, Report, Row};
-use rivals::{By, InC, Independent, IndependentSender, Job, Proved, ProvedSender};
+use report::{placed, Cell, Growth, Report, Row, Totals};
+use rivals::{Asker, By, Filler, InC, Independent, IndependentSender, Job, Proved, ProvedSender};
+use rivals::{Rival, Whose};
 
 const USAGE: &str = "\
 bench/run [--markdown FILE] [--rounds N] [--turn MILLISECONDS]
@@ -32,7 +33,16 @@ const SIZES: [usize; 8] = [128, 1024, 2048, 4096, 8192, 16_384, 32_768, 65_536];
 
 /// What reads and what sends, in the order of the table.
 const READINGS: [&str; 5] = ["walk", "walk_log", "read", "readings", "explain"];
-const SENDINGS: [(&str, Port); 2] = [("send", Port::Plain), ("send, four lanes", Port::FourLane)];
+const SENDINGS: [(&str, Port, bool); 3] = [
+    ("send", Port::Plain, false),
+    ("send, four lanes", Port::FourLane, false),
+    ("send, totals", Port::Plain, true),
+];
+
+/// The captures whose totals are filled and asked.
+const COUNTED: [&str; 3] = ["all Idle", "64", "all Starts"];
+/// Where they are asked; the look is into a whole block but for one symbol.
+const ASKED: usize = SYMBOLS - 1;
 
 struct Bench {
     effort: Effort,
@@ -115,27 +125,55 @@ impl Bench {
         rows
     }
 
-    // Sending frames of one kind on a port.
-    fn sending(&self, kind: &Kind, (call, port): (&'static str, Port)) -> Row {
+    // Sending frames of one kind in all ways, which take their turns together.
+    fn sending(&self, kind: &Kind) -> Vec<Row> {
         let (sizes, data) = (kind.sizes(SYMBOLS), captures::data());
-        let job = Job {
-            port,
-            limit: kind.limit,
-            sizes: &sizes,
-            data: &data,
-        };
-        let mut rivals: Rivals = vec![
-            Box::new(ProvedSender::new(job)),
-            Box::new(IndependentSender::new(Check::ByteTable, job)),
-            Box::new(IndependentSender::new(Check::Slicing16, job)),
-        ];
-        agree(kind.name, &mut rivals);
-        let rates = self.rates(captures::symbols(&sizes), &mut rivals);
-        Row {
+        let mut senders: Rivals = Vec::new();
+        for (_, port, counted) in SENDINGS {
+            let job = Job {
+                port,
+                counted,
+                limit: kind.limit,
+                sizes: &sizes,
+                data: &data,
+            };
+            let mut rivals: Rivals = vec![
+                Box::new(ProvedSender::new(job)),
+                Box::new(IndependentSender::new(Check::ByteTable, job)),
+                Box::new(IndependentSender::new(Check::Slicing16, job)),
+            ];
+            agree(kind.name, &mut rivals);
+            senders.append(&mut rivals);
+        }
+        let rates = self.rates(captures::symbols(&sizes), &mut senders);
+        let row = |((call, ..), rates): ((&'static str, Port, bool), &[f64])| Row {
             call,
             capture: kind.name,
             hostile: false,
             rates: [Some(rates[0]), Some(rates[1]), Some(rates[2]), None, None],
+        };
+        SENDINGS.into_iter().zip(rates.chunks(3)).map(row).collect()
+    }
+
+    // Filling the totals of a capture, beside a walk over it, and asking them.
+    fn totals(&self, kind: &Kind, line: &Line) -> Totals {
+        const ALL: [Whose; 3] = [Whose::Proved, Whose::Independent, Whose::Plain];
+        let filler = |whose| -> Box<dyn Rival> { Box::new(Filler::new(whose, line)) };
+        let asker = |whose| -> Box<dyn Rival> { Box::new(Asker::new(whose, line, ASKED)) };
+        let mut fillers: Rivals = ALL.map(filler).into();
+        agree(kind.name, &mut fillers);
+        fillers.push(Box::new(Proved::new(By::Walk, line, kind.limit)));
+        let mut askers: Rivals = ALL.map(asker).into();
+        agree(kind.name, &mut askers);
+        Totals {
+            capture: kind.name,
+            rates: self.rates(line.octets.len(), &mut fillers),
+            nanoseconds: self
+                .effort
+                .seconds(&mut askers)
+                .iter()
+                .map(|s| s * 1e9)
+                .collect(),
         }
     }
 
@@ -177,7 +215,7 @@ impl Bench {
 
     fn report(&self, machine: Vec<String>) -> Report {
         let kinds: Vec<Kind> = FRAMES.into_iter().chain(HOSTILE).collect();
-        let (mut rows, mut growth) = (Vec::new(), Vec::new());
+        let (mut rows, mut totals, mut growth) = (Vec::new(), Vec::new(), Vec::new());
         for kind in &kinds {
             eprintln!("reading: {}", kind.name);
             if let Some(line) = kind.capture(SYMBOLS) {
@@ -185,21 +223,27 @@ impl Bench {
             }
         }
         for kind in &FRAMES {
-            for on in SENDINGS {
-                eprintln!("{}: {}", on.0, kind.name);
-                rows.push(self.sending(kind, on));
+            eprintln!("sending: {}", kind.name);
+            rows.extend(self.sending(kind));
+        }
+        for name in COUNTED {
+            eprintln!("totals: {name}");
+            for kind in kinds.iter().filter(|kind| kind.name == name) {
+                let line = kind.capture(SYMBOLS).map(Line::filled);
+                totals.extend(line.map(|line| self.totals(kind, &line)));
             }
         }
         for kind in &kinds {
             eprintln!("by size: {}", kind.name);
             growth.push(self.growth(kind));
         }
-        let order = [&READINGS[..], &SENDINGS.map(|(call, _)| call)].concat();
+        let order = [&READINGS[..], &SENDINGS.map(|(call, ..)| call)].concat();
         rows.sort_by_key(|row| order.iter().position(|call| *call == row.call));
         Report {
             machine,
             zlib: self.zlib.is_some(),
             rows,
+            totals,
             sizes: SIZES.to_vec(),
             growth,
         }

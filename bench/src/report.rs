@@ -15,6 +15,7 @@ const ZLIB: usize = 4;
 // Calls that are compared with each other.
 const LOGGED: (&str, &str) = ("walk_log", "walk");
 const EXPLAINED: (&str, &str) = ("explain", "read");
+const COUNTED: (&str, &str) = ("send, totals", "send");
 
 // Frames that the check finds damaged.
 const DAMAGED: &str = "83, wrong FCS";
@@ -32,6 +33,15 @@ impl Row {
     fn ratio(&self, column: usize) -> Option<f64> {
         Some(self.rates[0]? / self.rates[column]?)
     }
+}
+
+/// Totals of one capture of the most symbols: Fenhamper's, the reference's, C's.
+pub struct Totals {
+    pub capture: &'static str,
+    /// 10^9 symbols per second of filling them, and at last of a walk over the capture.
+    pub rates: Vec<f64>,
+    /// Nanoseconds of a question; in C of a count over everything.
+    pub nanoseconds: Vec<f64>,
 }
 
 /// What was measured on a capture of one size.
@@ -64,6 +74,7 @@ pub struct Report {
     pub machine: Vec<String>,
     pub zlib: bool,
     pub rows: Vec<Row>,
+    pub totals: Vec<Totals>,
     pub sizes: Vec<usize>,
     pub growth: Vec<Growth>,
 }
@@ -142,6 +153,36 @@ impl Report {
             out,
             captures.iter().map(|&c| cell(self.beside(calls, c), 2)),
         );
+    }
+
+    // Filling totals, and asking them.
+    fn totals(&self, out: &mut String) {
+        out.push_str("In 10^9 symbols per second, beside `walk` over the same capture; then `starts_before` at place 65,535 in\n");
+        out.push_str("nanoseconds a call. C fills by a plain loop, and answers by a count over everything.\n\n");
+        let names = [
+            "Capture",
+            "`fill_totals`",
+            "reference",
+            "C",
+            "to reference",
+            "to C",
+            "`walk`",
+            "to `walk`",
+            "`starts_before`",
+            "reference",
+            "C",
+        ];
+        head(out, names.map(str::to_owned).to_vec(), 1);
+        for totals in &self.totals {
+            let rate = |i: usize| totals.rates.get(i).copied();
+            let to = |i: usize| Some(rate(0)? / rate(i)?);
+            let mut cells = vec![totals.capture.to_owned()];
+            cells.extend([0, 1, 2].map(|i| cell(rate(i), 3)));
+            cells.extend([1, 2].map(|i| cell(to(i), 2)));
+            cells.extend([cell(rate(3), 3), cell(to(3), 2)]);
+            cells.extend(totals.nanoseconds.iter().map(|&ns| cell(Some(ns), 1)));
+            line(out, cells);
+        }
     }
 
     // One table by size, of the figures that `of` picks.
@@ -262,6 +303,10 @@ impl Report {
         self.by_capture(&mut out, LOGGED);
         out.push_str("\n### `explain`: how many times as fast as `read`, by capture\n\n");
         self.by_capture(&mut out, EXPLAINED);
+        out.push_str("\n### `send, totals`: how many times as fast as `send`, by capture\n\n");
+        self.by_capture(&mut out, COUNTED);
+        out.push_str("\n### Totals of 65,536 symbols\n\n");
+        self.totals(&mut out);
         out.push_str("\n### `walk`: nanoseconds per symbol by the capture's size in symbols\n\n");
         self.by_size(&mut out, 3, |cell| cell.walk);
         out.push_str("\n### `walk`: how many times as fast as reference, by 16, by the capture's size in symbols\n\n");

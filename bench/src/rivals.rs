@@ -2,11 +2,11 @@
 use std::hint::black_box;
 
 use fenhamper::limits::RECORD_SIZE;
-use fenhamper::{Address, Capture, End, Explained, Frame, Log, Reading, Reason};
+use fenhamper::{blocks, Address, Capture, End, Explained, Frame, Log, Reading, Reason};
 use fenhamper::{Sender, Settings, State};
 use reference::{Answer, Check, Client, Form, Port, Sent, Walked, Why};
 
-use crate::baseline::Reader;
+use crate::baseline::{self, Reader};
 use crate::captures::{data_length, Line, TYPE};
 
 /// The own address of the printing program.
@@ -338,10 +338,113 @@ fn symbols(line: &Line) -> Vec<u64> {
         .collect()
 }
 
-/// What is sent: frames of these sizes, each with the first octets of `data`, on a port.
+/// Whose totals.
+#[derive(Clone, Copy)]
+pub enum Whose {
+    /// Fenhamper's.
+    Proved,
+    /// The reference's.
+    Independent,
+    /// Those of a plain loop in C.
+    Plain,
+}
+
+/// The totals of a capture, filled.
+pub struct Filler<'a> {
+    whose: Whose,
+    line: &'a Line,
+    totals: Vec<u16>,
+}
+
+impl<'a> Filler<'a> {
+    pub fn new(whose: Whose, line: &'a Line) -> Self {
+        Filler {
+            whose,
+            line,
+            totals: vec![0; blocks(line.octets.len())],
+        }
+    }
+}
+
+// Totals as numbers, to be compared.
+fn numbers(totals: &[u16]) -> impl Iterator<Item = u64> + use<'_> {
+    totals.iter().copied().map(u64::from)
+}
+
+impl Rival for Filler<'_> {
+    fn run(&mut self) -> Tally {
+        let (line, totals) = (black_box(self.line), black_box(&mut self.totals));
+        // a refused call leaves the totals, and the comparison shows it
+        match self.whose {
+            Whose::Proved => {
+                let _ = Capture::new(&line.octets, &line.marks).fill_totals(totals);
+            }
+            Whose::Independent => {
+                let _ = reference::fill_totals(&line.octets, &line.marks, totals);
+            }
+            Whose::Plain => baseline::fill_totals(line, totals),
+        }
+        Tally::default()
+    }
+
+    fn kept(&self) -> Vec<u64> {
+        numbers(&self.totals).collect()
+    }
+}
+
+/// The Starts before a place: by true totals, in C by a count over everything.
+pub struct Asker<'a> {
+    whose: Whose,
+    line: &'a Line,
+    totals: Vec<u16>,
+    place: usize,
+}
+
+impl<'a> Asker<'a> {
+    pub fn new(whose: Whose, line: &'a Line, place: usize) -> Self {
+        let mut totals = vec![0; blocks(line.octets.len())];
+        baseline::fill_totals(line, &mut totals);
+        Asker {
+            whose,
+            line,
+            totals,
+            place,
+        }
+    }
+}
+
+impl Rival for Asker<'_> {
+    fn run(&mut self) -> Tally {
+        let (line, totals) = (black_box(self.line), black_box(&self.totals));
+        let place = black_box(self.place);
+        let starts = match self.whose {
+            Whose::Proved => {
+                let answer = Capture::new(&line.octets, &line.marks).starts_before(totals, place);
+                answer.unwrap_or(usize::MAX)
+            }
+            Whose::Independent => {
+                let answer = reference::starts_before(&line.octets, &line.marks, totals, place);
+                answer.unwrap_or(usize::MAX)
+            }
+            Whose::Plain => baseline::starts_before(line, place),
+        };
+        Tally {
+            count: starts,
+            ..Tally::default()
+        }
+    }
+
+    fn kept(&self) -> Vec<u64> {
+        Vec::new()
+    }
+}
+
+/// What is sent: frames of these sizes, each with the first octets of `data`, on a port, with totals
+/// or without.
 #[derive(Clone, Copy)]
 pub struct Job<'a> {
     pub port: Port,
+    pub counted: bool,
     pub limit: u16,
     pub sizes: &'a [usize],
     pub data: &'a [u8],
@@ -357,19 +460,32 @@ fn blank(job: Job) -> Line {
     }
 }
 
+// The totals of such buffers: none of their symbols is a Start.
+fn blank_totals(line: &Line) -> Vec<u16> {
+    vec![0; blocks(line.octets.len())]
+}
+
+// All that a sender wrote, to be compared.
+fn written(line: &Line, totals: &[u16]) -> Vec<u64> {
+    symbols(line).into_iter().chain(numbers(totals)).collect()
+}
+
 /// Fenhamper, sending.
 pub struct ProvedSender<'a> {
     job: Job<'a>,
     line: Line,
+    totals: Vec<u16>,
     settings: Settings,
     state: State,
 }
 
 impl<'a> ProvedSender<'a> {
     pub fn new(job: Job<'a>) -> Self {
+        let line = blank(job);
         ProvedSender {
             job,
-            line: blank(job),
+            totals: blank_totals(&line),
+            line,
             settings: settings(job.limit),
             state: State::default(),
         }
@@ -384,20 +500,32 @@ impl Rival for ProvedSender<'_> {
             Port::Plain => fenhamper::Port::Plain,
             Port::FourLane => fenhamper::Port::FourLane,
         };
-        let mut sender = Sender::new(&mut line.octets, &mut line.marks).on(port);
-        for &size in self.job.sizes {
-            let data = &self.job.data[..data_length(size)];
-            // a refused one leaves the place, and the comparison shows it
-            let _ = sender.client(&self.settings, &mut self.state, &frame, data);
-        }
+        let sizes = self.job.sizes.iter();
+        let data = sizes.map(|&size| &self.job.data[..data_length(size)]);
+        // a refused one leaves the place, and the comparison shows it
+        let place = if self.job.counted {
+            let totals = black_box(&mut self.totals);
+            let line = fenhamper::Line::with_totals(&mut line.octets, &mut line.marks, totals);
+            let mut line = line.on(port);
+            for data in data {
+                let _ = line.client(&self.settings, &mut self.state, &frame, data);
+            }
+            line.place()
+        } else {
+            let mut sender = Sender::new(&mut line.octets, &mut line.marks).on(port);
+            for data in data {
+                let _ = sender.client(&self.settings, &mut self.state, &frame, data);
+            }
+            sender.place()
+        };
         Tally {
-            count: sender.place(),
+            count: place,
             ..Tally::default()
         }
     }
 
     fn kept(&self) -> Vec<u64> {
-        symbols(&self.line)
+        written(&self.line, &self.totals)
     }
 }
 
@@ -406,16 +534,19 @@ pub struct IndependentSender<'a> {
     check: Check,
     job: Job<'a>,
     line: Line,
+    totals: Vec<u16>,
     settings: reference::Settings,
     state: reference::State,
 }
 
 impl<'a> IndependentSender<'a> {
     pub fn new(check: Check, job: Job<'a>) -> Self {
+        let line = blank(job);
         IndependentSender {
             check,
             job,
-            line: blank(job),
+            totals: blank_totals(&line),
+            line,
             settings: reference_settings(job.limit),
             state: reference::State::default(),
         }
@@ -433,17 +564,34 @@ impl Rival for IndependentSender<'_> {
         let line = black_box(&mut self.line);
         let mut place = 0;
         for &size in self.job.sizes {
-            let sent = reference::send_client(
-                self.check,
-                &self.settings,
-                &mut self.state,
-                self.job.port,
-                &mut line.octets,
-                &mut line.marks,
-                place,
-                &client,
-                &self.job.data[..data_length(size)],
-            );
+            let data = &self.job.data[..data_length(size)];
+            let (check, port) = (self.check, self.job.port);
+            let sent = if self.job.counted {
+                reference::send_client_counting(
+                    check,
+                    &self.settings,
+                    &mut self.state,
+                    port,
+                    &mut line.octets,
+                    &mut line.marks,
+                    black_box(&mut self.totals),
+                    place,
+                    &client,
+                    data,
+                )
+            } else {
+                reference::send_client(
+                    check,
+                    &self.settings,
+                    &mut self.state,
+                    port,
+                    &mut line.octets,
+                    &mut line.marks,
+                    place,
+                    &client,
+                    data,
+                )
+            };
             if let Sent::Wrote(next) = sent {
                 place = next;
             }
@@ -455,6 +603,6 @@ impl Rival for IndependentSender<'_> {
     }
 
     fn kept(&self) -> Vec<u64> {
-        symbols(&self.line)
+        written(&self.line, &self.totals)
     }
 }

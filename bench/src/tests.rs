@@ -1,12 +1,12 @@
 //! That the rivals do the same job: frames of every kind, good and damaged, with the same counters.
 use reference::{Check, Port, State};
 
-use crate::baseline::Reader;
+use crate::baseline::{self, Reader};
 use crate::captures::{data, symbols, Kind, Line, Random, FRAMES, HOSTILE};
 use crate::measure::{agree, Rivals};
 use crate::report::placed;
-use crate::rivals::{reference_settings, By, InC, Independent, IndependentSender, Job};
-use crate::rivals::{Proved, ProvedSender, Rival, OWN};
+use crate::rivals::{reference_settings, Asker, By, Filler, InC, Independent, IndependentSender};
+use crate::rivals::{Job, Proved, ProvedSender, Rival, Whose, OWN};
 
 const LIMIT: u16 = 1518;
 
@@ -148,16 +148,42 @@ fn all_readers_count_the_same() {
     }
 }
 
-// On both ports, and run after run: what a run before left does not refuse a frame.
+// Totals and Starts before a place, by all three.
+#[test]
+fn all_count_the_same_starts() {
+    let mut random = Random::new(9);
+    let noise = HOSTILE[8].capture(65_536);
+    let lines = (0..40).map(|n| traffic(&mut random, 255 * n + n % 5));
+    let lines: Vec<_> = lines.chain(noise).collect();
+    for line in &lines {
+        let all = [Whose::Proved, Whose::Independent, Whose::Plain];
+        let filler = |whose| -> Box<dyn Rival> { Box::new(Filler::new(whose, line)) };
+        let mut fillers: Rivals = all.map(filler).into();
+        let totals = agree("totals", &mut fillers);
+        let length = line.octets.len();
+        assert_eq!(totals.len(), length.div_ceil(256));
+        let sum: u64 = totals.iter().sum();
+        assert_eq!(sum, baseline::starts_before(line, length) as u64);
+        for place in [0, length / 2, length.saturating_sub(1), length] {
+            let asker = |whose| -> Box<dyn Rival> { Box::new(Asker::new(whose, line, place)) };
+            let mut askers: Rivals = all.map(asker).into();
+            agree("starts", &mut askers);
+        }
+    }
+}
+
+// On both ports, with totals and without, and run after run: what a run before left does not refuse a frame.
 #[test]
 fn all_senders_write_the_same() {
     let mut odd = Random::new(3);
     let odd: Vec<_> = (0..300).map(|_| 64 + odd.below(100)).collect();
     let all = FRAMES.iter().map(|kind| kind.sizes(65_536)).chain([odd]);
     for (sizes, data) in all.zip(std::iter::repeat(data())) {
-        for port in [Port::Plain, Port::FourLane] {
+        let all = [Port::Plain, Port::FourLane].map(|port| [(port, false), (port, true)]);
+        for (port, counted) in all.into_iter().flatten() {
             let job = Job {
                 port,
+                counted,
                 limit: 9618,
                 sizes: &sizes,
                 data: &data,

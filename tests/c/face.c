@@ -755,6 +755,269 @@ static void a_reason_says_the_opcode(void) {
   CHECK(because(&none, capture, 0, FENHAMPER_REASON_DROPPED_CONTROL, 0x0101, 0));
 }
 
+/* ---- the totals of a capture */
+
+#define STRETCH 1000 /* symbols: three blocks, and a last one of 232 */
+#define BLOCKS 4
+
+static uint8_t stretch[STRETCH], stretch_marks[STRETCH];
+static uint16_t totals[BLOCKS];
+
+/* Start codes at each multiple of 7, but where the mark says data; other marks are 1 to 255. Totals above 256, and a fresh state. */
+static fenhamper_counted_line fresh_stretch(void) {
+  fenhamper_counted_line line;
+  size_t i;
+  for (i = 0; i < STRETCH; i++) {
+    stretch[i] = i % 7 == 0 ? 0xFB : 0x07;
+    stretch_marks[i] = (uint8_t)(i % 5 == 0 ? 0 : 1 + i % 255);
+  }
+  memset(totals, 0xFF, sizeof totals);
+  fenhamper_fresh_state(&state);
+  line.octets = stretch;
+  line.marks = stretch_marks;
+  line.length = STRETCH;
+  line.totals = totals;
+  return line;
+}
+
+/* A count over the symbols themselves. */
+static size_t starts_in(size_t from, size_t to) {
+  size_t n = 0;
+  for (; from < to; from++) n += stretch[from] == 0xFB && stretch_marks[from] != 0;
+  return n;
+}
+
+/* Whether the total of a block says how many Starts it has. */
+static int is_true(size_t block) {
+  size_t from = block * FENHAMPER_BLOCK, to = from + FENHAMPER_BLOCK;
+  return totals[block] == starts_in(from, to < STRETCH ? to : STRETCH);
+}
+
+static void blocks_are_of_256_symbols(void) {
+  CHECK(fenhamper_blocks(0) == 0 && fenhamper_blocks(1) == 1 && fenhamper_blocks(256) == 1 && fenhamper_blocks(257) == 2);
+  CHECK(fenhamper_blocks(STRETCH) == BLOCKS && fenhamper_blocks(FENHAMPER_MOST_SYMBOLS) == FENHAMPER_MOST_BLOCKS);
+  CHECK(fenhamper_blocks(SIZE_MAX) == SIZE_MAX / FENHAMPER_BLOCK + 1);
+  CHECK(strcmp(fenhamper_refusal_name(FENHAMPER_WRONG_TOTALS), "wrong totals") == 0);
+  CHECK(strcmp(fenhamper_refusal_name(FENHAMPER_HIGH_TOTAL), "high total") == 0);
+}
+
+/* At every place, and at none beyond. */
+static void the_answer_is_a_count(void) {
+  fenhamper_counted_line line = fresh_stretch();
+  size_t place, k, starts = 12345;
+  CHECK(fenhamper_counted_fill(line) == 0);
+  for (k = 0; k < BLOCKS; k++) CHECK(is_true(k));
+  for (place = 0; place <= STRETCH; place++) CHECK(fenhamper_counted_starts(line, place, &starts) == 0 && starts == starts_in(0, place));
+  starts = 12345;
+  CHECK(fenhamper_counted_starts(line, STRETCH + 1, &starts) == FENHAMPER_BAD_PLACE && starts == 12345);
+  CHECK(fenhamper_counted_starts(line, SIZE_MAX, &starts) == FENHAMPER_BAD_PLACE && starts == 12345);
+  CHECK(fenhamper_counted_captured(line, 7).length == 7 && fenhamper_counted_captured(line, STRETCH + 1).length == STRETCH);
+  CHECK(fenhamper_counted_captured(line, 7).octets == stretch && fenhamper_counted_captured(line, 7).marks == stretch_marks);
+  /* no symbols are no blocks */
+  line.length = 0;
+  CHECK(fenhamper_counted_fill(line) == 0 && fenhamper_counted_starts(line, 0, &starts) == 0 && starts == 0);
+}
+
+/* The longest capture, of Starts alone; a longer one is refused. */
+static void the_most_starts_are_counted(void) {
+  static uint8_t o[FENHAMPER_MOST_SYMBOLS + 1], m[FENHAMPER_MOST_SYMBOLS + 1];
+  static uint16_t t[FENHAMPER_MOST_BLOCKS + 1];
+  fenhamper_counted_line line;
+  size_t k, starts = 12345;
+  memset(o, 0xFB, sizeof o);
+  memset(m, 0xFF, sizeof m);
+  line.octets = o;
+  line.marks = m;
+  line.totals = t;
+  line.length = FENHAMPER_MOST_SYMBOLS + 1;
+  CHECK(fenhamper_counted_fill(line) == FENHAMPER_BAD_BUFFERS && t[0] == 0);
+  CHECK(fenhamper_counted_starts(line, 0, &starts) == FENHAMPER_BAD_BUFFERS && starts == 12345);
+  line.length = FENHAMPER_MOST_SYMBOLS;
+  CHECK(fenhamper_counted_fill(line) == 0 && t[FENHAMPER_MOST_BLOCKS] == 0);
+  for (k = 0; k < FENHAMPER_MOST_BLOCKS; k++) CHECK(t[k] == FENHAMPER_BLOCK);
+  CHECK(fenhamper_counted_starts(line, FENHAMPER_MOST_SYMBOLS, &starts) == 0 && starts == FENHAMPER_MOST_SYMBOLS);
+}
+
+/* The calls that write. */
+enum { CLIENT, PAUSE, PFC, IDLE, WRITING };
+
+/* What can be wrong with a call, in the order in which it is refused. */
+enum { SETTINGS = 1, BUFFERS = 2, PLACE = 4, DEFICIT = 8, NUMBER = 16, HIGH = 32, LATER = 64, WRONGS = 128 };
+
+static const uint16_t some_quanta[FENHAMPER_CLASSES] = {1, 2, 3, 4, 5, 6, 7, 8};
+
+/* Settings for such a call. */
+static fenhamper_settings settings_of(unsigned call) {
+  fenhamper_settings s = fenhamper_settings_for(own);
+  s.flow = call == PAUSE ? FENHAMPER_FLOW_PAUSE : call == PFC ? FENHAMPER_FLOW_PFC : FENHAMPER_FLOW_NONE;
+  return s;
+}
+
+/* The call, with totals and without. */
+static fenhamper_sent counted(unsigned call, fenhamper_port port, fenhamper_counted_line line, size_t place) {
+  fenhamper_settings s = settings_of(call);
+  fenhamper_client client = fenhamper_client_to(other);
+  if (call == CLIENT) return fenhamper_counted_client(&s, &state, port, line, place, &client, NULL, 0);
+  if (call == PAUSE) return fenhamper_counted_pause(&s, &state, port, line, place, 0x1234);
+  if (call == PFC) return fenhamper_counted_pfc(&s, &state, port, line, place, 0x81, some_quanta);
+  return fenhamper_counted_idle(&state, line, place, 84);
+}
+
+static fenhamper_sent uncounted(unsigned call, fenhamper_port port, fenhamper_state *theirs, fenhamper_line line, size_t place) {
+  fenhamper_settings s = settings_of(call);
+  fenhamper_client client = fenhamper_client_to(other);
+  if (call == CLIENT) return fenhamper_line_client(&s, theirs, port, line, place, &client, NULL, 0);
+  if (call == PAUSE) return fenhamper_line_pause(&s, theirs, port, line, place, 0x1234);
+  if (call == PFC) return fenhamper_line_pfc(&s, theirs, port, line, place, 0x81, some_quanta);
+  return fenhamper_line_idle(theirs, line, place, 84);
+}
+
+/* A call with totals is the one without, on both ports and refused or not; it counts anew the blocks that it writes into, and touches no other total. */
+static void a_counted_call_counts_its_blocks(void) {
+  static const size_t places[] = {0, 100, 172, 176, 256, 508, 600, 768, 916, 920, 1000, 1001};
+  static uint8_t o[STRETCH], m[STRETCH];
+  unsigned call, port;
+  size_t i, k;
+  for (call = CLIENT; call < WRITING; call++) {
+    for (port = 0; port < 2; port++) {
+      for (i = 0; i < sizeof places / sizeof *places; i++) {
+        fenhamper_counted_line line = fresh_stretch();
+        fenhamper_line plain = {o, m, STRETCH};
+        fenhamper_state theirs = state;
+        fenhamper_sent sent, expected;
+        memcpy(o, stretch, STRETCH);
+        memcpy(m, stretch_marks, STRETCH);
+        /* false, but none above 256 */
+        for (k = 0; k < BLOCKS; k++) totals[k] = (uint16_t)(250 + k);
+        sent = counted(call, (fenhamper_port)port, line, places[i]);
+        expected = uncounted(call, (fenhamper_port)port, &theirs, plain, places[i]);
+        CHECK(memcmp(&sent, &expected, sizeof sent) == 0 && memcmp(&state, &theirs, sizeof state) == 0);
+        CHECK(memcmp(o, stretch, STRETCH) == 0 && memcmp(m, stretch_marks, STRETCH) == 0);
+        CHECK((sent.refusal == 0) == (sent.place == places[i] + 84));
+        for (k = 0; k < BLOCKS; k++) {
+          int written = places[i] < (k + 1) * FENHAMPER_BLOCK && k * FENHAMPER_BLOCK < sent.place && sent.refusal == 0;
+          CHECK(written ? is_true(k) : totals[k] == 250 + k);
+        }
+      }
+    }
+  }
+}
+
+/* True totals stay true over a row of calls, and the question can be asked after each. */
+static void totals_stay_true(void) {
+  fenhamper_counted_line line = fresh_stretch();
+  size_t place = 0, k, n, starts;
+  CHECK(fenhamper_counted_fill(line) == 0);
+  for (n = 0; n < 11; n++) {
+    fenhamper_sent sent = counted((unsigned)(n % WRITING), FENHAMPER_PORT_PLAIN, line, place);
+    CHECK(sent.refusal == 0);
+    place = (size_t)sent.place;
+    for (k = 0; k < BLOCKS; k++) CHECK(is_true(k));
+    CHECK(fenhamper_counted_starts(line, place, &starts) == 0 && starts == starts_in(0, place));
+  }
+  CHECK(place == 924 && starts == 9);
+  /* 0 Idles write into no block */
+  totals[0] = 9;
+  CHECK(fenhamper_counted_idle(&state, line, 0, 0).refusal == 0 && totals[0] == 9);
+  CHECK(fenhamper_counted_idle(&state, line, 0, 1).refusal == 0 && is_true(0));
+}
+
+/* What such a call gives on the four-lane port with these things wrong: its refusal's number. */
+static uint64_t given(unsigned call, unsigned wrongs) {
+  fenhamper_settings s = settings_of(call);
+  fenhamper_client client = fenhamper_client_to(other);
+  size_t place = wrongs & PLACE ? STRETCH + 4 : 512, m = wrongs & BUFFERS ? STRETCH - 1 : STRETCH, n = wrongs & NUMBER ? BLOCKS - 1 : BLOCKS;
+  fenhamper_sent sent;
+  if (wrongs & SETTINGS) s.limit = 0;
+  if (wrongs & LATER) s.flow = FENHAMPER_FLOW_NONE;
+  client.traffic_class = wrongs & LATER ? 8 : 0;
+  if (call == CLIENT) fenhamper_send_client_counted(&s, &state, 1, stretch, STRETCH, stretch_marks, m, totals, n, place, &client, own.octets, 6, &sent);
+  if (call == PAUSE) fenhamper_send_pause_counted(&s, &state, 1, stretch, STRETCH, stretch_marks, m, totals, n, place, 5, &sent);
+  if (call == PFC) fenhamper_send_pfc_counted(&s, &state, 1, stretch, STRETCH, stretch_marks, m, totals, n, place, 0x81, some_quanta, &sent);
+  if (call == IDLE) fenhamper_fill_idle_counted(&state, stretch, STRETCH, stretch_marks, m, totals, n, place, wrongs & LATER ? 489 : 5, &sent);
+  CHECK((sent.place == place) == (sent.refusal != 0));
+  return sent.refusal;
+}
+
+/* The first refusal in order, of the wrongs that a call looks at. */
+static uint64_t first_of(unsigned wrongs, uint64_t later) {
+  if (wrongs & SETTINGS) return FENHAMPER_BAD_SETTINGS;
+  if (wrongs & BUFFERS) return FENHAMPER_BAD_BUFFERS;
+  if (wrongs & PLACE) return FENHAMPER_BAD_PLACE;
+  if (wrongs & DEFICIT) return FENHAMPER_HIGH_DEFICIT;
+  if (wrongs & NUMBER) return FENHAMPER_WRONG_TOTALS;
+  if (wrongs & HIGH) return FENHAMPER_HIGH_TOTAL;
+  return wrongs & LATER ? later : 0;
+}
+
+/* Everything that a call could change, and what it was. */
+static struct everything {
+  fenhamper_state state;
+  uint8_t octets[STRETCH], marks[STRETCH];
+  uint16_t totals[BLOCKS];
+} then;
+
+/* A stretch with such things wrong, and a worn state: what is not looked at in it is not 0. */
+static void wrong_stretch(unsigned wrongs) {
+  size_t i;
+  fenhamper_counted_line line = fresh_stretch();
+  CHECK(fenhamper_counted_fill(line) == 0);
+  if (wrongs & HIGH) totals[wrongs % 3] = FENHAMPER_BLOCK + 1;
+  for (i = 0; i < FENHAMPER_CLASSES; i++) state.timers[i] = UINT64_C(5) << 32;
+  state.spare[3] = 7;
+  state.deficit = wrongs & DEFICIT ? 4 : 0;
+  then.state = state;
+  memcpy(then.octets, stretch, STRETCH);
+  memcpy(then.marks, stretch_marks, STRETCH);
+  memcpy(then.totals, totals, sizeof totals);
+}
+
+static int all_left(void) {
+  return memcmp(&then.state, &state, sizeof state) == 0 && memcmp(then.octets, stretch, STRETCH) == 0 &&
+         memcmp(then.marks, stretch_marks, STRETCH) == 0 && memcmp(then.totals, totals, sizeof totals) == 0;
+}
+
+/* Each call with each set of wrongs: it gives the first refusal in order, and a refused one leaves everything. */
+static void counted_calls_are_refused_in_order(void) {
+  static const unsigned looks_at[WRITING] = {WRONGS - 1, WRONGS - 1, WRONGS - 1, BUFFERS | PLACE | NUMBER | HIGH | LATER};
+  static const uint64_t later[WRITING] = {FENHAMPER_BAD_CLASS, FENHAMPER_OTHER_FLOW, FENHAMPER_OTHER_FLOW, FENHAMPER_NO_ROOM};
+  unsigned call, wrongs;
+  for (wrongs = 0; wrongs < WRONGS; wrongs++) {
+    size_t place = wrongs & PLACE ? STRETCH + 1 : STRETCH, m = wrongs & BUFFERS ? STRETCH - 1 : STRETCH, n = wrongs & NUMBER ? BLOCKS - 1 : BLOCKS;
+    size_t starts = 12345;
+    uint64_t expected;
+    for (call = CLIENT; call < WRITING; call++) {
+      expected = first_of(wrongs & looks_at[call], later[call]);
+      wrong_stretch(wrongs);
+      CHECK(given(call, wrongs) == expected && all_left() == (expected != 0));
+    }
+    wrong_stretch(wrongs);
+    expected = first_of(wrongs & (BUFFERS | PLACE | NUMBER | HIGH), 0);
+    CHECK(fenhamper_starts_before(stretch, STRETCH, stretch_marks, m, totals, n, place, &starts) == expected);
+    CHECK(all_left() && (expected == 0 ? starts == starts_in(0, STRETCH) : starts == 12345));
+    /* filling looks at no total, and puts a high one right */
+    expected = first_of(wrongs & (BUFFERS | NUMBER), 0);
+    CHECK(fenhamper_fill_totals(stretch, STRETCH, stretch_marks, m, totals, n) == expected);
+    CHECK(expected == 0 ? is_true(0) && is_true(1) && is_true(2) && is_true(3) : all_left());
+  }
+}
+
+/* Of 256 in the last place and in the first, and of 257 there, whichever place is asked for. */
+static void a_total_above_256_is_refused(void) {
+  fenhamper_counted_line line = fresh_stretch();
+  size_t k, starts;
+  for (k = 0; k < BLOCKS; k++) {
+    CHECK(fenhamper_counted_fill(line) == 0);
+    totals[k] = 256;
+    CHECK(fenhamper_counted_starts(line, 0, &starts) == 0 && starts == 0);
+    totals[k] = 257;
+    CHECK(fenhamper_counted_starts(line, 0, &starts) == FENHAMPER_HIGH_TOTAL);
+    totals[k] = 0xFFFF;
+    CHECK(fenhamper_counted_starts(line, STRETCH, &starts) == FENHAMPER_HIGH_TOTAL);
+    CHECK(counted(IDLE, FENHAMPER_PORT_PLAIN, line, 256 * k).refusal == FENHAMPER_HIGH_TOTAL && totals[k] == 0xFFFF);
+  }
+}
+
 int main(void) {
   CHECK(fenhamper_layout_3() == FENHAMPER_LAYOUT);
   settings_are_the_printing_programs();
@@ -788,5 +1051,12 @@ int main(void) {
   a_reason_has_its_evidence();
   a_reason_says_the_limit();
   a_reason_says_the_opcode();
+  blocks_are_of_256_symbols();
+  the_answer_is_a_count();
+  the_most_starts_are_counted();
+  a_counted_call_counts_its_blocks();
+  totals_stay_true();
+  counted_calls_are_refused_in_order();
+  a_total_above_256_is_refused();
   return wrong;
 }

@@ -21,7 +21,7 @@ static uint8_t octets[FENHAMPER_MOST_SYMBOLS], marks[FENHAMPER_MOST_SYMBOLS], da
 static fenhamper_settings settings;
 static fenhamper_state state;
 static fenhamper_client client;
-static uint16_t quanta[FENHAMPER_CLASSES];
+static uint16_t quanta[FENHAMPER_CLASSES], totals[FENHAMPER_MOST_BLOCKS];
 static size_t symbols;
 static fenhamper_record logged[2000];
 static uint8_t port;
@@ -126,6 +126,35 @@ static void fill_idle(void) {
   fenhamper_fill_idle(&state, octets, symbols, marks, symbols, 0, symbols, &sent);
 }
 
+static void fill_totals(void) { fenhamper_fill_totals(octets, symbols, marks, symbols, totals, FENHAMPER_MOST_BLOCKS); }
+
+static void starts_before(void) {
+  size_t starts;
+  fenhamper_starts_before(octets, symbols, marks, symbols, totals, FENHAMPER_MOST_BLOCKS, symbols - 1, &starts);
+}
+
+static void send_client_counted(void) {
+  fenhamper_sent sent;
+  fenhamper_send_client_counted(&settings, &state, port, octets, symbols, marks, symbols, totals, FENHAMPER_MOST_BLOCKS, 0, &client, data, sizeof data, &sent);
+}
+
+static void send_pause_counted(void) {
+  fenhamper_sent sent;
+  settings.flow = FENHAMPER_FLOW_PAUSE;
+  fenhamper_send_pause_counted(&settings, &state, port, octets, symbols, marks, symbols, totals, FENHAMPER_MOST_BLOCKS, 0, 5, &sent);
+}
+
+static void send_pfc_counted(void) {
+  fenhamper_sent sent;
+  settings.flow = FENHAMPER_FLOW_PFC;
+  fenhamper_send_pfc_counted(&settings, &state, port, octets, symbols, marks, symbols, totals, FENHAMPER_MOST_BLOCKS, 0, 0x81, quanta, &sent);
+}
+
+static void fill_idle_counted(void) {
+  fenhamper_sent sent;
+  fenhamper_fill_idle_counted(&state, octets, symbols, marks, symbols, totals, FENHAMPER_MOST_BLOCKS, 0, symbols, &sent);
+}
+
 static int over = 0;
 
 static void hold(const char *name, void (*call)(void), size_t bound) {
@@ -156,13 +185,22 @@ int main(void) {
   hold("log_record", log_record, FENHAMPER_STACK_READ);
   hold("log_next", log_next, FENHAMPER_STACK_READ);
   hold("log_used", log_used, FENHAMPER_STACK_READ);
+  hold("fill_totals", fill_totals, FENHAMPER_STACK_SEND);
+  hold("starts_before", starts_before, FENHAMPER_STACK_SEND);
   hold("send_client", send_client, FENHAMPER_STACK_SEND);
+  hold("send_client_counted", send_client_counted, FENHAMPER_STACK_COUNTED);
   hold("send_pause", send_pause, FENHAMPER_STACK_SEND);
+  hold("send_pause_counted", send_pause_counted, FENHAMPER_STACK_COUNTED);
   hold("send_pfc", send_pfc, FENHAMPER_STACK_SEND);
+  hold("send_pfc_counted", send_pfc_counted, FENHAMPER_STACK_COUNTED);
   port = FENHAMPER_PORT_FOUR_LANE;
   hold("send_client, four lanes", send_client, FENHAMPER_STACK_SEND);
+  hold("send_client_counted, four lanes", send_client_counted, FENHAMPER_STACK_COUNTED);
   hold("send_pause, four lanes", send_pause, FENHAMPER_STACK_SEND);
+  hold("send_pause_counted, four lanes", send_pause_counted, FENHAMPER_STACK_COUNTED);
   hold("send_pfc, four lanes", send_pfc, FENHAMPER_STACK_SEND);
+  hold("send_pfc_counted, four lanes", send_pfc_counted, FENHAMPER_STACK_COUNTED);
+  hold("fill_idle_counted", fill_idle_counted, FENHAMPER_STACK_COUNTED);
   hold("fill_idle", fill_idle, FENHAMPER_STACK_SEND);
   return over;
 }

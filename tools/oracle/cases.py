@@ -37,7 +37,7 @@ PUBLISHED = [
 
 @dataclass
 class Case:
-    call: str  # reading, walk, why, client, pause, pfc, idle, fcs; of a log append, look, keep
+    call: str  # reading, walk, why, client, pause, pfc, idle, fcs; of a log append, look, keep; of totals fill, before
     settings: Any = None
     state: Any = None
     octets: Any = None
@@ -45,6 +45,8 @@ class Case:
     place: int = 0
     asked: Any = None  # a Client; quanta; (named, quanta); a number of Idles; the octets under a check and the published value; a Record; its number
     log: Any = None
+    totals: Any = None  # a sending that has them keeps them
+    port: str = model.PLAIN
 
     def __post_init__(self):
         self.answer, self.hits = ANSWERS[self.call](self)
@@ -102,18 +104,40 @@ def answer_walk(c):
 
 
 def sending_numbers(a):
-    return [0 if a.refusal else 1, a.refusal, a.place] + state_numbers(a.state) + a.octets + a.marks
+    return [0 if a.refusal else 1, a.refusal, a.place] + state_numbers(a.state) + a.octets + a.marks + (a.totals or [])
 
 
-def refusal_hits(name, tests):
+def refusal_hits(name, tests, otherwise="written"):
     numbers = sorted((n for n, holds in tests if holds), key=model.order)
-    hits = {f"{name}: refused {numbers[0]}" if numbers else f"{name}: written"}
+    hits = {f"{name}: refused {numbers[0]}" if numbers else f"{name}: {otherwise}"}
     return hits | {f"{name}: refusal {a} before {b}" for a, b in zip(numbers, numbers[1:])}
+
+
+def totals_tests(c):
+    return [] if c.totals is None else model.totals_refusals(c.octets, c.totals)
+
+
+def totals_hits(name, c, after):
+    """What of item 9 a call hits that wrote up to a place."""
+    blocks = (after - 1) // 256 - c.place // 256 + 1 if after > c.place else 0
+    hits = {f"{name}: totals, into {min(blocks, 3)} block{'s' * (blocks != 1)}", f"{name}: totals, {truth_said(c)}"}
+    if blocks:
+        hits |= {f"{name}: totals, {side} at an edge" for side, at in [("begins", c.place), ("ends", after)] if at % 256 == 0}
+        hits.add(f"{name}: totals, {'others stay' if blocks < len(c.totals) else 'all anew'}")
+    if len(c.octets) % 256 and (after - 1) // 256 == len(c.octets) // 256:
+        hits.add(f"{name}: totals, into a short block")
+    return hits
+
+
+def truth_said(c):
+    return "true" if c.totals == model.true_totals(c.octets, c.marks) else "untrue"
 
 
 def common_hits(name, c, needed, tests):
     numbers = [n for n, holds in tests if holds]
     hits = refusal_hits(name, tests)
+    if not numbers and c.totals is not None:
+        hits |= totals_hits(name, c, c.place + needed)
     room = len(c.octets) - c.place
     if not numbers or numbers == [8]:
         hits |= {f"{name}: room {'exact' if room == needed else 'one short' if room == needed - 1 else 'other'}"}
@@ -146,9 +170,10 @@ def tags_said(n):
 
 def answer_client(c):
     k = c.asked
-    a = model.client_sending(c.settings, c.state, c.octets, c.marks, c.place, k)
-    tests = model.client_refusals(c.settings, c.state, c.octets, c.marks, c.place, k)
-    hits = common_hits("client", c, len(model.client_symbols(c.settings, k)), tests)
+    a = model.client_sending(c.settings, c.state, c.octets, c.marks, c.place, k, c.port, c.totals)
+    tests = model.client_refusals(c.settings, c.state, c.octets, c.marks, c.place, k, c.port) + totals_tests(c)
+    gap, _ = model.gap_behind(c.port, c.state, c.place, model.client_symbols(c.settings, k))
+    hits = common_hits("client", c, len(model.client_symbols(c.settings, k, gap)), tests)
     form = "length" if k.type is None else "type"
     numbers = {n for n, holds in tests if holds}
     first = model.first(*tests)
@@ -174,14 +199,14 @@ def answer_client(c):
 
 
 def answer_pause(c):
-    a = model.pause_sending(c.settings, c.state, c.octets, c.marks, c.place, c.asked)
-    tests = model.control_refusals(c.settings, c.octets, c.marks, c.place, "pause")
+    a = model.pause_sending(c.settings, c.state, c.octets, c.marks, c.place, c.asked, c.port, c.totals)
+    tests = model.control_refusals(c.settings, c.octets, c.marks, c.place, "pause", c.state, c.port) + totals_tests(c)
     return sending_numbers(a), common_hits("pause", c, 84, tests) | {f"pause: flow mode {c.settings.flow}"}
 
 
 def answer_pfc(c):
-    a = model.pfc_sending(c.settings, c.state, c.octets, c.marks, c.place, *c.asked)
-    tests = model.control_refusals(c.settings, c.octets, c.marks, c.place, "PFC")
+    a = model.pfc_sending(c.settings, c.state, c.octets, c.marks, c.place, *c.asked, c.port, c.totals)
+    tests = model.control_refusals(c.settings, c.octets, c.marks, c.place, "PFC", c.state, c.port) + totals_tests(c)
     hits = common_hits("pfc", c, 84, tests) | {f"pfc: flow mode {c.settings.flow}"}
     named, quanta = c.asked
     if not a.refusal:
@@ -190,8 +215,8 @@ def answer_pfc(c):
 
 
 def answer_idle(c):
-    a = model.idle_sending(c.state, c.octets, c.marks, c.place, c.asked)
-    hits = common_hits("idle", c, c.asked, model.idle_refusals(c.octets, c.marks, c.place, c.asked))
+    a = model.idle_sending(c.state, c.octets, c.marks, c.place, c.asked, c.totals)
+    hits = common_hits("idle", c, c.asked, model.idle_refusals(c.octets, c.marks, c.place, c.asked) + totals_tests(c))
     if c.asked == 0:
         hits.add("idle: none asked")
     return sending_numbers(a), hits
@@ -250,6 +275,30 @@ def answer_keep(c):
         if w.appended and model.unused_numbers(c.log) != list(range(len(model.log_records(c.log)))):
             hits.add("keep: used records stay")
     return [{"refused": 0, "none": 1, "open": 2, "full": 3}[w.end], w.refusal, w.next, w.appended] + state_numbers(w.state) + w.log, hits
+
+
+def answer_fill(c):
+    refusal, totals = model.filling(c.octets, c.marks, c.totals)
+    hits = refusal_hits("fill", [(2, model.bad_buffers(c.octets, c.marks))] + totals_tests(c)[:1], "filled")
+    if not refusal:
+        hits.add(f"fill: {len(totals)} blocks, the last {'short' if len(c.octets) % 256 else 'whole'}")
+        if any(total > 256 for total in c.totals):
+            hits.add("fill: a total above 256 before")
+        if 256 in totals:
+            hits.add("fill: a total of 256")
+    return [refusal] + totals, hits
+
+
+def answer_before(c):
+    refusal, starts = model.starts_before(c.octets, c.marks, c.totals, c.place)
+    hits = refusal_hits("before", [(2, model.bad_buffers(c.octets, c.marks)), (3, c.place > len(c.octets))] + totals_tests(c), "answered")
+    if not refusal:
+        hits |= {f"before: {truth_said(c)} totals", f"before: {'at an edge' if c.place % 256 == 0 else 'inside a block'}, {min(c.place // 256, 2)} before it"}
+        if 256 in c.totals:
+            hits.add("before: a total of 256")
+        if c.place == len(c.octets):
+            hits.add("before: place at the length")
+    return [refusal, starts or 0], hits
 
 
 def reading_hits(c, r):
@@ -365,7 +414,7 @@ def tag_hits(f, status):
 
 
 ANSWERS = {"reading": answer_reading, "walk": answer_walk, "why": answer_why, "client": answer_client, "pause": answer_pause, "pfc": answer_pfc, "idle": answer_idle,
-           "fcs": answer_fcs, "append": answer_append, "look": answer_look, "keep": answer_keep}
+           "fcs": answer_fcs, "append": answer_append, "look": answer_look, "keep": answer_keep, "fill": answer_fill, "before": answer_before}
 
 # ---- Drawing
 
@@ -534,7 +583,9 @@ def buffers(r, n):
 def room_for(r, needed, given):
     """Buffers with room for `needed` symbols from the place, or one fewer, or more."""
     place = r.choice([0, 1, 5]) if given.get("place") is None else given["place"]
-    spare = {"exact": 0, "short": -1, "none": -needed, "more": r.choice([1, 3, 9])}[given.get("room") or r.choice(["exact", "more", "more"])]
+    place = place(needed) if callable(place) else place
+    spare = {"exact": 0, "short": -1, "none": -needed, "more": r.choice([1, 3, 9]), "much": 300}[
+        given.get("room") or r.choice(["exact", "more", "more"])]
     n = max(0, place + needed + spare)
     octets, marks = buffers(r, given.get("n", n))
     if given.get("unequal"):
@@ -612,6 +663,47 @@ def make_keep(r, given):
     s, state, octets, marks = some_walk(r, given)
     place = {"end": len(octets), "beyond": len(octets) + 1}.get(given.get("place"), r.choice([0, 0, min(1, len(octets))]))
     return Case("keep", s, state, octets, marks, place, log=some_log(r, given["log"], given.get("more", 0)))
+
+
+def starts_among(r, n):
+    """n symbols in stretches that are alike: Starts, their octets as data, and others."""
+    octets, marks = [], []
+    while len(octets) < n:
+        length, octet = r.choice([1, 2, 40, 90, 120]), r.choice([START, START, START, IDLE, 0x55])
+        octets, marks = octets + [octet] * length, marks + [r.choice([0, 1, 1, 2, 255])] * length
+    return octets[:n], marks[:n]
+
+
+def some_totals(r, octets, marks, given):
+    """The true totals or others, so many more or fewer, and one above 256 or just not."""
+    totals = model.true_totals(octets, marks)
+    if r.random() < 0.5:
+        totals = [r.choice([0, 1, 255, 256]) for _ in totals]
+    more = given.get("count", 0)
+    totals = (totals + [r.choice([0, 256])] * more) if more > 0 else totals[:len(totals) + more]
+    if "total" in given and totals:
+        totals[{"first": 0, "last": -1}.get(given.get("which")) if given.get("which") else r.randrange(len(totals))] = given["total"]
+    return totals
+
+
+def make_counted(r, given):
+    """A sending that keeps totals: the call of that recipe, over a capture with Starts."""
+    c = given["of"](r, given)
+    n, m = len(c.octets), len(c.marks)
+    octets, marks = (c.octets, c.marks) if n > 60000 else starts_among(r, max(n, m))
+    octets, marks = octets[:n], marks[:m]
+    state = c.state if "deficit" not in given else replace(c.state, deficit=given["deficit"])
+    return replace(c, octets=octets, marks=marks, state=state, totals=some_totals(r, octets, marks, given), port=given.get("port", model.PLAIN))
+
+
+def make_totals(r, given):
+    """Filling, or the question."""
+    n = given["n"]
+    octets, marks = ([START] * n, [given["alike"]] * n) if "alike" in given else starts_among(r, n)
+    if given.get("unequal"):
+        marks = marks[:-1]
+    place = given.get("place", 0)
+    return Case(given["call"], octets=octets, marks=marks, place=n + 1 if place == "beyond" else place, totals=some_totals(r, octets, marks, given))
 
 
 # ---- The recipes
@@ -774,6 +866,35 @@ KEEPS += [{"parts": ["cut"], "log": [0], **x} for x in ({"settings": {"count": 5
           {"settings": {"limit": 9619}, "more": 1})]
 LOG_RECIPES = [(make_append, x) for x in APPENDS] + [(make_look, x) for x in LOOKS] + [(make_keep, x) for x in KEEPS]
 
+STRETCHES = (0, 1, 255, 256, 257, 511, 512, 513)
+COUNTS = [{"n": n, "count": count} for n in (0, 256, 257) for count in (-1, 1) if n + count >= 0]
+FILLS = [{"n": n} for n in STRETCHES] + COUNTS + [{"n": 512, "alike": 1}, {"n": 300, "total": 257}, {"n": 300, "total": 65535}, {"n": 300, "unequal": True},
+         {"n": 300, "unequal": True, "count": 1}]
+BEFORES = [{"n": n, "place": place} for n in STRETCHES for place in (0, 1, 255, 256, 257, 512) if place <= n] + COUNTS
+BEFORES += [{"n": 512, "place": place, "alike": 1} for place in (256, 300, 511, 512)]
+BEFORES += [{"n": 300, "place": 280, "total": total, "which": which} for total in (256, 257, 65535) for which in ("first", "last")]
+BEFORES += [{"n": 300, **x} for x in ({"unequal": True}, {"place": "beyond"}, {"unequal": True, "place": "beyond"}, {"place": "beyond", "count": 1},
+            {"count": 1, "total": 257}, {"place": "beyond", "total": 257})]
+FILLS += [{"n": 2048, "alike": 1}, {"n": 65537, "alike": 0}]  # antt does not compute the totals of 65,536 symbols; the tape has them
+BEFORES += [{"n": 65536, "place": 65536, "alike": 1}, {"n": 65537, "place": 0, "alike": 0}]
+EDGED = [{"place": place, "room": room} for place in (lambda n: max(0, 256 - n), lambda n: max(0, 257 - n), lambda n: 200, lambda n: 255, lambda n: 256)
+         for room in ("exact", "much")]
+AMISS = [{"count": -1}, {"count": 1}, {"total": 256}, {"total": 257, "which": "first"}, {"total": 257, "which": "last"}, {"count": 1, "total": 257},
+         {"beyond": True, "count": 1}, {"unequal": True, "count": 1}, {"beyond": True, "total": 257}, {"room": "short", "total": 257}, {"room": "short"}]
+LANED = [{"port": model.FOUR_LANE, "place": 4 * n, "deficit": deficit, **x} for n, deficit, x in
+         [(0, 0, {}), (43, 3, {"room": "much"}), (43, 0, {"room": "much"}), (64, 1, {}), (1, 4, {}), (1, 4, {"count": 1}), (1, 4, {"total": 257}),
+          (1, 3, {"count": -1})]]
+KEEPING = EDGED + AMISS
+FOR_CLIENT = [{"cls": 8, "total": 257}, {"cls": 8, "count": 1}, {"type": 0x8100, "total": 257}, {"tags": 9, "total": 257}, {"held": True, "total": 257},
+              {"held": True}, {"cls": 8}, {"settings": BAD_SETTINGS[3], "count": 1}, {"data": 300, "place": 250, "room": "much"}, {"data": 60, "place": 170}]
+FOR_CONTROL = [{"settings": {"flow": "none"}, **x} for x in ({}, {"total": 257}, {"count": 1})] + [{"settings": BAD_SETTINGS[3], "count": 1}]
+FOR_IDLE = [{"asked": n, "place": place, "room": "much"} for n, place in [(0, 0), (0, 256), (1, 255), (1, 256), (256, 0), (256, 256), (257, 255), (520, 10)]]
+TOTALS_RECIPES = (
+    [(make_totals, {"call": "fill", **x}) for x in FILLS] + [(make_totals, {"call": "before", **x}) for x in BEFORES]
+    + [(make_counted, {"of": make_client, **x}) for x in KEEPING + LANED + FOR_CLIENT]
+    + [(make_counted, {"of": make, **x}) for make in (make_pause, make_pfc) for x in KEEPING + LANED + FOR_CONTROL]
+    + [(make_counted, {"of": make_idle, **x}) for x in KEEPING + FOR_IDLE])
+
 READING_RECIPES = [(make_reading, x) for x in READINGS] + [(make_walk, x) for x in WALKS]
 SENDING_RECIPES = (
     [(make_client, x) for x in CLIENTS] + [(make_pause, x) for x in CONTROLS + FLOWS + [{"quanta": q} for q in (0, 255, 256, 65535)]]
@@ -793,13 +914,14 @@ def drawn(r, recipes, n):
 
 def generate(n, seed) -> List[Case]:
     """n drawn cases, three readings or walks to two sendings, one in twenty large; beside them the published values of the check, a call on a log for
-    each four of them, each recipe once at most, and of some readings why they have their outcomes."""
+    each four of them and a call with totals for each two, each recipe once at most, and of some readings why they have their outcomes."""
     r = random.Random(seed)
     large = min(n // 20, len(LARGE))
     readings = (n - large) * 3 // 5
     chosen = drawn(r, READING_RECIPES, readings) + drawn(r, SENDING_RECIPES, n - large - readings) + drawn(r, LARGE, large)
     cases = [make(r, given) for make, given in chosen] + [Case("fcs", asked=(list(text), value)) for text, value in PUBLISHED]
     cases += [make(r, given) for make, given in drawn(r, LOG_RECIPES, min(n // 4, len(LOG_RECIPES)))]
+    cases += [make(r, given) for make, given in drawn(r, TOTALS_RECIPES, min(n // 2, len(TOTALS_RECIPES)))]
     return cases + why_cases(cases)
 
 
@@ -871,6 +993,20 @@ MUST = (
     + [f"keep: {x}" for x in ("0 kept, ends none", "0 kept, ends open", "0 kept, ends full", "2+ kept, ends none", "2+ kept, ends full", "used records stay")]
     + [f"keep: ends {x} left" for x in ("none, a record", "none, no record", "open, a record", "full, no record")]
     + [f"keep: outcome {n} kept" for n in (1, 2, 3, 11)]
+    + ["fill: filled", "fill: refused 2", "fill: refused 21", "fill: refusal 2 before 21", "fill: a total above 256 before", "fill: a total of 256"]
+    + [f"fill: {x}" for x in ("0 blocks, the last whole", "1 blocks, the last short", "1 blocks, the last whole", "2 blocks, the last short",
+       "2 blocks, the last whole", "3 blocks, the last short", "8 blocks, the last whole")]
+    + [f"before: refused {n}" for n in (2, 3, 21, 22)] + [f"before: refusal {a} before {b}" for a, b in [(2, 3), (3, 21), (21, 22)]]
+    + [f"before: {x}, {n} before it" for x in ("at an edge", "inside a block") for n in (0, 1)] + ["before: at an edge, 2 before it"]
+    + ["before: true totals", "before: untrue totals", "before: a total of 256", "before: place at the length"]
+    + [f"{c}: refused {n}" for c in ("client", "pause", "pfc", "idle") for n in (21, 22)] + [f"{c}: refused 19" for c in ("client", "pause", "pfc")]
+    + [f"{c}: refusal {a} before {b}" for c in ("client", "pause", "pfc") for a, b in
+       [(1, 21), (2, 21), (3, 21), (3, 22), (19, 21), (19, 22), (21, 22), (22, 8)]]
+    + [f"client: refusal 22 before {n}" for n in (5, 6, 9, 10)] + [f"{c}: refusal 22 before 4" for c in ("pause", "pfc")] + ["client: refusal 21 before 5"]
+    + [f"idle: refusal {a} before {b}" for a, b in [(2, 21), (3, 21), (3, 22), (21, 22), (22, 8)]]
+    + [f"{c}: totals, {x}" for c in ("client", "pause", "pfc", "idle") for x in ("into 1 block", "into 2 blocks", "begins at an edge", "ends at an edge",
+       "into a short block", "others stay", "all anew", "true", "untrue")]
+    + ["client: totals, into 3 blocks", "idle: totals, into 3 blocks", "idle: totals, into 0 blocks"]
 )
 
 
@@ -881,7 +1017,7 @@ def coverage(cases) -> str:
         for hit in c.hits:
             counts[hit] = counts.get(hit, 0) + 1
     lines = []
-    for call in ("reading", "walk", "why", "client", "pause", "pfc", "idle", "fcs", "append", "look", "keep"):
+    for call in ("reading", "walk", "why", "client", "pause", "pfc", "idle", "fcs", "append", "look", "keep", "fill", "before"):
         mine = {k.split(": ", 1)[1]: v for k, v in counts.items() if k.startswith(call + ": ")}
         lines.append(f"{call} ({sum(c.call == call for c in cases)} cases)")
         key = lambda k: [int(w) if w.isdigit() else w for w in k.split()]

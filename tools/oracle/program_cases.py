@@ -1,5 +1,6 @@
 #!/usr/bin/env python3
-"""Writes crates/cases/stdin, the tape of all readings, sendings, calls on a log and reasons, and crates/cases/stdout, what the model says must be printed of them.
+"""Writes crates/cases/stdin, the tape of all readings, sendings, calls on a log, reasons and calls with totals, and crates/cases/stdout, what the model
+says must be printed of them.
 
 With --check it writes nothing, and exits 1 if a file is not as it would be written.
 """
@@ -10,6 +11,7 @@ import log_cases
 import read_cases
 import reason_cases
 import send_cases
+import totals_cases
 from tape import TAPE
 
 crate = pathlib.Path(__file__).resolve().parent.parent.parent / "crates" / "cases"
@@ -17,6 +19,7 @@ read_cases.cases()
 send_cases.cases()
 log_cases.cases()
 reason_cases.cases()
+totals_cases.cases()
 wrong = 0
 for name, octets in [("stdin", TAPE.octets()), ("stdout", TAPE.text())]:
     path = crate / name

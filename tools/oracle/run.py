@@ -1,8 +1,8 @@
 #!/usr/bin/env python3
 """tools/oracle/run.py N SEED: compare the definitions of crates/*/specs with model.py on N drawn cases.
 
-The definitions are copied to a temporary folder (nothing is written into the repository), where a crate `oracle` sees receive, reason, send and logging
-and all that they list. Each case is a theorem there, which antt admits only if the definition computes to the model's answer.
+The definitions are copied to a temporary folder (nothing is written into the repository), where a crate `oracle` sees receive, reason, send, logging
+and counting and all that they list. Each case is a theorem there, which antt admits only if the definition computes to the model's answer.
 """
 import os
 import re
@@ -22,7 +22,7 @@ import model  # noqa: E402
 REPOSITORY = HERE.parent.parent
 BATCH, MOST = 50, 30000  # cases to a run of antt, and numbers in their buffers and answers, so that memory stays low
 EXPLAINED = 5  # of how many cases that do not agree the fields are told
-WANTED = ["receive", "reason", "send", "logging"]
+WANTED = ["receive", "reason", "send", "logging", "counting"]
 
 
 # ---- The copy
@@ -146,6 +146,9 @@ def tags(asked):
     return "(" + "".join(f"tagOf {names[kind]} {control} ∷ " for kind, control in eight) + "[])"
 
 
+PORTS = {model.PLAIN: "Plain", model.FOUR_LANE: "FourLane"}
+
+
 def call(c):
     """The definition's answer to a case."""
     if c.call == "fcs":
@@ -156,9 +159,14 @@ def call(c):
         return f"giveLook {numbers(c.log)} {c.asked}"
     if c.call == "why":
         return f"giveWhy {settings(c.settings)}\n    {numbers(c.octets)}\n    {numbers(c.marks)}\n    {c.place}"
+    if c.call == "fill":
+        return f"giveFill {numbers(c.octets)}\n    {numbers(c.marks)}\n    {numbers(c.totals)}"
+    if c.call == "before":
+        return f"giveBefore {numbers(c.octets)}\n    {numbers(c.marks)}\n    {c.place} {numbers(c.totals)}"
     line = f"{state(c.state)}\n    {numbers(c.octets)}\n    {numbers(c.marks)}"
+    keeps = c.totals is not None
     if c.call == "idle":
-        return f"giveIdle {line}\n    {c.place} {c.asked}"
+        return f"keepIdle {line}\n    {numbers(c.totals)} {c.place} {c.asked}" if keeps else f"giveIdle {line}\n    {c.place} {c.asked}"
     line = f"{settings(c.settings)} {line}"
     if c.call == "reading":
         return f"giveReading {line}\n    {c.place}"
@@ -166,13 +174,15 @@ def call(c):
         return f"giveWalk {line}"
     if c.call == "keep":
         return f"giveKeep {line}\n    {c.place} {numbers(c.log)}"
+    # a call that keeps totals has a port
+    give, line = ("keep", f"{PORTS[c.port]} {line}\n    {numbers(c.totals)}") if keeps else ("give", line)
     if c.call == "pause":
-        return f"givePause {line}\n    {c.place} {c.asked}"
+        return f"{give}Pause {line}\n    {c.place} {c.asked}"
     if c.call == "pfc":
-        return f"givePfc {line}\n    {c.place} (classesOf {c.asked[0]} {numbers(c.asked[1])})"
+        return f"{give}Pfc {line}\n    {c.place} (classesOf {c.asked[0]} {numbers(c.asked[1])})"
     k = c.asked
     form = "ByLength" if k.type is None else f"(ByType {k.type})"
-    return f"giveClient {line}\n    {c.place} (clientOf {numbers(k.destination)} {tags(k.tags)} {len(k.tags)} {form} {k.cls}) {numbers(k.data)}"
+    return f"{give}Client {line}\n    {c.place} (clientOf {numbers(k.destination)} {tags(k.tags)} {len(k.tags)} {form} {k.cls}) {numbers(k.data)}"
 
 
 # the fields of an answer, in the order of cases.py: names and how many numbers each has (none: the rest)
@@ -187,10 +197,10 @@ KEEP = [("end", 1), ("refusal", 1), ("next", 1), ("kept", 1)] + STATE + [("log",
 
 def fields(c):
     """Each field's name, where it begins, how many numbers it has."""
-    sent = [("kind", 1), ("refusal", 1), ("place", 1)] + STATE + [("octets", len(c.octets or [])), ("marks", None)]
+    sent = [("kind", 1), ("refusal", 1), ("place", 1)] + STATE + [("octets", len(c.octets or [])), ("marks", len(c.marks or [])), ("totals", None)]
     place = 0
     known = {"reading": READING, "walk": WALK, "why": WHY, "fcs": [("check", 1), ("its octets", None)], "append": [("refusal", 1), ("log", None)], "look": LOOK,
-             "keep": KEEP}
+             "keep": KEEP, "fill": [("refusal", 1), ("totals", None)], "before": [("refusal", 1), ("Starts", None)]}
     for name, n in known.get(c.call, sent):
         n = len(c.answer) - place if n is None else n
         yield name, place, n

@@ -1,8 +1,9 @@
 """The sendings on the tape of crates/cases (tape.py): each refusal, each pair of neighbours in their order, and both sides of each limit."""
 from dataclasses import dataclass, replace
+from typing import Callable, Optional
 
 from model import BROADCAST, FOUR_LANE, PLAIN, RESERVED_GROUP, Client, Settings, State, client_sending, gap_behind, idle_sending, pause_sending, pfc_sending
-from tape import CLIENT, IDLE, PAUSE, PFC, TAPE, checksum, client_octets
+from tape import CLIENT, COUNTED, IDLE, PAUSE, PFC, TAPE, changed, checksum, client_octets
 
 FAR = 2**64 - 1
 LONGEST = [(1 + 7 * i) % 256 for i in range(9601)]
@@ -19,9 +20,15 @@ def settings(flow, **changes):
     return replace(base, **changes)
 
 
+def unlike(octets, marks):
+    """Buffers of these lengths, of a symbol that no call writes."""
+    return [0xA5] * octets, [0x5A] * marks
+
+
 @dataclass(frozen=True)
 class Call:
-    """Where a call writes: the length of each buffer, a place, and a port's number. The deficit count is one of the state's numbers, any of 64 bits."""
+    """Where a call writes: the length of each buffer, what they hold, a place, and a port's number. The deficit count is one of the state's numbers, any of
+    64 bits. A call with totals keeps them (item 9)."""
     place: int
     flow: str = "none"
     octets: int = 1700
@@ -31,6 +38,8 @@ class Call:
     worn: bool = False
     port: int = 0
     deficit: int = 0
+    holding: Callable = unlike
+    totals: Optional[tuple] = None
 
     def before(self):
         """The state as the model has it: its greatest count stands for all that are above."""
@@ -40,7 +49,14 @@ class Call:
         return FOUR_LANE if self.port else PLAIN
 
     def buffers(self):
-        return [0xA5] * self.octets, [0x5A] * self.marks
+        return self.holding(self.octets, self.marks)
+
+    def kind(self, plain):
+        return plain if self.totals is None else plain + COUNTED
+
+    def lent(self):
+        """The totals as the model takes them."""
+        return None if self.totals is None else list(self.totals)
 
     def settings(self):
         return settings(self.flow, **dict(self.changes))
@@ -53,34 +69,36 @@ def of(n, place, flow="none", **changes):
 def report(name, call, r):
     answer = f"refused {r.refusal}" if r.refusal else "wrote"
     octets, marks = [f"{len(buffer)} {checksum(buffer)}" for buffer in (r.octets, r.marks)]
-    TAPE.tell(name, f"{answer} place {r.place} octets {octets} marks {marks}", r.refusal, call.before(), r.state, call.worn, call.deficit)
+    totals = "" if r.totals is None else " totals" + changed(call.totals, r.totals, 0)
+    TAPE.tell(name, f"{answer} place {r.place} octets {octets} marks {marks}{totals}", r.refusal, call.before(), r.state, call.worn, call.deficit)
+    return r
 
 
 def on(call):
     """What of a call stands on the tape beside its buffers."""
-    return {"worn": call.worn, "deficit": call.deficit, "port": call.port}
+    return {"worn": call.worn, "deficit": call.deficit, "port": call.port, "totals": call.totals or ()}
 
 
-def client(name, call, n, kind=None, cls=0, tag=None, to=station(2)):
-    data = LONGEST[:n]
+def client(name, call, n, kind=None, cls=0, tag=None, to=station(2), octet=None):
+    data = LONGEST[:n] if octet is None else [octet] * n
     c = Client(to, tag, kind, cls, data)
-    TAPE.call(CLIENT, name, call.settings(), call.state, call.place, 0, *call.buffers(), client=client_octets(c), data=data, **on(call))
-    report(name, call, client_sending(call.settings(), call.before(), *call.buffers(), call.place, c, call.model_port()))
+    TAPE.call(call.kind(CLIENT), name, call.settings(), call.state, call.place, 0, *call.buffers(), client=client_octets(c), data=data, **on(call))
+    return report(name, call, client_sending(call.settings(), call.before(), *call.buffers(), call.place, c, call.model_port(), call.lent()))
 
 
 def pause(name, call, quanta=9):
-    TAPE.call(PAUSE, name, call.settings(), call.state, call.place, quanta, *call.buffers(), **on(call))
-    report(name, call, pause_sending(call.settings(), call.before(), *call.buffers(), call.place, quanta, call.model_port()))
+    TAPE.call(call.kind(PAUSE), name, call.settings(), call.state, call.place, quanta, *call.buffers(), **on(call))
+    return report(name, call, pause_sending(call.settings(), call.before(), *call.buffers(), call.place, quanta, call.model_port(), call.lent()))
 
 
 def pfc(name, call, named=9):
-    TAPE.call(PFC, name, call.settings(), call.state, call.place, named, *call.buffers(), quanta=QUANTA, **on(call))
-    report(name, call, pfc_sending(call.settings(), call.before(), *call.buffers(), call.place, named, QUANTA, call.model_port()))
+    TAPE.call(call.kind(PFC), name, call.settings(), call.state, call.place, named, *call.buffers(), quanta=QUANTA, **on(call))
+    return report(name, call, pfc_sending(call.settings(), call.before(), *call.buffers(), call.place, named, QUANTA, call.model_port(), call.lent()))
 
 
 def idle(name, call, n):
-    TAPE.call(IDLE, name, None, call.state, call.place, n, *call.buffers(), worn=call.worn, deficit=call.deficit)
-    report(name, call, idle_sending(call.before(), *call.buffers(), call.place, n))
+    TAPE.call(call.kind(IDLE), name, None, call.state, call.place, n, *call.buffers(), **{**on(call), "port": None})
+    return report(name, call, idle_sending(call.before(), *call.buffers(), call.place, n, call.lent()))
 
 
 def wide(limit):

@@ -1,24 +1,29 @@
 """Calls of the C face on a tape, for crates/cases, and what the program must print of them, as model.py works it out.
 
 The tape: the place of the first call in eight octets, what the calls name, the calls, and the FCS of all that, low octet first; of a tape that does not
-end in it no call is made. Every number is eight octets, high octet first. A call is twelve
-numbers: kind (0 readings, 1 client, 2 pause, 3 PFC, 4 Idle fill); name; settings; state; client frame; quanta; place; a number (how many readings at most, and
-a walk after them if that is more than one; quanta; class octet; Idles); octets; marks; data; log. What lies elsewhere on the tape is named by its place, and
-where its length is not known, by its place times 2^32 plus its length. A state and quanta are numbers; a name and data are octets; settings, a client frame,
-the two buffers and a log are runs: how many octets, the first, and what is added from one to the next. In a sending of a frame the port stands in place of
-the log: 0 plain, anything else the four-lane one.
+end in it no call is made. Every number is eight octets, high octet first. A call is thirteen numbers: kind (0 readings, 1 client, 2 pause, 3 PFC, 4 Idle
+fill); name; settings; state; client frame; quanta; place; a number (how many readings at most, and a walk after them if that is more than one; quanta; class
+octet; Idles); octets; marks; data; log; totals. What lies elsewhere on the tape is named by its place, and where its length is not known, by its place times
+2^32 plus its length. A state, quanta and totals are numbers; a name and data are octets; settings, a client frame, the two buffers and a log are runs: how many
+octets, the first, and what is added from one to the next. In a sending of a frame the port stands in place of the log: 0 plain, anything else the four-lane
+one.
 
 Calls on a log: kinds 5 append, 6 append a reading, 7 look (record, next record and used records), 8 the walk that keeps its readings. In that walk the log is
 the last number. In the others it stands in place of the octets, a record of 16 octets in place of the client frame, the numbers of a reading in place of the
 state, and a record number in place of the place; record and number are also what a refusal must leave.
 
 Kind 9 asks why the first Start at a place or later has its outcome. It has settings, place and both buffers; the rest is not looked at.
+
+Calls with the totals of a capture: kind 10 fills them; 11 to 14 are the sendings 1 to 4 that keep them; 15 asks how many Starts lie before the place, and its
+number is what a refusal must leave. Of the totals those are printed that are not as on the tape.
 """
 import zlib
 
-READINGS, CLIENT, PAUSE, PFC, IDLE, APPEND, APPEND_READING, LOOK, KEEP, EXPLAIN = range(10)
+READINGS, CLIENT, PAUSE, PFC, IDLE, APPEND, APPEND_READING, LOOK, KEEP, EXPLAIN, FILL = range(11)
+COUNTED = 10  # what is added to the kind of a sending that keeps totals
+STARTS_BEFORE = 15
 MOST_READINGS = 16
-LONGEST = 262144  # what the program reads
+LONGEST = 524288  # what the program reads
 ONES = 2**64 - 1
 KINDS = {0x8100: 0, 0x88A8: 1}
 FLOWS = {"none": 0, "pause": 1, "PFC": 2}
@@ -79,18 +84,23 @@ class Tape:
         return self.place(octets if coded is None else coded) << 32 | len(octets)
 
     def call(self, kind, name, s, state, place, n, octets, marks, client=bytes(44), quanta=(0,) * 8, data=b"", worn=False, log=b"", deficit=None,
-             port=None):
-        self.add(kind, name, settings_octets(s) if s else bytes(48), state_numbers(state, worn, deficit), client, quanta, place, n, octets, marks, data, log)
+             port=None, totals=()):
+        self.add(kind, name, settings_octets(s) if s else bytes(48), state_numbers(state, worn, deficit), client, quanta, place, n, octets, marks, data, log,
+                 totals)
         if port is not None:
             self.calls[-1][11] = port
 
     def log_call(self, kind, name, log, place=0, record=bytes(16), reading=(0,) * 24):
         self.add(kind, name, bytes(48), reading, record, (0,) * 8, place, 0, log, b"", b"", b"")
 
-    def add(self, kind, name, settings, state, client, quanta, place, n, octets, marks, data, log):
+    def totals_call(self, kind, name, octets, marks, totals, place=0, n=0):
+        self.add(kind, name, bytes(48), (0,) * 24, bytes(44), (0,) * 8, place, n, octets, marks, b"", b"", totals)
+
+    def add(self, kind, name, settings, state, client, quanta, place, n, octets, marks, data, log, totals=()):
         self.calls.append([kind, self.part(name.encode() + b":"), self.place(runs(settings)), self.place(b"".join(number(n) for n in state)),
                            self.place(runs(client)), self.place(b"".join(number(q) for q in quanta)), place, n, self.part(octets, runs(octets)),
-                           self.part(marks, runs(marks)), self.part(bytes(data)), self.part(log, runs(log))])
+                           self.part(marks, runs(marks)), self.part(bytes(data)), self.part(log, runs(log)),
+                           self.part(totals, b"".join(number(total) for total in totals))])
 
     def octets(self):
         tape = bytes(number(len(self.named)) + self.named[8:] + b"".join(number(n) for call in self.calls for n in call))

@@ -116,7 +116,8 @@ impl fmt::Display for Outcome {
     }
 }
 
-/// Why a call was refused. A refused call leaves the state, every symbol and the log as they were.
+/// Why a call was refused. A refused call leaves the state, every symbol, every total and the log as
+/// they were.
 ///
 /// ```
 /// use fenhamper::{Capture, Refusal, Settings, State};
@@ -166,6 +167,11 @@ pub enum Refusal {
     /// 19: a frame on the four-lane port, and the deficit count is above 3. It is tested right after
     /// 3.
     HighDeficit,
+    /// 21: the number of totals is not that of the blocks, a last short one included. It is tested
+    /// after 3 and 19.
+    WrongTotals,
+    /// 22: a total above 256, wherever it stands. It is tested right after 21.
+    HighTotal,
     /// A number that has no name here, or 0 for an answer that has no meaning here: the archive is
     /// of another version than this face.
     Unknown(u8),
@@ -190,6 +196,8 @@ impl Refusal {
             Refusal::LogFull => 12,
             Refusal::NotUsed => 13,
             Refusal::HighDeficit => 19,
+            Refusal::WrongTotals => 21,
+            Refusal::HighTotal => 22,
             Refusal::Unknown(number) => number,
         }
     }
@@ -212,6 +220,8 @@ impl Refusal {
             Refusal::LogFull => "log full",
             Refusal::NotUsed => "not used",
             Refusal::HighDeficit => "high deficit",
+            Refusal::WrongTotals => "wrong totals",
+            Refusal::HighTotal => "high total",
             Refusal::Unknown(_) => "unknown",
         }
     }
@@ -238,6 +248,8 @@ impl Refusal {
             Refusal::LogFull => "no unused record",
             Refusal::NotUsed => "record number not used",
             Refusal::HighDeficit => "deficit count above 3",
+            Refusal::WrongTotals => "number of totals is not the number of blocks",
+            Refusal::HighTotal => "a total above 256",
             Refusal::Unknown(_) => "the archive is of another version",
         }
     }
@@ -260,6 +272,8 @@ impl Refusal {
             12 => Refusal::LogFull,
             13 => Refusal::NotUsed,
             19 => Refusal::HighDeficit,
+            21 => Refusal::WrongTotals,
+            22 => Refusal::HighTotal,
             other => Refusal::Unknown(u8::try_from(other).unwrap_or(u8::MAX)),
         })
     }

@@ -11,7 +11,7 @@ const SYS: &str = include_str!("sys.rs");
 const LIMITS: &str = include_str!("limits.rs");
 
 // Records that only C has.
-const RECORDS_ONLY_IN_C: [&str; 2] = ["capture", "line"];
+const RECORDS_ONLY_IN_C: [&str; 3] = ["capture", "line", "counted_line"];
 
 // The header with its comments taken out.
 fn header() -> String {

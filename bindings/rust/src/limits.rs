@@ -49,11 +49,22 @@ pub const OUTCOMES: usize = sys::OUTCOMES;
 /// Octets of a record of a log: 16.
 pub const RECORD_SIZE: usize = sys::RECORD_SIZE;
 
+/// Symbols of a block, of which one total counts the Starts: 256.
+pub const BLOCK: usize = sys::BLOCK;
+
+/// The most blocks of a capture or of line buffers: 256.
+pub const MOST_BLOCKS: usize = 256;
+
 /// Octets of stack that a reading or its reason takes at most: 1280.
 pub const STACK_READ: usize = 1280;
 
-/// Octets of stack that a sending call or an Idle fill takes at most: 512.
-pub const STACK_SEND: usize = 512;
+/// Octets of stack that a sending call or an Idle fill into a [`Sender`](crate::Sender) takes at
+/// most, and filling totals or asking for Starts: 640.
+pub const STACK_SEND: usize = 640;
+
+/// Octets of stack that a sending call or an Idle fill into a [`Line`](crate::Line) takes at most:
+/// 768.
+pub const STACK_COUNTED: usize = 768;
 
 /// Octets of stack that a walk takes at most, one that keeps its readings too: 18,944, of which
 /// 16,384 are for tables.

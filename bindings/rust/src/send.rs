@@ -1,6 +1,7 @@
 //! Sending frames.
 use crate::address::Address;
 use crate::answers::Refusal;
+use crate::lent::{Lends, Lent};
 use crate::port::Port;
 use crate::receive::Capture;
 use crate::settings::Settings;
@@ -191,6 +192,10 @@ impl Frame {
     pub const fn class_number(&self) -> u8 {
         self.record.traffic_class
     }
+
+    pub(crate) const fn record(&self) -> &sys::Client {
+        &self.record
+    }
 }
 
 // What stands beyond the count.
@@ -209,7 +214,7 @@ impl fmt::Debug for Frame {
 }
 
 /// Line buffers that are lent for writing, the place where the next symbols go, and the port that
-/// frames go to.
+/// frames go to. A [`Line`](crate::Line) is the same with totals of the Starts.
 ///
 /// Each call that writes moves the place on and gives it, and lowers every timer by the symbols
 /// written. A refused one leaves the place, the state and every symbol.
@@ -383,17 +388,7 @@ impl<'b> Sender<'b> {
         frame: &Frame,
         data: &[u8],
     ) -> Result<usize, Refusal> {
-        let sent = sys::send_client(
-            settings.record(),
-            state.record(),
-            self.port.number(),
-            self.octets,
-            self.marks,
-            self.place,
-            &frame.record,
-            data,
-        );
-        self.moved(sent)
+        self.lent().client(settings, state, frame, data)
     }
 
     /// Writes a pause frame and its gap, whatever the timers say. In another flow mode than pause
@@ -422,16 +417,7 @@ impl<'b> Sender<'b> {
         state: &mut State,
         quanta: u16,
     ) -> Result<usize, Refusal> {
-        let sent = sys::send_pause(
-            settings.record(),
-            state.record(),
-            self.port.number(),
-            self.octets,
-            self.marks,
-            self.place,
-            quanta,
-        );
-        self.moved(sent)
+        self.lent().pause(settings, state, quanta)
     }
 
     /// Writes a PFC frame and its gap, whatever the timers say. Bit n of `named` names class n;
@@ -466,17 +452,7 @@ impl<'b> Sender<'b> {
         named: u8,
         quanta: [u16; 8],
     ) -> Result<usize, Refusal> {
-        let sent = sys::send_pfc(
-            settings.record(),
-            state.record(),
-            self.port.number(),
-            self.octets,
-            self.marks,
-            self.place,
-            named,
-            &quanta,
-        );
-        self.moved(sent)
+        self.lent().pfc(settings, state, named, quanta)
     }
 
     /// Writes `n` Idles.
@@ -485,15 +461,23 @@ impl<'b> Sender<'b> {
     ///
     /// Refusals 2, 3 and 8, the lowest number first.
     pub fn idle(&mut self, state: &mut State, n: usize) -> Result<usize, Refusal> {
-        let sent = sys::fill_idle(state.record(), self.octets, self.marks, self.place, n);
-        self.moved(sent)
+        self.lent().idle(state, n)
     }
 
-    // Moves the place on unless the call was refused.
-    fn moved(&mut self, sent: sys::Sent) -> Result<usize, Refusal> {
-        Refusal::check(sent.refusal)?;
-        self.place = sent.place as usize;
-        Ok(self.place)
+    pub(crate) fn buffers(&mut self) -> (&mut [u8], &mut [u8]) {
+        (self.octets, self.marks)
+    }
+}
+
+impl Lends for Sender<'_> {
+    fn lent(&mut self) -> Lent<'_> {
+        Lent {
+            octets: self.octets,
+            marks: self.marks,
+            totals: None,
+            place: &mut self.place,
+            port: self.port,
+        }
     }
 }
 
@@ -603,6 +587,22 @@ mod tests {
             assert_eq!(sent.refusal, of_control);
         }
         assert_eq!(sys::fill_idle(s, o, m, 0, 9).refusal, 8);
+        // with totals 21 and 22 are told right after 19, and before 4 and 8
+        for (number, port, refusal) in [(0, 0, 21), (2, 0, 21), (1, 255, 19), (1, 0, 22)] {
+            let (t, c, data) = (&mut [257; 2][..number], &client.record, b"data");
+            let sent = sys::send_client_counted(&settings, s, port, o, m, t, 0, c, data);
+            assert_eq!(sent.refusal, refusal);
+            let sent = sys::send_pause_counted(&settings, s, port, o, m, t, 0, 1);
+            assert_eq!(sent.refusal, refusal);
+            let sent = sys::send_pfc_counted(&settings, s, port, o, m, t, 0, 1, &[1; 8]);
+            assert_eq!(sent.refusal, refusal);
+        }
+        assert_eq!(sys::fill_idle_counted(s, o, m, &mut [], 0, 9).refusal, 21);
+        assert_eq!(
+            sys::fill_idle_counted(s, o, m, &mut [257], 0, 9).refusal,
+            22
+        );
+        assert_eq!(sys::fill_idle_counted(s, o, m, &mut [256], 0, 9).refusal, 8);
         assert!(state == worn());
         // one that is not refused leaves it in the header's form
         assert_eq!(sys::fill_idle(&mut state, o, m, 0, 1).refusal, 0);

@@ -1,14 +1,15 @@
 //! Settings and state together.
 use crate::answers::Refusal;
+use crate::lent::Buffers;
 use crate::log::{Kept, Log};
 use crate::reason::Explained;
 use crate::receive::{Capture, Reading, Readings, Walk};
-use crate::send::{Frame, Sender};
+use crate::send::Frame;
 use crate::settings::Settings;
 use crate::state::State;
 
 /// A station: what it is set to, and what it keeps from call to call. Each call goes to that of
-/// [`Capture`] or [`Sender`] with both.
+/// [`Capture`], or of a [`Sender`](crate::Sender) or a [`Line`](crate::Line), with both.
 ///
 /// ```
 /// use fenhamper::{Address, Frame, Outcome, Sender, Settings, Station};
@@ -141,21 +142,24 @@ impl Station {
         capture.walk_log(&self.settings, &mut self.state, place, log)
     }
 
-    /// [`Sender::client`]: a client frame and its gap.
+    /// [`Sender::client`](crate::Sender::client) or [`Line::client`](crate::Line::client): a client
+    /// frame and its gap.
     ///
     /// # Errors
     ///
-    /// Refusals 1 to 3, 5 to 10 and 19.
+    /// Refusals 1 to 3, 5 to 10 and 19; of a line also 21 and 22.
     pub fn send_client(
         &mut self,
-        sender: &mut Sender<'_>,
+        sender: &mut impl Buffers,
         frame: &Frame,
         data: &[u8],
     ) -> Result<usize, Refusal> {
-        sender.client(&self.settings, &mut self.state, frame, data)
+        let lent = sender.lent();
+        lent.client(&self.settings, &mut self.state, frame, data)
     }
 
-    /// [`Sender::pause`]: a pause frame and its gap.
+    /// [`Sender::pause`](crate::Sender::pause) or [`Line::pause`](crate::Line::pause): a pause frame
+    /// and its gap.
     ///
     /// ```
     /// use fenhamper::{Flow, Sender, Settings, Station};
@@ -172,31 +176,34 @@ impl Station {
     ///
     /// # Errors
     ///
-    /// Refusals 1 to 4, 8 and 19.
-    pub fn send_pause(&mut self, sender: &mut Sender<'_>, quanta: u16) -> Result<usize, Refusal> {
-        sender.pause(&self.settings, &mut self.state, quanta)
+    /// Refusals 1 to 4, 8 and 19; of a line also 21 and 22.
+    pub fn send_pause(&mut self, sender: &mut impl Buffers, quanta: u16) -> Result<usize, Refusal> {
+        let lent = sender.lent();
+        lent.pause(&self.settings, &mut self.state, quanta)
     }
 
-    /// [`Sender::pfc`]: a PFC frame and its gap.
+    /// [`Sender::pfc`](crate::Sender::pfc) or [`Line::pfc`](crate::Line::pfc): a PFC frame and its
+    /// gap.
     ///
     /// # Errors
     ///
-    /// Refusals 1 to 4, 8 and 19.
+    /// Refusals 1 to 4, 8 and 19; of a line also 21 and 22.
     pub fn send_pfc(
         &mut self,
-        sender: &mut Sender<'_>,
+        sender: &mut impl Buffers,
         named: u8,
         quanta: [u16; 8],
     ) -> Result<usize, Refusal> {
-        sender.pfc(&self.settings, &mut self.state, named, quanta)
+        let lent = sender.lent();
+        lent.pfc(&self.settings, &mut self.state, named, quanta)
     }
 
-    /// [`Sender::idle`]: `n` Idles.
+    /// [`Sender::idle`](crate::Sender::idle) or [`Line::idle`](crate::Line::idle): `n` Idles.
     ///
     /// # Errors
     ///
-    /// Refusals 2, 3 and 8.
-    pub fn fill_idle(&mut self, sender: &mut Sender<'_>, n: usize) -> Result<usize, Refusal> {
-        sender.idle(&mut self.state, n)
+    /// Refusals 2, 3 and 8; of a line also 21 and 22.
+    pub fn fill_idle(&mut self, sender: &mut impl Buffers, n: usize) -> Result<usize, Refusal> {
+        sender.lent().idle(&mut self.state, n)
     }
 }

@@ -19,6 +19,7 @@ pub const MOST_TAGS: usize = 8;
 pub const CLASSES: usize = 8;
 pub const OUTCOMES: usize = 11;
 pub const RECORD_SIZE: usize = 16;
+pub const BLOCK: usize = 256;
 
 pub const FLOW_NONE: u8 = 0;
 pub const FLOW_PAUSE: u8 = 1;
@@ -307,6 +308,81 @@ extern "C" {
         idles: usize,
         sent: &mut Sent,
     );
+    fn fenhamper_fill_totals(
+        octets: *const u8,
+        octets_length: usize,
+        marks: *const u8,
+        marks_length: usize,
+        totals: *mut u16,
+        totals_length: usize,
+    ) -> u32;
+    fn fenhamper_starts_before(
+        octets: *const u8,
+        octets_length: usize,
+        marks: *const u8,
+        marks_length: usize,
+        totals: *const u16,
+        totals_length: usize,
+        place: usize,
+        starts: &mut usize,
+    ) -> u32;
+    fn fenhamper_send_client_counted(
+        settings: &Settings,
+        state: &mut State,
+        port: u8,
+        octets: *mut u8,
+        octets_length: usize,
+        marks: *mut u8,
+        marks_length: usize,
+        totals: *mut u16,
+        totals_length: usize,
+        place: usize,
+        client: &Client,
+        data: *const u8,
+        data_length: usize,
+        sent: &mut Sent,
+    );
+    fn fenhamper_send_pause_counted(
+        settings: &Settings,
+        state: &mut State,
+        port: u8,
+        octets: *mut u8,
+        octets_length: usize,
+        marks: *mut u8,
+        marks_length: usize,
+        totals: *mut u16,
+        totals_length: usize,
+        place: usize,
+        quanta: u16,
+        sent: &mut Sent,
+    );
+    fn fenhamper_send_pfc_counted(
+        settings: &Settings,
+        state: &mut State,
+        port: u8,
+        octets: *mut u8,
+        octets_length: usize,
+        marks: *mut u8,
+        marks_length: usize,
+        totals: *mut u16,
+        totals_length: usize,
+        place: usize,
+        named: u8,
+        quanta: &[u16; CLASSES],
+        sent: &mut Sent,
+    );
+    fn fenhamper_fill_idle_counted(
+        state: &mut State,
+        octets: *mut u8,
+        octets_length: usize,
+        marks: *mut u8,
+        marks_length: usize,
+        totals: *mut u16,
+        totals_length: usize,
+        place: usize,
+        idles: usize,
+        sent: &mut Sent,
+    );
     fn fenhamper_fcs(octets: *const u8, length: usize) -> u32;
     fn fenhamper_fcs_update(from: u32, octets: *const u8, length: usize) -> u32;
     fn fenhamper_fresh_state(state: &mut State);
@@ -553,6 +629,165 @@ pub fn fill_idle(
             octets.len(),
             marks.as_mut_ptr(),
             marks.len(),
+            place,
+            idles,
+            &mut sent,
+        );
+    }
+    sent
+}
+
+// The answer is the refusal's number, here and in the next one, whose Starts are 0 for a refusal.
+pub fn fill_totals(octets: &[u8], marks: &[u8], totals: &mut [u16]) -> u64 {
+    // SAFETY: each pointer and length is one slice's, and the totals are lent alone.
+    let refusal = unsafe {
+        fenhamper_fill_totals(
+            octets.as_ptr(),
+            octets.len(),
+            marks.as_ptr(),
+            marks.len(),
+            totals.as_mut_ptr(),
+            totals.len(),
+        )
+    };
+    refusal.into()
+}
+
+pub fn starts_before(octets: &[u8], marks: &[u8], totals: &[u16], place: usize) -> (u64, usize) {
+    let mut starts = 0;
+    // SAFETY: each pointer and length is one slice's.
+    let refusal = unsafe {
+        fenhamper_starts_before(
+            octets.as_ptr(),
+            octets.len(),
+            marks.as_ptr(),
+            marks.len(),
+            totals.as_ptr(),
+            totals.len(),
+            place,
+            &mut starts,
+        )
+    };
+    (refusal.into(), starts)
+}
+
+pub fn send_client_counted(
+    settings: &Settings,
+    state: &mut State,
+    port: u8,
+    octets: &mut [u8],
+    marks: &mut [u8],
+    totals: &mut [u16],
+    place: usize,
+    client: &Client,
+    data: &[u8],
+) -> Sent {
+    let mut sent = Sent::default();
+    // SAFETY: each pointer and length is one slice's, and the written ones are lent alone.
+    unsafe {
+        fenhamper_send_client_counted(
+            settings,
+            state,
+            port,
+            octets.as_mut_ptr(),
+            octets.len(),
+            marks.as_mut_ptr(),
+            marks.len(),
+            totals.as_mut_ptr(),
+            totals.len(),
+            place,
+            client,
+            data.as_ptr(),
+            data.len(),
+            &mut sent,
+        );
+    }
+    sent
+}
+
+pub fn send_pause_counted(
+    settings: &Settings,
+    state: &mut State,
+    port: u8,
+    octets: &mut [u8],
+    marks: &mut [u8],
+    totals: &mut [u16],
+    place: usize,
+    quanta: u16,
+) -> Sent {
+    let mut sent = Sent::default();
+    // SAFETY: each pointer and length is one slice's, and the written ones are lent alone.
+    unsafe {
+        fenhamper_send_pause_counted(
+            settings,
+            state,
+            port,
+            octets.as_mut_ptr(),
+            octets.len(),
+            marks.as_mut_ptr(),
+            marks.len(),
+            totals.as_mut_ptr(),
+            totals.len(),
+            place,
+            quanta,
+            &mut sent,
+        );
+    }
+    sent
+}
+
+pub fn send_pfc_counted(
+    settings: &Settings,
+    state: &mut State,
+    port: u8,
+    octets: &mut [u8],
+    marks: &mut [u8],
+    totals: &mut [u16],
+    place: usize,
+    named: u8,
+    quanta: &[u16; CLASSES],
+) -> Sent {
+    let mut sent = Sent::default();
+    // SAFETY: each pointer and length is one slice's, and the written ones are lent alone.
+    unsafe {
+        fenhamper_send_pfc_counted(
+            settings,
+            state,
+            port,
+            octets.as_mut_ptr(),
+            octets.len(),
+            marks.as_mut_ptr(),
+            marks.len(),
+            totals.as_mut_ptr(),
+            totals.len(),
+            place,
+            named,
+            quanta,
+            &mut sent,
+        );
+    }
+    sent
+}
+
+pub fn fill_idle_counted(
+    state: &mut State,
+    octets: &mut [u8],
+    marks: &mut [u8],
+    totals: &mut [u16],
+    place: usize,
+    idles: usize,
+) -> Sent {
+    let mut sent = Sent::default();
+    // SAFETY: each pointer and length is one slice's, and the written ones are lent alone.
+    unsafe {
+        fenhamper_fill_idle_counted(
+            state,
+            octets.as_mut_ptr(),
+            octets.len(),
+            marks.as_mut_ptr(),
+            marks.len(),
+            totals.as_mut_ptr(),
+            totals.len(),
             place,
             idles,
             &mut sent,

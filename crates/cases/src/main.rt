@@ -77,10 +77,15 @@ fn state_at(t: &[u8], at: usize, out: &mut [u64; 24]) {
     }
 }
 
-fn quanta_at(t: &[u8], at: usize, out: &mut [u16; 8]) {
+// Of number k behind a place the low 16 bits.
+fn short(t: &[u8], at: usize, k: usize) -> u16 {
+    (number(t, at, k) % 65536) as u16
+}
+
+fn shorts_at(t: &[u8], at: usize, out: &mut [u16]) {
     let mut k: usize = 0;
-    while k < 8 {
-        out[k] = (number(t, at, k) % 65536) as u16;
+    while k < out.len() {
+        out[k] = short(t, at, k);
         k += 1;
     }
 }
@@ -189,7 +194,7 @@ fn call_at(t: &[u8], r: usize) -> Call {
     octets(t, number(t, r, 2) as usize, &mut settings);
     state_at(t, number(t, r, 3) as usize, &mut state);
     octets(t, number(t, r, 4) as usize, &mut client);
-    quanta_at(t, number(t, r, 5) as usize, &mut quanta);
+    shorts_at(t, number(t, r, 5) as usize, &mut quanta);
     Call {
         kind: number(t, r, 0),
         place: number(t, r, 6) as usize,
@@ -505,6 +510,161 @@ fn keep(t: &[u8], at: usize, c: Call, o: &[u8], m: &[u8], log: &mut [u8]) {
     changes(&before, &state);
 }
 
+// ---- calls with the totals of a capture
+
+fn client_counted(c: Call, d: &[u8], o: &mut [u8], m: &mut [u8], totals: &mut [u16]) -> Sent {
+    let s = c.settings;
+    let f = c.client;
+    let mut state = c.state;
+    let mut answer = [0u64; 2];
+    fenhamper::fenhamper_send_client_counted(
+        &s,
+        &mut state,
+        c.port,
+        o,
+        m,
+        totals,
+        c.place,
+        &f,
+        d,
+        &mut answer,
+    );
+    Sent { state, answer }
+}
+
+fn pause_counted(c: Call, o: &mut [u8], m: &mut [u8], totals: &mut [u16]) -> Sent {
+    let s = c.settings;
+    let mut state = c.state;
+    let mut answer = [0u64; 2];
+    fenhamper::fenhamper_send_pause_counted(
+        &s,
+        &mut state,
+        c.port,
+        o,
+        m,
+        totals,
+        c.place,
+        (c.n % 65536) as u16,
+        &mut answer,
+    );
+    Sent { state, answer }
+}
+
+fn pfc_counted(c: Call, o: &mut [u8], m: &mut [u8], totals: &mut [u16]) -> Sent {
+    let s = c.settings;
+    let q = c.quanta;
+    let mut state = c.state;
+    let mut answer = [0u64; 2];
+    fenhamper::fenhamper_send_pfc_counted(
+        &s,
+        &mut state,
+        c.port,
+        o,
+        m,
+        totals,
+        c.place,
+        (c.n % 256) as u8,
+        &q,
+        &mut answer,
+    );
+    Sent { state, answer }
+}
+
+fn idle_counted(c: Call, o: &mut [u8], m: &mut [u8], totals: &mut [u16]) -> Sent {
+    let mut state = c.state;
+    let mut answer = [0u64; 2];
+    fenhamper::fenhamper_fill_idle_counted(
+        &mut state,
+        o,
+        m,
+        totals,
+        c.place,
+        c.n as usize,
+        &mut answer,
+    );
+    Sent { state, answer }
+}
+
+fn send_counted(c: Call, d: &[u8], o: &mut [u8], m: &mut [u8], totals: &mut [u16]) -> Sent {
+    if c.kind == 11 {
+        return client_counted(c, d, o, m, totals);
+    }
+    if c.kind == 12 {
+        return pause_counted(c, o, m, totals);
+    }
+    if c.kind == 13 {
+        return pfc_counted(c, o, m, totals);
+    }
+    idle_counted(c, o, m, totals)
+}
+
+fn total_told(t: &[u8], at: usize, k: usize, total: u16) {
+    pair(k, short(t, at, k) as u64, total as u64);
+}
+
+// Those of the totals that are not as on the tape.
+fn totals_told(t: &[u8], at: usize, totals: &[u16]) {
+    io::write_all(1, b" totals");
+    let mut k: usize = 0;
+    while k < totals.len() {
+        total_told(t, at, k, totals[k]);
+        k += 1;
+    }
+}
+
+fn sending_counted(
+    t: &[u8],
+    at: usize,
+    c: Call,
+    d: &[u8],
+    o: &mut [u8],
+    m: &mut [u8],
+    totals: &mut [u16],
+) {
+    let r = send_counted(c, d, o, m, totals);
+    let a = r.answer;
+    let before = c.state;
+    let after = r.state;
+    went(&a, o, m);
+    totals_told(t, at, totals);
+    changes(&before, &after);
+}
+
+// How many Starts lie before the place, where the call's number was told before.
+fn asked(c: Call, o: &[u8], m: &[u8], totals: &[u16]) {
+    let mut starts = c.n as usize;
+    refusal(fenhamper::fenhamper_starts_before(o, m, totals, c.place, &mut starts));
+    told(b" starts 0\n", 0, &[starts as u64]);
+}
+
+fn fill_all(t: &[u8], at: usize, o: &[u8], m: &[u8], totals: &mut [u16]) {
+    refusal(fenhamper::fenhamper_fill_totals(o, m, totals));
+    totals_told(t, at, totals);
+    io::write_all(1, b"\n");
+}
+
+// The totals lie at a place.
+fn with_totals(
+    t: &[u8],
+    at: usize,
+    c: Call,
+    d: &[u8],
+    o: &mut [u8],
+    m: &mut [u8],
+    totals: &mut [u16],
+) {
+    shorts_at(t, at, totals);
+    if c.kind == 10 {
+        fill_all(t, at, o, m, totals);
+        return;
+    }
+    if c.kind == 15 {
+        asked(c, o, m, totals);
+        return;
+    }
+    sending_counted(t, at, c, d, o, m, totals);
+}
+
 // ---- cases
 
 fn blank() -> [u8; 65537]
@@ -528,6 +688,35 @@ fn kept(t: &[u8], r: usize, c: Call, o: &[u8], m: &[u8]) {
     keep(t, (named / 4294967296) as usize, c, o, m, &mut l[0..n]);
 }
 
+fn blank_totals() -> [u16; 258]
+    ensures { λ r. ⌜ 258 ≡ length r ⌝ }
+{
+    [0; 258]
+}
+
+fn most_totals(n: u64) -> usize
+    ensures { λ r. ⌜ r < 259 ⌝ }
+{
+    let k = n % 4294967296;
+    if k < 259 { k as usize } else { 258 }
+}
+
+// The totals are the last that the call names.
+fn counted(t: &[u8], r: usize, c: Call, o: &mut [u8], m: &mut [u8]) {
+    let mut totals = blank_totals();
+    let named = number(t, r, 12);
+    let n = most_totals(named);
+    with_totals(
+        t,
+        (named / 4294967296) as usize,
+        c,
+        field(t, r, 10),
+        o,
+        m,
+        &mut totals[0..n],
+    );
+}
+
 fn called(t: &[u8], r: usize, o: &mut [u8], m: &mut [u8]) {
     let name = field(t, r, 1);
     let c = call_at(t, r);
@@ -536,6 +725,10 @@ fn called(t: &[u8], r: usize, o: &mut [u8], m: &mut [u8]) {
         return;
     }
     io::write_all(1, name);
+    if 9 < c.kind {
+        counted(t, r, c, o, m);
+        return;
+    }
     if c.kind == 8 {
         kept(t, r, c, o, m);
         return;
@@ -569,7 +762,7 @@ fn cases(t: &[u8]) {
     let mut r = number(t, 0, 0) as usize;
     while r < t.len() {
         case(t, r);
-        r += 96;
+        r += 104;
     }
 }
 
@@ -602,7 +795,7 @@ fn sealed_cases(t: &[u8]) {
 
 // There is room for the calls of every item to come; of a longer tape the end is not read, so that it is a bad one.
 fn main() {
-    let mut tape = [0u8; 262144];
+    let mut tape = [0u8; 524288];
     let n = io::read_full(0, &mut tape);
     sealed_cases(&tape[..n]);
 }

@@ -1,8 +1,13 @@
 -- A call across the face: what came back encoded is what the module's call gave, encoded. Assume nothing.
 use Prim.Native.Nat.{ℕ}
-use mathlib.Core.Path.{_≡_, ap, ap₂, _∙_}
-use mathlib.Core.List.{List}
+use native.Mathlib.Omega.{arith}
+use mathlib.Core.Path.{_≡_, sym, ap, ap₂, _∙_, subst}
+use mathlib.Core.Bool.{Bool, false, cond}
+use mathlib.Core.List.{List, [], _∷_}
 use lib.ListN.{getD}
+use lib.Dec.{eqb}
+use borrow.Author.Tests.{ne-eqb}
+use Rattle.line.specs.Line.{capture}
 use Rattle.station.specs.declared.State.{State}
 use Rattle.receive.specs.declared.Reading.{Reading}
 use Rattle.receive.specs.declared.WalkEnd.{WalkEnd}
@@ -14,8 +19,18 @@ use Rattle.logging.specs.declared.LogWalk.{LogWalk}
 use Rattle.logging.specs.Walks.{Keeping, keeping}
 use Rattle.send.specs.declared.Sent.{Sent}
 use Rattle.send.specs.Sending.{Sending, sending}
-use Rattle.fenhamper.specs.Face.{stateLeft, readingNumbers, walkNumbers, sentNumbers, told, readTold, walkTold, wrote, sendTold}
+use Rattle.station.specs.declared.Refusal.{Refusal}
+use Rattle.station.specs.declared.Checked.{Checked}
+use Rattle.station.specs.declared.Checked.the-variants.{Fine, Refused}
+use Rattle.station.specs.Numbers.{refusalNumber, checkedNumber}
+use Rattle.logging.proofs.Refused.{number-apart}
+use Rattle.totals.specs.Totals.{Filling, filling, recounted}
+use Rattle.totals.proofs.Tests.{Known}
+use Rattle.counting.specs.Counting.{countChecked}
+use Rattle.counting.proofs.Calls.{Leaves, Countable, countable}
+use Rattle.fenhamper.specs.Face.{stateNumbers, stateLeft, readingNumbers, walkNumbers, sentNumbers, told, readTold, walkTold, wrote, sendTold}
 use Rattle.fenhamper.specs.Face.{keepNumbers, kept, keepTold, lodged, appendTold, RecordGiven, recordGiven, recordTold, stepGiven, stepTold}
+use Rattle.fenhamper.specs.Face.{Wrote, totalsGiven, fillTold, withTotals, countTold}
 
 -- an answer's first number is its refusal
 pub read-crosses : {a st : List ℕ} (before : List ℕ) {r x : Reading} → a ≡ readingNumbers r → st ≡ stateLeft (getD a 0 0) before (r .state) → r ≡ x → told a st ≡ readTold before x
@@ -51,3 +66,39 @@ pub step-crosses : {n at : ℕ} {o : List ℕ} (before : List ℕ) {s x : Step} 
     → at ≡ s .at → s ≡ x → stepGiven n at o ≡ stepTold before x
 unfolding recordTold stepTold
 step-crosses before f g e = ap₂ (λ (r : RecordGiven) (k : ℕ). stepGiven (r .refusal) k (r .octets)) f g ∙ ap (stepTold before) e
+
+-- ---- calls with the totals of a capture
+
+pub fill-crosses : {n : ℕ} {ts : List ℕ} {a : Checked} {x : Filling} → n ≡ checkedNumber a → filling a ts ≡ x → totalsGiven n ts ≡ fillTold x
+unfolding fillTold
+fill-crosses {n} {ts} f e = ap (λ (k : ℕ). totalsGiven k ts) f ∙ ap fillTold e
+
+-- a call with totals is its tests up to 22 and then the exported call without totals. Refused by these tests:
+module _ (before os ms ts : List ℕ) (st : State) (place : ℕ) (base : Sending) (early : Checked) where
+  pub refused-crosses : {a : List ℕ} (x : Refusal) → early ≡ Refused x → a ≡ refusalNumber x ∷ place ∷ []
+      → withTotals a before os ms ts ≡ countTold before (countChecked early st os ms place ts base)
+  unfolding countTold countChecked sendTold sentNumbers stateLeft
+  refused-crosses x h e =
+      let other : eqb (refusalNumber x) 0 ≡ false = ne-eqb (refusalNumber x) 0 (λ z. let p = number-apart x .0 in let w : ⊥ = omega arith in absurd w) in
+      ap (λ (b : List ℕ). withTotals b before os ms ts) e
+      ∙ sym (ap (λ (b : Bool). withTotals (refusalNumber x ∷ place ∷ []) (cond b (stateNumbers st) before) os ms ts) other)
+      ∙ sym (ap (λ (q : Checked). countTold before (countChecked q st os ms place ts base)) h)
+
+  -- made, and the blocks from its place up to the one that it answered counted anew
+  pub made-crosses : {a st′ os′ ms′ ts′ : List ℕ} → early ≡ Fine → wrote a st′ os′ ms′ ≡ sendTold before base
+      → ts′ ≡ recounted (capture os′ ms′) place (getD a 1 0) ts → withTotals a st′ os′ ms′ ts′ ≡ countTold before (countChecked early st os ms place ts base)
+  unfolding countTold countChecked sendTold sentNumbers
+  made-crosses h e t =
+      ap₂ (λ (w : Wrote) (l : List ℕ). record { sent = w; totals = l }) e
+      (t ∙ ap (λ (w : Wrote). recounted (capture (w .octets) (w .marks)) place (getD (w .answer) 1 0) ts) e)
+      ∙ sym (ap (λ (q : Checked). countTold before (countChecked q st os ms place ts base)) h)
+
+-- what the new count asks for
+pub countable-crossed : {a st′ os ms ts os′ ms′ : List ℕ} {place : ℕ} (before : List ℕ) (base : Sending) → Known os ms place ts → Leaves os place base
+    → wrote a st′ os′ ms′ ≡ sendTold before base → Countable os′ ms′ (getD a 1 0) ts
+unfolding sendTold sentNumbers
+countable-crossed {a} {st′} {os} {ms} {ts} {os′} {ms′} before base k l e =
+    let o : os′ ≡ base .octets = ap (λ (w : Wrote). w .octets) e in
+    let m : ms′ ≡ base .marks = ap (λ (w : Wrote). w .marks) e in
+    let p : getD a 1 0 ≡ base .given .place = ap (λ (w : Wrote). getD (w .answer) 1 0) e in
+    subst (λ (n : ℕ). Countable os′ ms′ n ts) (sym p) (countable base k l (ap₂ (sending (base .given)) o m))

@@ -15,6 +15,7 @@ use Rattle.station.specs.declared.Settings.{Settings}
 use Rattle.station.specs.declared.Slots.{Slots}
 use Rattle.station.specs.declared.Quanta.{Quanta}
 use Rattle.station.specs.declared.State.{State}
+use Rattle.station.specs.Numbers.{checkedNumber}
 use Rattle.flow.specs.Timers.{timer}
 use Rattle.receive.specs.declared.Answer.{Answer}
 use Rattle.receive.specs.declared.Answer.the-variants.{Nothing, Open, Counted}
@@ -52,6 +53,10 @@ use Rattle.writing.specs.declared.Form.{Form}
 use Rattle.writing.specs.declared.Form.the-variants.{ByLength, ByType}
 use Rattle.send.specs.declared.Sent.{Sent}
 use Rattle.send.specs.Sending.{Sending, wentRefusal}
+use Rattle.totals.specs.declared.Count.{Count}
+use Rattle.totals.specs.declared.Count.the-variants.{Starts}
+use Rattle.totals.specs.Totals.{Filling, countRefusal}
+use Rattle.counting.specs.Counting.{Counting}
 
 -- the values of a function at n places from `at` on
 unfoldable pub each : {A : Type 0} → (ℕ → A) → ℕ → ℕ → List A
@@ -334,3 +339,35 @@ numberLeft before (Number n) = n
 
 unfoldable pub numberTold : ℕ → LogNumber → NumberGiven
 numberTold before x = numberGiven (logNumberRefusal x) (numberLeft before x)
+
+-- ---- what a call with the totals of a capture leaves (document 02, item 9)
+
+pub record TotalsGiven : Type 0 where
+  pub refusal : ℕ
+  pub totals : List ℕ
+
+abbrev pub totalsGiven : ℕ → List ℕ → TotalsGiven
+totalsGiven n ts = record { refusal = n; totals = ts }
+
+-- of filling
+unfoldable pub fillTold : Filling → TotalsGiven
+fillTold x = totalsGiven (checkedNumber (x .given)) (x .totals)
+
+-- of how many Starts lie before a place; a refusal leaves the number that stood there before
+unfoldable pub startsLeft : ℕ → Count → ℕ
+startsLeft before (Starts n) = n
+startsLeft before (Count.Refused x) = before
+
+unfoldable pub startsTold : ℕ → Count → NumberGiven
+startsTold before x = numberGiven (countRefusal x) (startsLeft before x)
+
+pub record WithTotals : Type 0 where
+  pub sent : Wrote
+  pub totals : List ℕ
+
+abbrev pub withTotals : List ℕ → List ℕ → List ℕ → List ℕ → List ℕ → WithTotals
+withTotals a st os ms ts = record { sent = wrote a st os ms; totals = ts }
+
+-- of a sending call: all that the call without totals leaves, and the totals
+unfoldable pub countTold : List ℕ → Counting → WithTotals
+countTold before x = record { sent = sendTold before (x .sent); totals = x .totals }

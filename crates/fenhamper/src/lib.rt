@@ -18,12 +18,15 @@ use receive::Walked;
 use send::Sent;
 use send::Went;
 use station::Address;
+use station::Checked;
 use station::Flow;
 use station::Port;
 use station::Quanta;
+use station::Refusal;
 use station::Settings;
 use station::Slots;
 use station::State;
+use totals::Count;
 use writing::Classes;
 use writing::Client;
 use writing::Form;
@@ -31,13 +34,14 @@ use writing::Kind;
 use writing::Tag;
 ghost use mathlib.Core.Path.{_≡_};
 ghost use mathlib.Core.Bool.{cond, not};
-ghost use mathlib.Core.List.{_∷_};
+ghost use mathlib.Core.List.{[], _∷_};
 ghost use Prim.Native.Nat.{_+_, _<_, _≤_};
 ghost use lib.ListN.{length};
 ghost use lib.Dec.{eqb};
 ghost use Rattle.line.specs.Octets.{lowFirst};
 ghost use Rattle.fcs.specs.Fcs.{fcsOf};
 ghost use Rattle.crc.specs.Crc.{crcOver};
+ghost use Rattle.station.specs.Numbers.{refusalNumber, checkedNumber};
 ghost use Rattle.station.specs.Station.{fresh, screenOf};
 ghost use Rattle.flow.specs.Timers.{timer};
 ghost use Rattle.receive.specs.Reading.{reading};
@@ -49,12 +53,15 @@ ghost use Rattle.log.specs.Log.{recordOf, appending, recordRead, usedInFront};
 ghost use Rattle.log.specs.Readers.{nextStep};
 ghost use Rattle.logging.specs.Walks.{walkLogged};
 ghost use Rattle.send.specs.Sending.{clientSending, pauseSending, pfcSending, idleSending};
+ghost use Rattle.totals.specs.Totals.{beforePlace, filled};
+ghost use Rattle.counting.specs.Counting.{clientCounting, pauseCounting, pfcCounting, idleCounting};
 ghost use Rattle.fenhamper.specs.Face.{layout, flowOf, addressAt, settingsOf, countersOf, timersOf, stateOf};
 ghost use Rattle.fenhamper.specs.Face.{portOf, kindOf, tagAt, countedTag, tagsOf, formOf, clientOf, quantaOf, classesOf};
 ghost use Rattle.fenhamper.specs.Face.{recordNamed, stateNumbers, readingNumbers, walkNumbers, sentNumbers, keepRefusalNumber, keepNumbers, partWithin};
 ghost use Rattle.fenhamper.specs.Face.{sixNumber, reasonNumbers, explainNumbers};
 ghost use Rattle.fenhamper.specs.Face.{stateLeft, told, readTold, walkTold, wrote, sendTold};
 ghost use Rattle.fenhamper.specs.Face.{kept, keepTold, lodged, appendTold, recordGiven, recordTold, stepGiven, stepTold, numberGiven, numberTold};
+ghost use Rattle.fenhamper.specs.Face.{totalsGiven, fillTold, startsTold, withTotals, countTold};
 
 // ---- what crosses to the module
 
@@ -461,6 +468,13 @@ fn sent_numbers(s: Sent) -> [u64; 2]
     }
 }
 
+// The same of a call that was refused.
+fn refused_numbers(x: Refusal, place: usize) -> [u64; 2]
+    ensures { λ n. ⌜ n ≡ refusalNumber x ∷ place ∷ [] ⌝ }
+{
+    [station::refusal_number(x) as u64, place as u64]
+}
+
 // The number of a refusal of a walk that keeps its readings.
 fn keep_refusal(x: KeepRefusal) -> u64
     ensures { λ n. ⌜ n ≡ keepRefusalNumber x ⌝ }
@@ -492,6 +506,16 @@ fn logged_number(a: Logged) -> u32
     match a {
         Logged::Fine => 0,
         Logged::Refused(x) => log::refusal_number(x) as u32,
+    }
+}
+
+// The number of a refusal of the module, 0 if the call went on.
+fn checked_number(a: Checked) -> u32
+    ensures { λ n. ⌜ n ≡ checkedNumber a ⌝ }
+{
+    match a {
+        Checked::Fine => 0,
+        Checked::Refused(x) => station::refusal_number(x) as u32,
     }
 }
 
@@ -792,4 +816,157 @@ pub extern "C" fn fenhamper_log_used(log: &[u8], used: &mut usize) -> u32
             0
         }
     }
+}
+
+// ---- the exported functions over the totals of a capture
+
+#[no_mangle]
+pub extern "C" fn fenhamper_fill_totals(octets: &[u8], marks: &[u8], totals: &mut [u16]) -> u32
+    ensures { λ n. ⌜ totalsGiven n (now (totals .exit)) ≡ fillTold (filled (now (octets .entry)) (now (marks .entry)) (now (totals .entry))) ⌝ }
+{
+    checked_number(totals::fill_totals(octets, marks, totals))
+}
+
+#[no_mangle]
+pub extern "C" fn fenhamper_starts_before(
+    octets: &[u8],
+    marks: &[u8],
+    totals: &[u16],
+    place: usize,
+    starts: &mut usize,
+) -> u32
+    ensures { λ n. ⌜ numberGiven n (now (starts .exit))
+        ≡ startsTold (now (starts .entry)) (beforePlace (now (octets .entry)) (now (marks .entry)) place (now (totals .entry))) ⌝ }
+{
+    match totals::starts_before(octets, marks, totals, place) {
+        Count::Starts(n) => {
+            *starts = n;
+            0
+        }
+        Count::Refused(x) => station::refusal_number(x) as u32,
+    }
+}
+
+#[no_mangle]
+pub extern "C" fn fenhamper_send_client_counted(
+    s: &[u8; 48],
+    state: &mut [u64; 24],
+    port: u8,
+    octets: &mut [u8],
+    marks: &mut [u8],
+    totals: &mut [u16],
+    place: usize,
+    frame: &[u8; 44],
+    data: &[u8],
+    answer: &mut [u64; 2],
+)
+    ensures { λ _. ⌜ withTotals (now (answer .exit)) (now (state .exit)) (now (octets .exit)) (now (marks .exit)) (now (totals .exit))
+        ≡ countTold (now (state .entry)) (clientCounting (settingsOf (now (s .entry))) (stateOf (now (state .entry))) (portOf port)
+        (now (octets .entry)) (now (marks .entry)) (now (totals .entry)) place (clientOf (now (frame .entry))) (now («data» .entry))) ⌝ }
+{
+    let checked = counting::check_frame(
+        settings(s),
+        port_of(port),
+        state[19],
+        octets,
+        marks,
+        totals,
+        place,
+    );
+    if let Checked::Refused(x) = checked {
+        *answer = refused_numbers(x, place);
+        return;
+    }
+    fenhamper_send_client(s, state, port, octets, marks, place, frame, data, answer);
+    totals::recount(octets, marks, totals, place, answer[1] as usize);
+}
+
+#[no_mangle]
+pub extern "C" fn fenhamper_send_pause_counted(
+    s: &[u8; 48],
+    state: &mut [u64; 24],
+    port: u8,
+    octets: &mut [u8],
+    marks: &mut [u8],
+    totals: &mut [u16],
+    place: usize,
+    quanta: u16,
+    answer: &mut [u64; 2],
+)
+    ensures { λ _. ⌜ withTotals (now (answer .exit)) (now (state .exit)) (now (octets .exit)) (now (marks .exit)) (now (totals .exit))
+        ≡ countTold (now (state .entry)) (pauseCounting (settingsOf (now (s .entry))) (stateOf (now (state .entry))) (portOf port)
+        (now (octets .entry)) (now (marks .entry)) (now (totals .entry)) place (quantaOf quanta)) ⌝ }
+{
+    let checked = counting::check_frame(
+        settings(s),
+        port_of(port),
+        state[19],
+        octets,
+        marks,
+        totals,
+        place,
+    );
+    if let Checked::Refused(x) = checked {
+        *answer = refused_numbers(x, place);
+        return;
+    }
+    fenhamper_send_pause(s, state, port, octets, marks, place, quanta, answer);
+    totals::recount(octets, marks, totals, place, answer[1] as usize);
+}
+
+#[no_mangle]
+pub extern "C" fn fenhamper_send_pfc_counted(
+    s: &[u8; 48],
+    state: &mut [u64; 24],
+    port: u8,
+    octets: &mut [u8],
+    marks: &mut [u8],
+    totals: &mut [u16],
+    place: usize,
+    named: u8,
+    quanta: &[u16; 8],
+    answer: &mut [u64; 2],
+)
+    ensures { λ _. ⌜ withTotals (now (answer .exit)) (now (state .exit)) (now (octets .exit)) (now (marks .exit)) (now (totals .exit))
+        ≡ countTold (now (state .entry)) (pfcCounting (settingsOf (now (s .entry))) (stateOf (now (state .entry))) (portOf port)
+        (now (octets .entry)) (now (marks .entry)) (now (totals .entry)) place (classesOf named (now (quanta .entry)))) ⌝ }
+{
+    let checked = counting::check_frame(
+        settings(s),
+        port_of(port),
+        state[19],
+        octets,
+        marks,
+        totals,
+        place,
+    );
+    if let Checked::Refused(x) = checked {
+        *answer = refused_numbers(x, place);
+        return;
+    }
+    fenhamper_send_pfc(s, state, port, octets, marks, place, named, quanta, answer);
+    totals::recount(octets, marks, totals, place, answer[1] as usize);
+}
+
+#[no_mangle]
+pub extern "C" fn fenhamper_fill_idle_counted(
+    state: &mut [u64; 24],
+    octets: &mut [u8],
+    marks: &mut [u8],
+    totals: &mut [u16],
+    place: usize,
+    idles: usize,
+    answer: &mut [u64; 2],
+)
+    ensures { λ _. ⌜ withTotals (now (answer .exit)) (now (state .exit)) (now (octets .exit)) (now (marks .exit)) (now (totals .exit))
+        ≡ countTold (now (state .entry)) (idleCounting (stateOf (now (state .entry)))
+        (now (octets .entry)) (now (marks .entry)) (now (totals .entry)) place idles) ⌝ }
+{
+    let checked = totals::check_before(octets, marks, totals, place);
+    if let Checked::Refused(x) = checked {
+        *answer = refused_numbers(x, place);
+        return;
+    }
+    fenhamper_fill_idle(state, octets, marks, place, idles, answer);
+    totals::recount(octets, marks, totals, place, answer[1] as usize);
 }

@@ -10,7 +10,7 @@ use Rattle.line.proofs.Symbols.{by-test}
 use Rattle.station.specs.declared.Settings.{Settings}
 use Rattle.station.specs.declared.State.{State}
 use Rattle.station.specs.declared.Refusal.{Refusal}
-use Rattle.station.specs.declared.Refusal.the-variants.{BadSettings, BadBuffers, BadPlace, OtherFlow, BadClass, BadType, LongData, NoRoom, Held, ManyTags, HighDeficit}
+use Rattle.station.specs.declared.Refusal.the-variants.{BadSettings, BadBuffers, BadPlace, OtherFlow, BadClass, BadType, LongData, NoRoom, Held, ManyTags, HighDeficit, WrongTotals, HighTotal}
 use Rattle.station.specs.declared.Checked.{Checked}
 use Rattle.station.specs.Numbers.{refusalNumber}
 use Rattle.log.specs.declared.LogRefusal.the-variants.{BadLog}
@@ -45,6 +45,8 @@ number-apart NoRoom = (omega arith, λ h. omega arith)
 number-apart Held = (omega arith, λ h. omega arith)
 number-apart ManyTags = (omega arith, λ h. omega arith)
 number-apart HighDeficit = (omega arith, λ h. omega arith)
+number-apart WrongTotals = (omega arith, λ h. omega arith)
+number-apart HighTotal = (omega arith, λ h. omega arith)
 
 -- ---- a walk whose first reading is not refused goes on
 

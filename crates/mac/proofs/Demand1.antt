@@ -40,17 +40,17 @@ use Rattle.receive.proofs.Walks.{through, walk-through, walked-refused}
 -- ---- any table of refusals
 
 -- a number stands in a list
-unfoldable isIn : List ℕ → ℕ → Bool
+unfoldable pub isIn : List ℕ → ℕ → Bool
 isIn [] n = false
 isIn (k ∷ numbers) n = eqb k n || isIn numbers n
 
 -- a number stands twice in a table, the 0 of what it gives where no row holds among them
-unfoldable repeats : Table Checked → Bool
+unfoldable pub repeats : Table Checked → Bool
 repeats (otherwise a) = not (eqb (checkedNumber a) 0)
 repeats (r ∣ rows) = isIn (0 ∷ numbersOf rows) (checkedNumber (r .gives)) || repeats rows
 
 -- the rows of a table have these numbers, all different; computed for each call's table
-abbrev Listed : Table Checked → List ℕ → Type 0
+abbrev pub Listed : Table Checked → List ℕ → Type 0
 Listed rows numbers = (numbersOf rows ≡ numbers) × (repeats rows ≡ false)
 
 clash : {P : Type 0} {b : Bool} → b ≡ true → b ≡ false → P
@@ -140,7 +140,7 @@ none (r ∣ rows) w =
     (λ h. let x = here r rows h in (λ e. clash (eq-eqb 0 (k r rows) (sym e ∙ x .0)) (a .0), λ p. clash (x .1) (p (k r rows))))
     (λ h. let x = passed r rows h in (λ e m. x .1 m ∙ ih .0 (sym (x .0) ∙ e) m, λ p. x .0 ∙ ih .1 (λ m. sym (x .1 m) ∙ p m)))
 
-exactly : {rows : Table Checked} {numbers : List ℕ} {g : ℕ} → Listed rows numbers → g ≡ checkedNumber (first rows) → Exactly rows numbers g
+pub exactly : {rows : Table Checked} {numbers : List ℕ} {g : ℕ} → Listed rows numbers → g ≡ checkedNumber (first rows) → Exactly rows numbers g
 exactly {rows} {numbers} {g} w e =
     subst₂ (λ (l : List ℕ) (i : ℕ). Exactly rows l i) (w .0) (sym e) (record { listed = refl; earliest = earliest rows (w .1); none = none rows (w .1) })
 

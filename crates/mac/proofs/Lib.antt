@@ -12,6 +12,7 @@ pub mod Row
 pub mod Seam
 pub mod Sum
 pub mod Timers
+pub mod Totals
 pub mod Unique
 pub mod Walk
 pub mod Ways

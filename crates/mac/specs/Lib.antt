@@ -6,4 +6,5 @@ pub mod LikeError
 pub mod Limits
 pub mod Port
 pub mod Starts
+pub mod Totals
 pub mod Ways

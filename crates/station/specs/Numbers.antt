@@ -3,7 +3,7 @@ use Prim.Native.Nat.{ℕ}
 use Rattle.station.specs.declared.Outcome.{Outcome}
 use Rattle.station.specs.declared.Outcome.the-variants.{Cut, BadPreamble, Undersized, Oversized, WrongFcs, WrongLength, Filtered, PauseTaken, PfcTaken, ControlDropped, HandedOut}
 use Rattle.station.specs.declared.Refusal.{Refusal}
-use Rattle.station.specs.declared.Refusal.the-variants.{BadSettings, BadBuffers, BadPlace, OtherFlow, BadClass, BadType, LongData, NoRoom, Held, ManyTags, HighDeficit}
+use Rattle.station.specs.declared.Refusal.the-variants.{BadSettings, BadBuffers, BadPlace, OtherFlow, BadClass, BadType, LongData, NoRoom, Held, ManyTags, HighDeficit, WrongTotals, HighTotal}
 use Rattle.station.specs.declared.Checked.{Checked}
 use Rattle.station.specs.declared.Checked.the-variants.{Fine, Refused}
 
@@ -32,6 +32,8 @@ refusalNumber NoRoom = 8
 refusalNumber Held = 9
 refusalNumber ManyTags = 10
 refusalNumber HighDeficit = 19
+refusalNumber WrongTotals = 21
+refusalNumber HighTotal = 22
 
 -- the number of what a table of refusals gives, 0 where the call goes on
 abbrev pub checkedNumber : Checked → ℕ

@@ -65,7 +65,7 @@ pub enum Outcome {
     HandedOut,
 }
 
-// Refusals 1 to 10 by number, and 19; their place among the tests is the affair of each call's table.
+// Refusals 1 to 10 by number, 19, and 21 and 22; their place among the tests is the affair of each call's table.
 pub enum Refusal {
     BadSettings,
     BadBuffers,
@@ -78,6 +78,8 @@ pub enum Refusal {
     Held,
     ManyTags,
     HighDeficit,
+    WrongTotals,
+    HighTotal,
 }
 
 // What a table of refusals gives: the first refusal that holds, or that the call goes on.
@@ -157,6 +159,8 @@ pub fn refusal_number(r: Refusal) -> u8
         Refusal::Held => 9,
         Refusal::ManyTags => 10,
         Refusal::HighDeficit => 19,
+        Refusal::WrongTotals => 21,
+        Refusal::HighTotal => 22,
     }
 }
 

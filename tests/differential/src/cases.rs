@@ -2,7 +2,8 @@
 //! alone.
 use crate::compare::{Bench, Difference, Lent};
 use crate::compare_log::LentLog;
-use crate::generate::{self, Sending, Symbols, IDLE, START, TERMINATE};
+use crate::compare_totals::{Counted, LentTotals};
+use crate::generate::{self, Sending, Symbols, IDLE, START, SYMBOLS, TERMINATE};
 use crate::prng::Prng;
 use crate::{raw, records};
 use reference::{Client, Flow, Form, Port, Settings};
@@ -10,7 +11,7 @@ use reference::{Client, Flow, Form, Port, Settings};
 /// Makes the calls of one case of a seed.
 pub fn run(bench: &mut Bench, seed: u64, case: u64) -> Result<(), Difference> {
     let mut prng = bench.begin(seed, case);
-    match prng.below(22) {
+    match prng.below(24) {
         0..=7 => reading(bench, &mut prng),
         8..=13 => sending(bench, &mut prng),
         14 => holding(bench, &mut prng),
@@ -19,7 +20,9 @@ pub fn run(bench: &mut Bench, seed: u64, case: u64) -> Result<(), Difference> {
         18 => logging(bench, &mut prng),
         19 => keeping(bench, &mut prng),
         20 => reasons(bench, &mut prng),
-        _ => lanes(bench, &mut prng),
+        21 => lanes(bench, &mut prng),
+        22 => counting(bench, &mut prng),
+        _ => counted_line(bench, &mut prng),
     }
 }
 
@@ -335,4 +338,80 @@ fn keeping(bench: &mut Bench, prng: &mut Prng) -> Result<(), Difference> {
     // some six logs take all
     let capacity = starts.div_ceil(prng.between(1, 6));
     bench.going_on(prng, &settings, &numbers, &lent, (place, capacity))
+}
+
+/// Captures with totals: these are asked and filled, and a call keeps them that is often refused.
+fn counting(bench: &mut Bench, prng: &mut Prng) -> Result<(), Difference> {
+    for _ in 0..prng.between(4, 8) {
+        let mut stage = generate::stage(prng);
+        let settings = generate::settings_record(prng, &stage.s);
+        let client = client_record(prng, &mut stage.call, 64);
+        let mut numbers = generate::state_record(prng, &stage.state);
+        let port = generate::port_octet(prng, stage.port);
+        let lent = lend(prng, &stage.symbols);
+        let totals = LentTotals::new(prng, &stage.totals);
+        let mut counted = Counted::new(lent, totals);
+        // the longest are few
+        let places = if stage.symbols.octets.len() < SYMBOLS {
+            1
+        } else {
+            5
+        };
+        for _ in 0..places {
+            let place = generate::asked_place(prng, counted.symbols());
+            bench.starts_before(&counted, place)?;
+        }
+        bench.fill_totals(&mut counted.clone())?;
+        let on = (&mut numbers, port);
+        let sending = (&stage.call, client.as_ref());
+        let asked = generate::asked_place(prng, counted.symbols());
+        bench.send_counted(&settings, on, &mut counted, stage.place, sending, asked)?;
+    }
+    Ok(())
+}
+
+/// One line with its totals is written into, call after call, and asked in between; at times another
+/// hand writes, and the totals are filled again.
+fn counted_line(bench: &mut Bench, prng: &mut Prng) -> Result<(), Difference> {
+    let mut s = generate::valid_settings(prng);
+    let n = generate::line_length(prng);
+    let symbols = generate::starry(prng, n);
+    let totals = generate::totals(prng, &symbols);
+    let totals = LentTotals::new(prng, &totals);
+    let mut counted = Counted::new(lend(prng, &symbols), totals);
+    bench.fill_totals(&mut counted)?;
+    let mut state = generate::state(prng);
+    (state.timers, state.deficit) = ([0; 8], state.deficit.min(3));
+    let mut numbers = generate::state_record(prng, &state);
+    let mut last = 0;
+    for _ in 0..prng.between(3, 12) {
+        if prng.one_in(12) {
+            let symbol = prng.pick(&[(START, 1), (START, 0), (IDLE, 255)]);
+            for _ in 0..prng.between(1, 3) {
+                counted.scribble(prng.below(n), symbol);
+            }
+            let place = generate::asked_place(prng, counted.symbols());
+            bench.starts_before(&counted, place)?;
+            bench.fill_totals(&mut counted)?;
+        }
+        let mut call = generate::allowed(prng, &mut s);
+        let settings = generate::settings_record(prng, &s);
+        let client = client_record(prng, &mut call, 64);
+        let port = generate::port(prng);
+        let roomy = generate::roomy_place(prng, n, &call);
+        let mut place = prng.pick(&[last, last, roomy, roomy, roomy]);
+        if port == Port::FourLane && call.is_frame() && !prng.one_in(16) {
+            place -= place % 4;
+        }
+        let on = (&mut numbers, generate::port_octet(prng, port));
+        let sending = (&call, client.as_ref());
+        let asked = generate::asked_place(prng, counted.symbols());
+        let after = bench.send_counted(&settings, on, &mut counted, place, sending, asked)?;
+        last = after.unwrap_or(last);
+        if prng.coin() {
+            let place = generate::asked_place(prng, counted.symbols());
+            bench.starts_before(&counted, place)?;
+        }
+    }
+    Ok(())
 }

@@ -8,7 +8,8 @@ use fenhamper::{Capture, Counted, Fcs, Refusal, Sender, Way};
 use reference::{Answer, Check, Port, Reading, Sent, Settings, State};
 use std::fmt;
 
-/// Symbols that a call is not lent, on either side of those that it is; octets of a log likewise.
+/// Symbols that a call is not lent, on either side of those that it is; octets of a log and totals
+/// likewise.
 pub(crate) const AROUND: usize = 16;
 
 /// Symbols to lend. They stand in the middle of longer buffers, so that a look or a step past the
@@ -61,14 +62,18 @@ impl fmt::Debug for Hex {
 
 /// Where two buffers differ first. A place below 0 or beyond the length was not lent.
 #[derive(Debug, PartialEq)]
-pub(crate) struct Other {
+pub(crate) struct Other<T> {
     place: isize,
-    library: u8,
-    reference: u8,
+    library: T,
+    reference: T,
 }
 
-/// Of buffers with so many octets before those that were lent.
-pub(crate) fn first_other(library: &[u8], reference: &[u8], before: usize) -> Option<Other> {
+/// Of buffers with so many elements before those that were lent.
+pub(crate) fn first_other<T: Copy + PartialEq>(
+    library: &[T],
+    reference: &[T],
+    before: usize,
+) -> Option<Other<T>> {
     let mut pairs = library.iter().zip(reference);
     let at = pairs.position(|(library, reference)| library != reference)?;
     Some(Other {

@@ -54,7 +54,7 @@ struct Sides {
 }
 
 /// The answer's refusal, or 0.
-fn refusal<T>(answer: &Result<T, u8>) -> u8 {
+pub(crate) fn refusal<T>(answer: &Result<T, u8>) -> u8 {
     *answer.as_ref().err().unwrap_or(&0)
 }
 
@@ -416,6 +416,6 @@ fn written(expected: &Result<Record, u8>) -> raw::Record {
 }
 
 /// A face's answer, with the number of its refusal.
-fn by_number<T>(answer: Result<T, Refusal>) -> Result<T, u8> {
+pub(crate) fn by_number<T>(answer: Result<T, Refusal>) -> Result<T, u8> {
     answer.map_err(Refusal::number)
 }

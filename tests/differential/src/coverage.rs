@@ -2,6 +2,7 @@
 use crate::seen::{CSeen, FcsSeen, ReadingSeen, RowSeen, SendingSeen, WalkSeen};
 use crate::seen_log::{GoingOnSeen, KeepSeen, LogSeen};
 use crate::seen_reason::ReasonSeen;
+use crate::seen_totals::TotalsSeen;
 use crate::table;
 use std::fmt;
 
@@ -23,10 +24,49 @@ pub(crate) enum When {
     Keep(Box<dyn Fn(&KeepSeen) -> bool>),
     /// By walks that went on with other logs.
     GoingOn(Box<dyn Fn(&GoingOnSeen) -> bool>),
+    /// By a call over the totals of a capture.
+    Totals(Box<dyn Fn(&TotalsSeen) -> bool>),
     /// By a call through the C face.
     C(Box<dyn Fn(&CSeen) -> bool>),
     /// By an FCS.
     Fcs(Box<dyn Fn(&FcsSeen) -> bool>),
+}
+
+/// The sorts of calls that rows are hit by.
+#[derive(Clone, Copy)]
+enum Sort {
+    Reading,
+    Walk,
+    Reason,
+    Sending,
+    Row,
+    Log,
+    Keep,
+    GoingOn,
+    Totals,
+    C,
+    Fcs,
+}
+
+/// How many sorts there are.
+const SORTS: usize = Sort::Fcs as usize + 1;
+
+impl When {
+    fn sort(&self) -> Sort {
+        match self {
+            When::Reading(_) => Sort::Reading,
+            When::Walk(_) => Sort::Walk,
+            When::Reason(_) => Sort::Reason,
+            When::Sending(_) => Sort::Sending,
+            When::Row(_) => Sort::Row,
+            When::Log(_) => Sort::Log,
+            When::Keep(_) => Sort::Keep,
+            When::GoingOn(_) => Sort::GoingOn,
+            When::Totals(_) => Sort::Totals,
+            When::C(_) => Sort::C,
+            When::Fcs(_) => Sort::Fcs,
+        }
+    }
 }
 
 /// A row: what it stands for, and how often it was hit.
@@ -39,94 +79,101 @@ pub(crate) struct Row {
 /// The table.
 pub struct Coverage {
     rows: Vec<Row>,
+    /// Where the rows of each sort stand, so that no call goes through all of them.
+    sorts: [Vec<usize>; SORTS],
 }
 
 impl Coverage {
     /// The table before any call.
     pub(crate) fn new() -> Coverage {
-        Coverage {
-            rows: table::rows(),
+        let rows = table::rows();
+        let mut sorts = [(); SORTS].map(|()| Vec::new());
+        for (i, row) in rows.iter().enumerate() {
+            sorts[row.when.sort() as usize].push(i);
+        }
+        Coverage { rows, sorts }
+    }
+
+    /// Counts the rows of a sort that are hit.
+    fn hit(&mut self, sort: Sort, is_hit: impl Fn(&When) -> bool) {
+        for &i in &self.sorts[sort as usize] {
+            let row = &mut self.rows[i];
+            row.count += u64::from(is_hit(&row.when));
         }
     }
 
     pub(crate) fn reading(&mut self, seen: &ReadingSeen) {
-        for row in &mut self.rows {
-            if let When::Reading(test) = &row.when {
-                row.count += u64::from(test(seen));
-            }
-        }
+        self.hit(
+            Sort::Reading,
+            |when| matches!(when, When::Reading(test) if test(seen)),
+        );
     }
 
     pub(crate) fn walk(&mut self, seen: &WalkSeen) {
-        for row in &mut self.rows {
-            if let When::Walk(test) = &row.when {
-                row.count += u64::from(test(seen));
-            }
-        }
+        self.hit(
+            Sort::Walk,
+            |when| matches!(when, When::Walk(test) if test(seen)),
+        );
     }
 
     pub(crate) fn reason(&mut self, seen: &ReasonSeen) {
-        for row in &mut self.rows {
-            if let When::Reason(test) = &row.when {
-                row.count += u64::from(test(seen));
-            }
-        }
+        self.hit(
+            Sort::Reason,
+            |when| matches!(when, When::Reason(test) if test(seen)),
+        );
     }
 
     pub(crate) fn sending(&mut self, seen: &SendingSeen) {
-        for row in &mut self.rows {
-            if let When::Sending(test) = &row.when {
-                row.count += u64::from(test(seen));
-            }
-        }
+        self.hit(
+            Sort::Sending,
+            |when| matches!(when, When::Sending(test) if test(seen)),
+        );
     }
 
     pub(crate) fn row(&mut self, seen: &RowSeen) {
-        for row in &mut self.rows {
-            if let When::Row(test) = &row.when {
-                row.count += u64::from(test(seen));
-            }
-        }
+        self.hit(
+            Sort::Row,
+            |when| matches!(when, When::Row(test) if test(seen)),
+        );
     }
 
     pub(crate) fn log(&mut self, seen: &LogSeen) {
-        for row in &mut self.rows {
-            if let When::Log(test) = &row.when {
-                row.count += u64::from(test(seen));
-            }
-        }
+        self.hit(
+            Sort::Log,
+            |when| matches!(when, When::Log(test) if test(seen)),
+        );
     }
 
     pub(crate) fn keep(&mut self, seen: &KeepSeen) {
-        for row in &mut self.rows {
-            if let When::Keep(test) = &row.when {
-                row.count += u64::from(test(seen));
-            }
-        }
+        self.hit(
+            Sort::Keep,
+            |when| matches!(when, When::Keep(test) if test(seen)),
+        );
     }
 
     pub(crate) fn going_on(&mut self, seen: &GoingOnSeen) {
-        for row in &mut self.rows {
-            if let When::GoingOn(test) = &row.when {
-                row.count += u64::from(test(seen));
-            }
-        }
+        self.hit(
+            Sort::GoingOn,
+            |when| matches!(when, When::GoingOn(test) if test(seen)),
+        );
+    }
+
+    pub(crate) fn totals(&mut self, seen: &TotalsSeen) {
+        self.hit(
+            Sort::Totals,
+            |when| matches!(when, When::Totals(test) if test(seen)),
+        );
     }
 
     pub(crate) fn c(&mut self, seen: &CSeen) {
-        for row in &mut self.rows {
-            if let When::C(test) = &row.when {
-                row.count += u64::from(test(seen));
-            }
-        }
+        self.hit(Sort::C, |when| matches!(when, When::C(test) if test(seen)));
     }
 
     pub(crate) fn fcs(&mut self, seen: &FcsSeen) {
-        for row in &mut self.rows {
-            if let When::Fcs(test) = &row.when {
-                row.count += u64::from(test(seen));
-            }
-        }
+        self.hit(
+            Sort::Fcs,
+            |when| matches!(when, When::Fcs(test) if test(seen)),
+        );
     }
 
     /// The rows that were never hit.

@@ -1,5 +1,5 @@
 //! The proved library, through its Rust face and through its C face, against the reference
-//! implementation of document 01 and of items 1 to 8 of document 02, on drawn inputs.
+//! implementation of document 01 and of items 1 to 9 of document 02, on drawn inputs.
 #![deny(unsafe_code)]
 #![warn(missing_docs)]
 
@@ -16,10 +16,12 @@ mod compare_c;
 mod compare_log;
 mod compare_reason;
 mod compare_row;
+mod compare_totals;
 mod face;
 mod raw;
 mod records;
 mod seen;
 mod seen_log;
 mod seen_reason;
+mod seen_totals;
 mod table;

@@ -16,7 +16,7 @@ pub const OUTCOMES: [&str; 11] = [
 ];
 
 /// The header's names of the refusals, in words, behind their numbers.
-pub const REFUSALS: [(u8, &str); 14] = [
+pub const REFUSALS: [(u8, &str); 16] = [
     (1, "bad settings"),
     (2, "bad buffers"),
     (3, "bad place"),
@@ -31,6 +31,8 @@ pub const REFUSALS: [(u8, &str); 14] = [
     (12, "log full"),
     (13, "not used"),
     (19, "high deficit"),
+    (21, "wrong totals"),
+    (22, "high total"),
 ];
 
 /// The name of an outcome.

@@ -7,6 +7,11 @@
 //! to it alone.
 #![allow(unsafe_code)]
 
+mod totals;
+
+pub use totals::{fill_idle_counted, fill_totals, starts_before};
+pub use totals::{send_client_counted, send_pause_counted, send_pfc_counted};
+
 /// Octets of an address.
 pub const ADDRESS: usize = 6;
 
@@ -139,7 +144,7 @@ pub type State = [u64; STATE];
 
 /// What stands in an answer before the call: every number of it is written.
 const UNWRITTEN: u64 = 0xA5A5_A5A5_A5A5_A5A5;
-/// What stands in a record and in a number before a call on a log, which a refusal leaves.
+/// What stands in a record and in a number before a call that gives one, which a refusal leaves.
 pub const LEFT_RECORD: Record = Record([0xA5; RECORD]);
 pub const LEFT_NUMBER: usize = UNWRITTEN as usize;
 

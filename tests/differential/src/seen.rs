@@ -366,6 +366,7 @@ pub const GAPS: [[(usize, u8); 4]; 4] = [
 ];
 
 /// A sending.
+#[derive(Clone, Copy)]
 pub struct SendingSeen<'a> {
     /// What was to be sent.
     pub call: &'a Sending,
@@ -532,6 +533,8 @@ pub enum CCall<'a> {
     Keep(KeepSeen<'a>),
     /// A sending.
     Send(SendingSeen<'a>),
+    /// A sending that keeps the totals.
+    Count(SendingSeen<'a>),
 }
 
 impl CSeen<'_> {
@@ -542,6 +545,12 @@ impl CSeen<'_> {
             CCall::Walk(_) => "walk",
             CCall::Keep(_) => "walk_log",
             CCall::Send(sending) => sending.call.name(),
+            CCall::Count(sending) => match sending.kind() {
+                Kind::Client => "counted client",
+                Kind::Pause => "counted pause",
+                Kind::Pfc => "counted PFC",
+                Kind::Idle => "counted idle",
+            },
         }
     }
 
@@ -551,7 +560,7 @@ impl CSeen<'_> {
             CCall::Read(reading) => reading.refusal,
             CCall::Walk(walk) => walk.refusal(),
             CCall::Keep(walk) => walk.refusal(),
-            CCall::Send(sending) => sending.refusal(),
+            CCall::Send(sending) | CCall::Count(sending) => sending.refusal(),
         }
     }
 
@@ -563,6 +572,11 @@ impl CSeen<'_> {
     /// A sending of which this is true.
     pub fn sent(&self, test: impl FnOnce(&SendingSeen) -> bool) -> bool {
         matches!(&self.call, CCall::Send(sending) if test(sending))
+    }
+
+    /// A sending that keeps the totals, of which this is true.
+    pub fn counted(&self, test: impl FnOnce(&SendingSeen) -> bool) -> bool {
+        matches!(&self.call, CCall::Count(sending) if test(sending))
     }
 
     /// A client frame that was written, and of whose record and frame this is true.

@@ -55,6 +55,17 @@ pub fn log(octets: &[u8], whole: bool) -> String {
     format!("{} octets: {}", octets.len(), shortened(records, whole))
 }
 
+/// Totals, `x n` behind one that stands n times.
+pub fn totals(totals: &[u16], whole: bool) -> String {
+    let equal = totals.chunk_by(|a, b| a == b);
+    let piece = |run: &[u16]| match run.len() {
+        1 => run[0].to_string(),
+        times => format!("{} x {times}", run[0]),
+    };
+    let pieces = shortened(equal.map(piece).collect(), whole);
+    format!("{} totals: {pieces}", totals.len())
+}
+
 /// A sending call but for settings, state, buffers and place.
 pub fn sending(call: &Sending, whole: bool) -> String {
     match call {

@@ -5,7 +5,7 @@ use fenhamper::{Outcome, Refusal};
 const HEADER: &str = include_str!("../../../include/fenhamper.h");
 
 /// In the order of their numbers.
-const ALL_REFUSALS: [Refusal; 14] = [
+const ALL_REFUSALS: [Refusal; 16] = [
     Refusal::BadSettings,
     Refusal::BadBuffers,
     Refusal::BadPlace,
@@ -20,6 +20,8 @@ const ALL_REFUSALS: [Refusal; 14] = [
     Refusal::LogFull,
     Refusal::NotUsed,
     Refusal::HighDeficit,
+    Refusal::WrongTotals,
+    Refusal::HighTotal,
 ];
 
 /// Whether the header gives this name this number, and says it in these words.

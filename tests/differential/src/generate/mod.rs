@@ -8,6 +8,7 @@ mod records;
 mod sendings;
 mod settings;
 mod tags;
+mod totals;
 
 pub use captures::{capture, longest_capture, place, starts, tabled_capture, Symbols};
 pub use logs::{log, log_with_room, record, record_number, short_log};
@@ -19,6 +20,8 @@ pub use sendings::{short_frame, timed_frame};
 pub use settings::{
     settings, state, valid_settings, BROADCAST, COUNTER_BIT, HIGHEST_BIT, RESERVED_GROUP,
 };
+
+pub use totals::{allowed, asked_place, line_length, roomy_place, stage, starry, totals, MARKS};
 
 /// The most symbols that a call takes.
 pub const SYMBOLS: usize = 65_536;

@@ -133,7 +133,7 @@ pub fn sending(prng: &mut Prng, s: &Settings, room: usize) -> Sending {
     }
 }
 
-fn pfc(prng: &mut Prng) -> Sending {
+pub fn pfc(prng: &mut Prng) -> Sending {
     let any = prng.octet();
     let named = prng.pick(&[0x00, 0xFF, 0x01, 0x80, any]);
     Sending::Pfc(named, [(); 8].map(|()| quanta(prng)))

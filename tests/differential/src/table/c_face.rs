@@ -10,7 +10,19 @@ use reference::Form;
 pub const ON: [u8; 3] = [2, 128, 255];
 
 /// The calls that take a state.
-pub const CALLS: [&str; 7] = ["read", "walk", "walk_log", "client", "pause", "PFC", "idle"];
+pub const CALLS: [&str; 11] = [
+    "read",
+    "walk",
+    "walk_log",
+    "client",
+    "pause",
+    "PFC",
+    "idle",
+    "counted client",
+    "counted pause",
+    "counted PFC",
+    "counted idle",
+];
 
 /// The timers among a state's numbers.
 const TIMERS: Range<usize> = raw::TIMERS..raw::DEFICIT;
@@ -121,7 +133,8 @@ fn high_bits(t: &mut Table) {
         move |c| its_timer(c).is_some_and(|n| high(n) && n as u32 == 0) && c.client(|_, _| true),
     );
     t.c("C: client: its timer is at 2^31: refusal 9", move |c| {
-        its_timer(c).is_some_and(|n| n as u32 == HIGHEST_BIT) && c.refusal() == 9
+        let at = its_timer(c).is_some_and(|n| n as u32 == HIGHEST_BIT);
+        at && c.sent(|w| w.refusal() == 9)
     });
     for call in ["client", "pause", "PFC", "idle"] {
         let name = format!("C: {call}: a timer at 2^31 and high bits: lowered by the symbols");
@@ -184,7 +197,13 @@ fn refused_states(t: &mut Table) {
     for refusal in (1..=11).chain([19]) {
         t.c(
             format!("C: refusal {refusal}: every number stays"),
-            move |c| c.refusal() == refusal && stays(c),
+            move |c| c.refusal() == refusal && !c.counted(|_| true) && stays(c),
+        );
+    }
+    for refusal in (1..=10).chain([19, 21, 22]) {
+        t.c(
+            format!("C: with totals: refusal {refusal}: every number stays"),
+            move |c| c.refusal() == refusal && c.counted(|_| true) && stays(c),
         );
     }
 }

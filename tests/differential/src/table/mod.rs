@@ -2,6 +2,7 @@
 //! the library too, gives that answer.
 mod c_face;
 mod control;
+mod counted;
 mod frames;
 mod keeping;
 mod log;
@@ -10,12 +11,14 @@ mod reading;
 mod reasons;
 mod sending;
 mod tags;
+mod totals;
 mod ways;
 
 use crate::coverage::{Row, When};
 use crate::seen::{CSeen, FcsSeen, ReadingSeen, RowSeen, SendingSeen, WalkSeen};
 use crate::seen_log::{GoingOnSeen, KeepSeen, LogSeen};
 use crate::seen_reason::ReasonSeen;
+use crate::seen_totals::TotalsSeen;
 use std::collections::BTreeSet;
 
 /// All rows, none hit yet.
@@ -31,6 +34,8 @@ pub(crate) fn rows() -> Vec<Row> {
     ports::rows(&mut table);
     log::rows(&mut table);
     keeping::rows(&mut table);
+    totals::rows(&mut table);
+    counted::rows(&mut table);
     c_face::rows(&mut table);
     fcs_rows(&mut table);
     let names: BTreeSet<_> = table.0.iter().map(|row| &row.name).collect();
@@ -93,6 +98,10 @@ impl Table {
 
     fn going_on(&mut self, name: impl Into<String>, test: impl Fn(&GoingOnSeen) -> bool + 'static) {
         self.row(name, When::GoingOn(Box::new(test)));
+    }
+
+    fn totals(&mut self, name: impl Into<String>, test: impl Fn(&TotalsSeen) -> bool + 'static) {
+        self.row(name, When::Totals(Box::new(test)));
     }
 
     fn c(&mut self, name: impl Into<String>, test: impl Fn(&CSeen) -> bool + 'static) {

@@ -226,20 +226,26 @@ fn others_leave_the_count(t: &mut Table) {
     }
 }
 
-/// The port's octet: 0 is plain, anything else four lanes.
+/// The port's octet: 0 is plain, anything else four lanes; of the calls that keep totals too.
 fn c_ports(t: &mut Table) {
     for (kind, call, _) in FRAMES {
         for octet in ON.into_iter().chain([1]) {
-            t.c(
-                format!("C: {call}: port is {octet}: four lanes"),
-                move |c| {
-                    let refused = |w: &SendingSeen| w.refusal() == 3 && w.place < w.lengths.0;
-                    c.port == octet && c.sent(|w| w.kind() == kind && refused(w))
-                },
-            );
+            let refused = move |w: &SendingSeen| {
+                w.kind() == kind && w.refusal() == 3 && w.place < w.lengths.0
+            };
+            let name = format!("C: {call}: port is {octet}: four lanes");
+            t.c(name, move |c| c.port == octet && c.sent(refused));
+            let name = format!("C: counted {call}: port is {octet}: four lanes");
+            t.c(name, move |c| c.port == octet && c.counted(refused));
         }
+        let plain = move |w: &SendingSeen| {
+            w.kind() == kind && !w.place.is_multiple_of(4) && w.wrote().is_some()
+        };
         t.c(format!("C: {call}: port is 0: plain"), move |c| {
-            c.port == 0 && c.sent(|w| w.kind() == kind && w.place % 4 != 0 && w.wrote().is_some())
+            c.port == 0 && c.sent(plain)
+        });
+        t.c(format!("C: counted {call}: port is 0: plain"), move |c| {
+            c.port == 0 && c.counted(plain)
         });
     }
     for octet in ON {
@@ -255,17 +261,19 @@ fn c_ports(t: &mut Table) {
 
 /// The deficit count of C's states, which is read whole.
 fn c_counts(t: &mut Table) {
-    for (name, bit) in WIDE {
+    for (wide, bit) in WIDE {
         let is = move |number: u64| number >> bit == 1 && number & ((1 << bit) - 1) <= 3;
         for (kind, call, _) in FRAMES {
-            let name = format!("C: {call}: deficit {name} and up to 3: refusal 19");
+            let name = format!("C: {call}: deficit {wide} and up to 3: refusal 19");
+            let refused = move |w: &SendingSeen| w.kind() == kind && w.refusal() == 19;
+            t.c(name, move |c| is(c.before[raw::DEFICIT]) && c.sent(refused));
+            let name = format!("C: counted {call}: deficit {wide} and up to 3: refusal 19");
             t.c(name, move |c| {
-                let refused = |w: &SendingSeen| w.kind() == kind && w.refusal() == 19;
-                is(c.before[raw::DEFICIT]) && c.sent(refused)
+                is(c.before[raw::DEFICIT]) && c.counted(refused)
             });
         }
         for call in CALLS {
-            let name = format!("C: {call}: deficit {name} and up to 3: stays");
+            let name = format!("C: {call}: deficit {wide} and up to 3: stays");
             t.c(name, move |c| {
                 let at = c.before[raw::DEFICIT];
                 is(at) && c.name() == call && c.refusal() == 0 && c.after[raw::DEFICIT] == at

@@ -1,0 +1,110 @@
+-- `fenhamper::fenhamper_fill_idle_counted` meets its contract: refused by the tests up to 22, or the exported call without totals and its blocks counted
+-- anew. Assumes nothing.
+use mathlib.Core.Path.{_≡_, sym, _∙_}
+use borrow.Author.Needs.{needs}
+use denote.Ref.{now}
+use Rattle.line.specs.Table.{first}
+use Rattle.station.specs.declared.Checked.the-variants.{Fine}
+use Rattle.totals.specs.Totals.{beforeRefusals}
+use Rattle.totals.proofs.Tests.{known}
+use Rattle.counting.specs.Counting.{idleCounting}
+use Rattle.counting.proofs.Calls.{idle-leaves}
+use Rattle.fenhamper.specs.Face.{stateOf}
+use Rattle.fenhamper.proofs.Crossing.{refused-crosses, made-crosses, countable-crossed}
+use Rattle.fenhamper.proofs.fenhamper_fill_idle_counted.Statement.{statement}
+use Rattle.fenhamper.proofs.fenhamper_fill_idle_counted.Tie as tie
+
+-- the places: the start, seen from behind the tests; the tests, from behind a refusal and from behind the call without totals; that call, from where its
+-- blocks are counted anew
+abbrev start : tie.After-check-before → tie.Start
+start c = c .before .before .before .before .before .before .before
+
+abbrev refused : tie.After-refused-numbers → tie.After-check-before
+refused c = c .before .before .before .before
+
+abbrev passed : tie.After-fenhamper-fill-idle → tie.After-enum-told
+passed c = c .before .before .before .before .before
+
+abbrev made : tie.After-recount-arg4 → tie.After-fenhamper-fill-idle
+made c = c .before .before .before .before .before .before .before .before
+
+fine : (c : tie.After-enum-told) → let a = start (c .before .before) .args in
+    first (beforeRefusals (now (a .octets)) (now (a .marks)) (a .place) (now (a .totals))) ≡ Fine
+fine c = sym (c .before .before .check-before .ensures) ∙ c .enum-told .given .1
+
+check-before-requires : tie.Need-check-before-requires
+check-before-requires c κs = search needs
+
+enum-known-checked : tie.Need-enum-known-checked
+enum-known-checked c = search needs
+
+refused-numbers-requires : tie.Need-refused-numbers-requires
+refused-numbers-requires c κs = search needs
+
+same-length : tie.Need-same-length
+same-length c = search needs
+
+same-length-2 : tie.Need-same-length-2
+same-length-2 c = search needs
+
+same-length-3 : tie.Need-same-length-3
+same-length-3 c = search needs
+
+returns : tie.Need-returns
+unfolding idleCounting
+returns c =
+    refused-crosses _ _ _ _ _ _ _ _ _ (sym (refused c .check-before .ensures) ∙ c .before .before .checked .given .1) (c .refused-numbers .ensures)
+
+enum-told : tie.Need-enum-told
+enum-told c = search needs
+
+fenhamper-fill-idle-requires : tie.Need-fenhamper-fill-idle-requires
+fenhamper-fill-idle-requires c κs = search needs
+
+element-copy-out-recount : tie.Need-element-copy-out-recount
+element-copy-out-recount c = search needs
+
+recount-requires : tie.Need-recount-requires
+recount-requires c κs =
+    let m = made c in
+    let f = passed m in
+    let a = start (f .before .before) .args in
+    let k = known _ _ _ _ (fine f) in
+    let n = countable-crossed _ _ k (idle-leaves (stateOf (now (a .state))) _ _ _ _ k (a .idles)) (m .fenhamper-fill-idle .ensures) in
+    (n .even, n .inside, n .count)
+
+same-length-4 : tie.Need-same-length-4
+same-length-4 c = search needs
+
+same-length-5 : tie.Need-same-length-5
+same-length-5 c = search needs
+
+same-length-6 : tie.Need-same-length-6
+same-length-6 c = search needs
+
+returns-2 : tie.Need-returns-2
+unfolding idleCounting
+returns-2 c =
+    let r = c .before .before in
+    let m = made (r .before) in
+    made-crosses _ _ _ _ _ _ _ _ (fine (passed m)) (m .fenhamper-fill-idle .ensures) (r .recount .ensures)
+
+pub fenhamper-fill-idle-counted-spec : {M : Type 1} → statement M
+fenhamper-fill-idle-counted-spec =
+    tie.close
+    (tie.spec
+    check-before-requires
+    enum-known-checked
+    refused-numbers-requires
+    same-length
+    same-length-2
+    same-length-3
+    returns
+    enum-told
+    fenhamper-fill-idle-requires
+    element-copy-out-recount
+    recount-requires
+    same-length-4
+    same-length-5
+    same-length-6
+    returns-2)

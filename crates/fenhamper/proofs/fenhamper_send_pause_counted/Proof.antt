@@ -1,0 +1,137 @@
+-- `fenhamper::fenhamper_send_pause_counted` meets its contract: refused by the tests up to 22, or the exported call without totals and its blocks counted anew. Assumes nothing.
+use mathlib.Core.Path.{_≡_, sym, ap₂, _∙_}
+use borrow.Author.Needs.{needs}
+use denote.Ref.{now}
+use lib.ListN.{getD}
+use Rattle.line.specs.Table.{first}
+use Rattle.station.specs.declared.Checked.the-variants.{Fine}
+use Rattle.station.specs.declared.Port.{Port}
+use Rattle.station.specs.declared.Settings.{Settings}
+use Rattle.counting.specs.Counting.{frameTotals, pauseCounting}
+use Rattle.counting.proofs.Calls.{known-frame, pause-leaves}
+use Rattle.fenhamper.specs.Face.{settingsOf, stateOf, portOf, quantaOf}
+use Rattle.fenhamper.proofs.Crossing.{refused-crosses, made-crosses, countable-crossed}
+use Rattle.fenhamper.proofs.fenhamper_send_pause_counted.Statement.{statement}
+use Rattle.fenhamper.proofs.fenhamper_send_pause_counted.Tie as tie
+
+-- the places: the start and what was decoded, seen from behind the tests; the tests, from behind a refusal and from behind the call without totals; that
+-- call, from where its blocks are counted anew
+abbrev start : tie.After-check-frame → tie.Start
+start c = c .before .before .before .before .before .before .before .before .before .before
+
+abbrev ported : tie.After-check-frame → tie.After-port-of
+ported c = c .before .before .before .before .before
+
+abbrev refused : tie.After-refused-numbers → tie.After-check-frame
+refused c = c .before .before .before .before
+
+abbrev passed : tie.After-fenhamper-send-pause → tie.After-enum-told
+passed c = c .before .before .before .before .before
+
+abbrev made : tie.After-recount-arg4 → tie.After-fenhamper-send-pause
+made c = c .before .before .before .before .before .before .before .before
+
+-- what the tests gave
+tested : (c : tie.After-check-frame) → let a = start c .args in
+    c .check-frame .result
+    ≡ first (frameTotals (settingsOf (now (a .s))) (portOf (a .port)) (stateOf (now (a .state)) .deficit) (now (a .octets)) (now (a .marks)) (a .place) (now (a .totals)))
+unfolding stateOf
+tested c =
+    let a = start c .args in
+    c .check-frame .ensures
+    ∙ ap₂ (λ (s : Settings) (p : Port). first (frameTotals s p (getD (now (a .state)) 19 0) (now (a .octets)) (now (a .marks)) (a .place) (now (a .totals))))
+    (ported c .before .settings .ensures) (ported c .port-of .ensures)
+
+fine : (c : tie.After-enum-told) → let a = start (c .before .before) .args in
+    first (frameTotals (settingsOf (now (a .s))) (portOf (a .port)) (stateOf (now (a .state)) .deficit) (now (a .octets)) (now (a .marks)) (a .place) (now (a .totals))) ≡ Fine
+fine c = sym (tested (c .before .before)) ∙ c .enum-told .given .1
+
+settings-requires : tie.Need-settings-requires
+settings-requires c κs = search needs
+
+port-of-requires : tie.Need-port-of-requires
+port-of-requires c κs = search needs
+
+element-copy-out-check-frame : tie.Need-element-copy-out-check-frame
+element-copy-out-check-frame c = search needs
+
+check-frame-requires : tie.Need-check-frame-requires
+check-frame-requires c κs = search needs
+
+enum-known-checked : tie.Need-enum-known-checked
+enum-known-checked c = search needs
+
+refused-numbers-requires : tie.Need-refused-numbers-requires
+refused-numbers-requires c κs = search needs
+
+same-length : tie.Need-same-length
+same-length c = search needs
+
+same-length-2 : tie.Need-same-length-2
+same-length-2 c = search needs
+
+same-length-3 : tie.Need-same-length-3
+same-length-3 c = search needs
+
+returns : tie.Need-returns
+unfolding pauseCounting
+returns c =
+    refused-crosses _ _ _ _ _ _ _ _ _ (sym (tested (refused c)) ∙ c .before .before .checked .given .1) (c .refused-numbers .ensures)
+
+enum-told : tie.Need-enum-told
+enum-told c = search needs
+
+fenhamper-send-pause-requires : tie.Need-fenhamper-send-pause-requires
+fenhamper-send-pause-requires c κs = search needs
+
+element-copy-out-recount : tie.Need-element-copy-out-recount
+element-copy-out-recount c = search needs
+
+recount-requires : tie.Need-recount-requires
+recount-requires c κs =
+    let m = made c in
+    let f = passed m in
+    let a = start (f .before .before) .args in
+    let k = known-frame _ _ _ _ _ _ _ (fine f) in
+    let n = countable-crossed _ _ k (pause-leaves (stateOf (now (a .state))) _ _ _ _ k (settingsOf (now (a .s))) (portOf (a .port)) (quantaOf (a .quanta)))
+    (m .fenhamper-send-pause .ensures) in
+    (n .even, n .inside, n .count)
+
+same-length-4 : tie.Need-same-length-4
+same-length-4 c = search needs
+
+same-length-5 : tie.Need-same-length-5
+same-length-5 c = search needs
+
+same-length-6 : tie.Need-same-length-6
+same-length-6 c = search needs
+
+returns-2 : tie.Need-returns-2
+unfolding pauseCounting
+returns-2 c =
+    let r = c .before .before in
+    let m = made (r .before) in
+    made-crosses _ _ _ _ _ _ _ _ (fine (passed m)) (m .fenhamper-send-pause .ensures) (r .recount .ensures)
+
+pub fenhamper-send-pause-counted-spec : {M : Type 1} → statement M
+fenhamper-send-pause-counted-spec =
+    tie.close
+    (tie.spec
+    settings-requires
+    port-of-requires
+    element-copy-out-check-frame
+    check-frame-requires
+    enum-known-checked
+    refused-numbers-requires
+    same-length
+    same-length-2
+    same-length-3
+    returns
+    enum-told
+    fenhamper-send-pause-requires
+    element-copy-out-recount
+    recount-requires
+    same-length-4
+    same-length-5
+    same-length-6
+    returns-2)
