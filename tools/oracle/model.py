@@ -1,4 +1,4 @@
-"""An independent model of document 01 with items 1 to 9 of document 02, written from their text alone and not from the definitions in crates/*/specs.
+"""An independent model of document 01 with items 1 to 10 of document 02, written from their text alone and not from the definitions in crates/*/specs.
 
 Each piece stands under the sentence of the documents that it renders. The check is zlib's crc32, not a loop of our own, and a log's record is laid
 out by struct.
@@ -40,8 +40,6 @@ def is_start(octet: int, mark: int) -> bool:
 @dataclass(frozen=True)
 class Settings:
     own: List[int]
-    listed: List[List[int]]
-    count: int
     broadcast: bool
     promiscuous: bool
     checking: bool
@@ -74,8 +72,9 @@ def screen(state: State) -> List[int]:
 
 
 def bad_settings(s: Settings) -> bool:
-    """1: "own address has its group bit (lowest bit of the first octet), listed count above 4, or M outside 1518 to 9618" """
-    return s.own[0] & 1 == 1 or s.count > 4 or not 1518 <= s.limit <= 9618
+    """1: "own address has its group bit (lowest bit of the first octet), …, or M outside 1518 to 9618"; item 10: "In refusal 1 the listed count falls
+    away." """
+    return s.own[0] & 1 == 1 or not 1518 <= s.limit <= 9618
 
 
 def bad_buffers(octets: List[int], marks: List[int]) -> bool:
@@ -85,13 +84,71 @@ def bad_buffers(octets: List[int], marks: List[int]) -> bool:
 
 def order(refusal: int) -> float:
     """"Lowest number first."; item 1: "new 10, …, tested after 6 and before 7"; item 5: "3 …, then new 19"; item 9: "Refusals, after 3 and 19 …: 21 …;
-    22 …" """
-    return {10: 6.5, 19: 3.5, 21: 3.6, 22: 3.7}.get(refusal, refusal)
+    22 …"; item 10: "14 …, tested right after 1; 2 and 3 then …; 20 …; then lowest first 15 …"; "When adding, 17 comes before 15 and 16." """
+    return {10: 6.5, 14: 1.5, 17: 14.5, 19: 3.5, 20: 3.8, 21: 3.6, 22: 3.7}.get(refusal, refusal)
 
 
 def first(*tests: Tuple[int, bool]) -> Optional[int]:
     """The refusal that is given."""
     return min((number for number, holds in tests if holds), key=order, default=None)
+
+
+# ---- Two jobs on one tester (item 10): the table
+
+# "one address table of 16 entries": each is free (None) or held, with the job and its address.
+Entry = Optional[Tuple[int, List[int]]]
+Table = List[Entry]
+ENTRIES, MOST_HELD = 16, 12
+EMPTY: Table = [None] * ENTRIES
+Own = List[Tuple[int, List[int]]]  # entries of one job: their numbers, from 0 on, and addresses
+
+
+def bad_job(job: int) -> bool:
+    """14: "job above 1" """
+    return job > 1
+
+
+def own_entries(table: Table, job: int) -> Own:
+    return [(n, entry[1]) for n, entry in enumerate(table) if entry is not None and entry[0] == job]
+
+
+def bad_table(table: Table) -> bool:
+    """20: "a table where a job holds above 12 or has an address twice"; open point: each of the two jobs, whichever one calls."""
+    addresses = [[address for _, address in own_entries(table, job)] for job in (0, 1)]
+    return any(len(held) > MOST_HELD or any(held.count(address) > 1 for address in held) for held in addresses)
+
+
+@dataclass
+class TableCall:
+    refusal: int  # 0: not refused
+    entry: Optional[int]  # the one taken or freed
+    table: Table
+
+
+def with_entry(table: Table, n: int, entry: Entry) -> TableCall:
+    after = table[:n] + [entry] + table[n + 1:]
+    assert len(after) == ENTRIES and not bad_table(after)
+    return TableCall(0, n, after)
+
+
+def adding(table: Table, job: int, address: List[int]) -> TableCall:
+    """"An addition takes the lowest free entry, so freed ones are used again."; "Table calls give only 14 to 18 and 20." Open point: no address is refused
+    for what it is."""
+    held, free = own_entries(table, job), [n for n, entry in enumerate(table) if entry is None]
+    refusal = first((14, bad_job(job)), (20, bad_table(table)), (17, address in [a for _, a in held]),  # "already listed by this job"
+                    (15, len(held) == MOST_HELD), (16, not free))  # "holds 12"; "all 16 in use"
+    if refusal:
+        # "Each holds at most 12, so each always gets 4 whatever the other does."
+        assert refusal != 16 or len(held) >= 4
+        return TableCall(refusal, None, table)
+    return with_entry(table, free[0], (job, address))
+
+
+def removing(table: Table, job: int, address: List[int]) -> TableCall:
+    """18: "not listed by this job" """
+    entries = [n for n, a in own_entries(table, job) if a == address]
+    refusal = first((14, bad_job(job)), (20, bad_table(table)), (18, not entries))
+    return TableCall(refusal, None, table) if refusal else with_entry(table, entries[0], None)
 
 
 # ---- FCS
@@ -168,36 +225,37 @@ class Frame:
         """"only the first `field` octets are handed out"; "With checking off, … all data is handed out." """
         return self.data[:self.field] if s.checking and self.field < 46 else self.data
 
-    def accepted(self, s: Settings) -> bool:
-        """The address rule."""
+    def accepted(self, s: Settings, mine: Own = ()) -> bool:
+        """The address rule; item 10: listed are the job's own entries of the table."""
         if s.promiscuous:  # "Promiscuous accepts all."
             return True
         if self.destination == BROADCAST:  # "accepted exactly if its setting is on; a listed broadcast address never matches"
             return s.broadcast
         # "Else the destination must equal the own address or a listed one, all six octets."
-        return self.destination == s.own or self.destination in s.listed[:s.count]
+        return self.destination == s.own or self.destination in [entry for _, entry in mine]
 
-    def address(self, s: Settings) -> int:
-        """Item 7: "1 own, 2 to 5 the first listed entry that matches, 6 broadcast, 7 promiscuous only, 0 not accepted" """
-        tests = [(1, self.destination == s.own)] + [(2 + n, self.destination == entry) for n, entry in enumerate(s.listed[:s.count])]
+    def address(self, s: Settings, mine: Own = ()) -> int:
+        """Item 7: "1 own, 2 to 5 the first listed entry that matches, 6 broadcast, 7 promiscuous only, 0 not accepted"; item 10: "16 plus the entry for
+        listed ones" """
+        tests = [(1, self.destination == s.own)] + [(16 + n, self.destination == entry) for n, entry in mine]
         if self.destination == BROADCAST:  # "broadcast is 6 if its setting is on, else 7 or 0, listed or not"
             tests = [(6, s.broadcast)]
         if self.control and self.destination == RESERVED_GROUP:  # "Every control frame to the reserved group says 8, listed or not."
             tests = [(8, True)]
         # "Own address and list are tried before promiscuous"
         number = next(number for number, holds in tests + [(7, s.promiscuous), (0, True)] if holds)
-        assert (number == 0) == self.filtered(s)  # "Accepted and refused stay as they are."
+        assert (number == 0) == self.filtered(s, mine)  # "Accepted and refused stay as they are."
         return number
 
     def named_here(self, s: Settings) -> bool:
         """"to the reserved group or the own address" """
         return self.destination in (RESERVED_GROUP, s.own)
 
-    def filtered(self, s: Settings) -> bool:
+    def filtered(self, s: Settings, mine: Own = ()) -> bool:
         """7: "address rule refuses"; of a control frame to the group or the own address, "Its address isn't tested further." """
         if self.control and self.named_here(s):
             return False
-        return not self.accepted(s)
+        return not self.accepted(s, mine)
 
     def takes_pause(self, s: Settings) -> bool:
         """8: "Destination is the reserved group or the own address, opcode 0x0001, flow mode `pause`" """
@@ -259,7 +317,7 @@ def find(octets, marks, place, test) -> Optional[int]:
     return next((i for i in range(place, len(octets)) if test(octets[i], marks[i])), None)
 
 
-def rules_that_hold(s: Settings, run: List[int], by: int) -> List[int]:
+def rules_that_hold(s: Settings, run: List[int], by: int, mine: Own = ()) -> List[int]:
     """Every row of the table that holds, in order, each by itself; a row that looks into a frame is tried only where the row needs no more
     octets than there are (rows 2 and 3 stand before it)."""
     rows = []
@@ -272,19 +330,20 @@ def rules_that_hold(s: Settings, run: List[int], by: int) -> List[int]:
         rows.append(3)
     if len(octets) >= 24:
         f = Frame(octets)
-        tests = [(4, f.oversized(s)), (5, f.wrong_fcs()), (6, f.wrong_length(s)), (7, f.filtered(s)), (8, f.takes_pause(s)), (9, f.takes_pfc(s)),
-                 (10, f.drops_control(s))]
+        tests = [(4, f.oversized(s)), (5, f.wrong_fcs()), (6, f.wrong_length(s)), (7, f.filtered(s, mine)), (8, f.takes_pause(s)),
+                 (9, f.takes_pfc(s)), (10, f.drops_control(s))]
         rows += [number for number, holds in tests if holds]
     return rows + [11]  # "everything else"
 
 
-def read_refusal(s, octets, marks, place) -> Optional[int]:
-    """"Reading can give 1 to 3"; 3: "place beyond the buffers' length" """
-    return first((1, bad_settings(s)), (2, bad_buffers(octets, marks)), (3, place > len(octets)))
+def read_refusal(s, octets, marks, place, job=0, table=EMPTY) -> Optional[int]:
+    """"Reading can give 1 to 3"; 3: "place beyond the buffers' length"; item 10: 14 and 20"""
+    return first((1, bad_settings(s)), (2, bad_buffers(octets, marks)), (3, place > len(octets)), (14, bad_job(job)), (20, bad_table(table)))
 
 
-def reading(s: Settings, state: State, octets: List[int], marks: List[int], place: int) -> Reading:
-    refusal = read_refusal(s, octets, marks, place)
+def reading(s: Settings, state: State, octets: List[int], marks: List[int], place: int, job: int = 0, table: Table = EMPTY) -> Reading:
+    """Item 10: a job reads, with a table. The capture is that job's: "2 and 3 then look at the chosen job's capture"."""
+    refusal = read_refusal(s, octets, marks, place, job, table)
     if refusal:  # "A refusal gives its number, status 0, an empty part, the place it was called with (in a reading, as both places), the old state"
         return Reading("refused", place, place, state, refusal=refusal)
     # "A reading at a place finds the first Start at that place or later."
@@ -297,11 +356,12 @@ def reading(s: Settings, state: State, octets: List[int], marks: List[int], plac
         return Reading("open", start, start, state)
     # "Else the next place is that of the ending control symbol, and the first rule that holds gives the outcome"
     run = octets[start + 1:end]
-    outcome = rules_that_hold(s, run, octets[end])[0]
+    mine = own_entries(table, job)
+    outcome = rules_that_hold(s, run, octets[end], mine)[0]
     answer = Reading("counted", start, end, counted(state, outcome), outcome=outcome)
     if outcome >= 8:
         f = Frame(run[7:])
-        answer.address = f.address(s)
+        answer.address = f.address(s, mine)
         answer.status = f.status(s, outcome)
         answer.state = replace(answer.state, timers=f.timers_after(outcome, state.timers))
         if outcome == 11:  # "Client data is a part of the captured octets themselves"; "Outcomes 1 to 10 hand out an empty part."
@@ -310,11 +370,11 @@ def reading(s: Settings, state: State, octets: List[int], marks: List[int], plac
     return answer
 
 
-def walk(s: Settings, state: State, octets: List[int], marks: List[int], place: int = 0) -> List[Reading]:
+def walk(s: Settings, state: State, octets: List[int], marks: List[int], place: int = 0, job: int = 0, table: Table = EMPTY) -> List[Reading]:
     """"a walk from place 0 until `none` or `open`", or from another place: the readings it makes; a refused one ends it too."""
-    readings = [reading(s, state, octets, marks, place)]
+    readings = [reading(s, state, octets, marks, place, job, table)]
     while readings[-1].kind == "counted":
-        readings.append(reading(s, readings[-1].state, octets, marks, readings[-1].next))
+        readings.append(reading(s, readings[-1].state, octets, marks, readings[-1].next, job, table))
     last = readings[-1]
     if last.kind != "refused":
         # "the eleven counters together have risen, …, by the number of Start symbols in the capture, less one if the walk ended `open`";
@@ -322,6 +382,18 @@ def walk(s: Settings, state: State, octets: List[int], marks: List[int], place: 
         starts = sum(is_start(o, m) for o, m in zip(octets[place:], marks[place:])) - (last.kind == "open")
         assert (sum(last.state.counters) - sum(state.counters) - starts) % 2**64 == 0
     return readings
+
+
+def showing(s: Settings, captures: List[Tuple[List[int], List[int]]], place: int, job: int, table: Table) -> Tuple[int, Tuple[int, int]]:
+    """The screen call of item 10, with octets and marks of both captures: refusal or 0, and "the client data that a reading of the chosen job gives, a part
+    of that job's capture and of no other". Open points: it has no state, and gives an empty part at 0 where a reading has no data."""
+    refusal = first((1, bad_settings(s)), (14, bad_job(job)))
+    if refusal:
+        return refusal, (0, 0)
+    octets, marks = captures[job]
+    r = reading(s, State(), octets, marks, place, job, table)
+    assert r.data == octets[r.part[0]:sum(r.part)]
+    return r.refusal, r.part
 
 
 # ---- Why was it thrown away? (item 8)
@@ -358,10 +430,10 @@ def evidence(s: Settings, octets: List[int], start: int, end: int, outcome: int)
     return start + 8 + f.data_place, len(f.handed(s))  # "for 11, place and length of the data"
 
 
-def why(s: Settings, octets: List[int], marks: List[int], place: int) -> Why:
+def why(s: Settings, octets: List[int], marks: List[int], place: int, job: int = 0, table: Table = EMPTY) -> Why:
     """"The Start is found from a place as in reading"; "It must be given for each outcome, with the next place equal to the reading's."; "Refusals: 1 to
-    3 as in reading." """
-    r = reading(s, State(), octets, marks, place)
+    3 as in reading."; item 10: "Item 8's tool gives 14 and 20 as reading does." """
+    r = reading(s, State(), octets, marks, place, job, table)
     if r.kind != "counted":
         return Why(r.kind, r.start, r.next, r.refusal)
     return Why(r.kind, r.start, r.next, outcome=r.outcome, evidence=evidence(s, octets, r.start, r.next, r.outcome))
@@ -514,17 +586,17 @@ class LoggedWalk:
     appended: int = 0  # how many readings, each with its Start counted
 
 
-def logged_walk(s: Settings, state: State, octets: List[int], marks: List[int], place: int, log: List[int]) -> LoggedWalk:
+def logged_walk(s: Settings, state: State, octets: List[int], marks: List[int], place: int, log: List[int], job: int = 0, table: Table = EMPTY) -> LoggedWalk:
     """A walk that keeps its readings: from a place on, reading after reading, each counted Start's record appended, until `none`, `open` or a full log.
     Open point: the documents have no such call. It is refused as a reading at that place, then for 11, with the old state, place and log. It never
     gives 12: a Start that finds no unused record is not counted, and the walk ends full where it stands. `none` and `open` end it whether or not an
     unused record is left."""
-    refusal = read_refusal(s, octets, marks, place) or first((11, bad_log(log)))
+    refusal = read_refusal(s, octets, marks, place, job, table) or first((11, bad_log(log)))
     if refusal:
         return LoggedWalk("refused", place, state, log, refusal=refusal)
     answer = LoggedWalk("", place, state, log)
     while not answer.end:
-        r = reading(s, answer.state, octets, marks, answer.next)
+        r = reading(s, answer.state, octets, marks, answer.next, job, table)
         step = reading_appending(answer.log, r)
         if step.refusal == 12:  # the reading is given up, with its state
             answer.end = "full"
@@ -533,7 +605,7 @@ def logged_walk(s: Settings, state: State, octets: List[int], marks: List[int], 
         else:
             answer.end, answer.next = r.kind, r.next
     # The same by the walk as a whole: of its readings as many are kept as there are unused records, each in the next of these.
-    *starts, last = walk(s, state, octets, marks, place)
+    *starts, last = walk(s, state, octets, marks, place, job, table)
     stands = [(place, state)] + [(r.next, r.state) for r in starts]
     into = dict(zip(unused_numbers(log), starts))
     end = ("full", *stands[len(into)]) if len(into) < len(starts) else (last.kind, last.next, last.state)
@@ -542,12 +614,13 @@ def logged_walk(s: Settings, state: State, octets: List[int], marks: List[int], 
     return answer
 
 
-def walks_on(s: Settings, state: State, octets: List[int], marks: List[int], place: int, sizes: List[int]) -> List[LoggedWalk]:
+def walks_on(s: Settings, state: State, octets: List[int], marks: List[int], place: int, sizes: List[int], job: int = 0,
+             table: Table = EMPTY) -> List[LoggedWalk]:
     """Walks into logs of zero octets with so many records, each from where the one before it ended full."""
     walks = []
     for size in sizes:
         if not walks or walks[-1].end == "full":
-            walks.append(logged_walk(s, state, octets, marks, place, [0] * (RECORD.size * size)))
+            walks.append(logged_walk(s, state, octets, marks, place, [0] * (RECORD.size * size), job, table))
             state, place = walks[-1].state, walks[-1].next
     return walks
 
@@ -758,8 +831,7 @@ def idle_sending(state, octets, marks, place, n: int, totals=None) -> Sending:
 # ---- The printing program
 
 # "Settings: own 02-00-00-00-00-01, none listed, broadcast on, promiscuous off, checking on, M 1518, flow none, `pass control` off."
-PRINTING = Settings(own=[0x02, 0, 0, 0, 0, 0x01], listed=[], count=0, broadcast=True, promiscuous=False, checking=True, limit=1518, flow="none",
-                    pass_control=False)
+PRINTING = Settings(own=[0x02, 0, 0, 0, 0, 0x01], broadcast=True, promiscuous=False, checking=True, limit=1518, flow="none", pass_control=False)
 MOST_RECORDS = 32768
 
 
@@ -772,6 +844,7 @@ def printed(data: bytes) -> bytes:
     # "at most 32,768 records. An odd or longer input prints `bad input` alone."
     if len(data) % 2 or len(data) > 2 * MOST_RECORDS:
         return b"bad input\n"
+    # Open point: job 0 reads, with an empty table.
     readings = walk(PRINTING, State(), list(data[1::2]), list(data[0::2]))
     # "One line per counted Start: its place, outcome, status word, octets handed out, all decimal."
     lines = [f"{r.start} {r.outcome} {r.status} {len(r.data)}" for r in readings if r.kind == "counted"]
@@ -934,41 +1007,52 @@ def try_counters():
 try_counters()
 
 
-# ---- Which address let it in, tried with every order of the list
+# ---- Which address let it in, tried with many tables
 
 
 def try_addresses():
     groups = [[1, 0, 0x5E, 0, 0, n] for n in range(1, 5)]
     other, own = [2, 0, 0, 0, 0, 9], PRINTING.own
 
-    def said(s, destination, header=(0x0800,), opcode=2):
+    def said(s, destination, header=(0x0800,), opcode=2, job=0, table=EMPTY):
         covered = destination + other + [octet for number in header for octet in high_first(number)] + high_first(opcode) + [0] * 44
         line = on_line(covered)
-        r = reading(s, State(), [octet for octet, _ in line], [mark for _, mark in line], 0)
+        r = reading(s, State(), [octet for octet, _ in line], [mark for _, mark in line], 0, job, table)
         return r.outcome, r.address
+
+    def table_of(job, addresses, at=0, others=()):
+        """The job's addresses from an entry on, and the other job's in the last entries."""
+        table = list(EMPTY)
+        table[at:at + len(addresses)] = [(job, address) for address in addresses]
+        table[16 - len(others):] = [(1 - job, address) for address in others]
+        assert len(table) == 16
+        return table
 
     for promiscuous in (False, True):
         none = (11, 7) if promiscuous else (7, 0)  # what is said where nothing matches
         for broadcast in (False, True):
-            # Lists of each length, with equal entries, the own address, broadcast and the reserved group among them.
-            for listed in [[], groups, groups[::-1], [groups[0]] * 4, [groups[1], groups[0], groups[0], groups[1]], [own] * 4, [own, groups[0], own],
-                           [BROADCAST] * 4, [groups[3], BROADCAST], [RESERVED_GROUP] * 4, [other, RESERVED_GROUP]]:
-                for count in {0, len(listed) // 2, len(listed)}:
-                    s = replace(PRINTING, listed=listed, count=count, promiscuous=promiscuous, broadcast=broadcast)
+            s = replace(PRINTING, promiscuous=promiscuous, broadcast=broadcast)
+            # With the own address, broadcast and the reserved group among them, and with what the other job lists.
+            for listed in [[], groups, groups[::-1], groups[1:3], [own], [own, groups[0]], [BROADCAST], [groups[3], BROADCAST], [RESERVED_GROUP],
+                           [other, RESERVED_GROUP]]:
+                for job, at, others in [(0, 0, []), (1, 0, [other]), (0, 3, groups), (1, 11 - len(listed), groups + [other]),
+                                        (0, 16 - len(listed), []), (1, 16 - len(listed), [])]:
+                    as_job = dict(job=job, table=table_of(job, listed, at, others))
                     for destination in groups + [other, RESERVED_GROUP]:
-                        entries = [(11, 2 + n) for n in range(count) if listed[n] == destination]
-                        assert said(s, destination) == (entries + [none])[0]
+                        entries = [(11, 16 + at + n) for n, address in enumerate(listed) if address == destination]
+                        assert said(s, destination, **as_job) == (entries + [none])[0]
                         # "A tagged 0x8808 is an ordinary type."
-                        assert said(s, destination, (CUSTOMER, 0, CONTROL)) == (entries + [none])[0]
-                    assert said(s, own) == (11, 1) and said(s, BROADCAST) == ((11, 6) if broadcast else none)
+                        assert said(s, destination, (CUSTOMER, 0, CONTROL), **as_job) == (entries + [none])[0]
+                    assert said(s, own, **as_job) == (11, 1) and said(s, BROADCAST, **as_job) == ((11, 6) if broadcast else none)
                     # Control frames: to the reserved group, to the own address, to others.
                     for flow, opcode, outcome in [("none", 1, 10), ("pause", 1, 8), ("PFC", 0x0101, 9), ("PFC", 1, 10)]:
-                        assert said(replace(s, flow=flow), RESERVED_GROUP, (CONTROL,), opcode) == (outcome, 8)
-                    assert said(s, own, (CONTROL,)) == (10, 1) and said(replace(s, flow="pause"), own, (CONTROL,), 1) == (8, 1)
+                        assert said(replace(s, flow=flow), RESERVED_GROUP, (CONTROL,), opcode, **as_job) == (outcome, 8)
+                    assert said(s, own, (CONTROL,), **as_job) == (10, 1)
+                    assert said(replace(s, flow="pause"), own, (CONTROL,), 1, **as_job) == (8, 1)
                     for destination in [groups[0], other, BROADCAST]:
-                        outcome, number = said(s, destination)
-                        assert said(s, destination, (CONTROL,)) == (10 if outcome == 11 else 7, number)
-                        assert said(replace(s, pass_control=True), destination, (CONTROL,)) == (outcome, number)
+                        outcome, number = said(s, destination, **as_job)
+                        assert said(s, destination, (CONTROL,), **as_job) == (10 if outcome == 11 else 7, number)
+                        assert said(replace(s, pass_control=True), destination, (CONTROL,), **as_job) == (outcome, number)
     # Outcomes 1 to 6 say 0, also of the own address; the log's octet, by the walk that keeps its readings and by appending a reading.
     line = on_line(own + other + high_first(0x0800) + [7] * 46)
     octets, marks = [octet for octet, _ in line], [mark for _, mark in line]
@@ -981,6 +1065,95 @@ def try_addresses():
 
 
 try_addresses()
+
+
+# ---- Two jobs on one table, tried on both sides of their limits
+
+
+def try_jobs():
+    def address(n):
+        return [1, 0, 0x5E, 1, 0, n]
+
+    def filled(of_0, of_1):
+        """So many entries of each job, those of job 0 first; no two addresses are alike."""
+        return [(int(n >= of_0), address(n)) if n < of_0 + of_1 else None for n in range(16)]
+
+    def given(call, *arguments):
+        answer = call(*arguments)
+        assert answer.refusal == 0 or answer.table == arguments[0]
+        return answer.refusal, answer.entry
+
+    # Every number of entries that a good table can have, and one more.
+    new = address(99)
+    for of_0 in range(14):
+        for of_1 in range(min(13, 16 - of_0) + 1):
+            for job, held in [(0, of_0), (1, of_1)]:
+                broken = 13 in (of_0, of_1)
+                expected = 20 if broken else 15 if held == 12 else 16 if of_0 + of_1 == 16 else 0
+                assert given(adding, filled(of_0, of_1), job, new) == (expected, None if expected else of_0 + of_1)
+                assert given(removing, filled(of_0, of_1), job, new) == (20 if broken else 18, None)
+                assert given(adding, filled(of_0, of_1), 2, new) == given(removing, filled(of_0, of_1), 255, new) == (14, None)
+                mine = [n for n in range(of_0 + of_1) if (n >= of_0) == job]
+                for n in mine:  # 17 before 15 and 16
+                    assert given(adding, filled(of_0, of_1), job, address(n)) == (20 if broken else 17, None)
+                    assert given(removing, filled(of_0, of_1), job, address(n)) == ((20, None) if broken else (0, n))
+                    assert given(removing, filled(of_0, of_1), 1 - job, address(n)) == (20 if broken else 18, None)
+    # Freed entries, the lowest first, whoever freed them; both with the same address.
+    table = filled(8, 8)
+    for job, n in [(1, 13), (0, 2), (1, 9)]:
+        table = removing(table, job, address(n)).table
+    for job, n, entry in [(1, 98, 2), (0, 98, 9), (1, 99, 13)]:
+        assert given(adding, table, job, address(n)) == (0, entry)
+        table = adding(table, job, address(n)).table
+        assert given(adding, table, job, address(n)) == (17, None)
+    assert given(adding, table, 0, address(97)) == (16, None)
+    # An address twice, of either job and in any two entries.
+    twice = []
+    for one in range(16):
+        for two in range(one):
+            for job in (0, 1):
+                table = list(EMPTY)
+                table[one] = table[two] = (job, address(5))
+                twice.append(table)
+                table = list(table)
+                table[one] = (1 - job, address(5))  # of both jobs: not twice
+                assert not bad_table(table)
+    for table in twice + [filled(13, 0), filled(3, 13), filled(16, 0)]:
+        assert given(adding, table, 0, address(5)) == given(removing, table, 1, address(5)) == (20, None)
+
+    # The refusals of all calls that read, one after the other.
+    bad, line = replace(PRINTING, limit=0), on_line(address(1) + [2, 0, 0, 0, 0, 9] + high_first(0x0800) + [7] * 60)
+    octets, marks = [octet for octet, _ in line], [mark for _, mark in line]
+    beyond = len(line) + 1
+
+    def refusals(s, marks_given, place, job, table):
+        captures = [(octets, marks_given)] * 2
+        return [reading(s, State(), octets, marks_given, place, job, table).refusal, walk(s, State(), octets, marks_given, place, job, table)[-1].refusal,
+                why(s, octets, marks_given, place, job, table).refusal, showing(s, captures, place, job, table)[0],
+                logged_walk(s, State(), octets, marks_given, place, [1], job, table).refusal]
+
+    for table in (filled(13, 0), filled(0, 13), twice[0]):
+        assert refusals(bad, marks[1:], beyond, 2, table) == [1] * 5
+        assert refusals(PRINTING, marks[1:], beyond, 2, table) == refusals(PRINTING, marks, 0, 255, table) == [14] * 5
+        for job in (0, 1):
+            assert refusals(PRINTING, marks[1:], beyond, job, table) == [2] * 5 and refusals(PRINTING, marks, beyond, job, table) == [3] * 5
+            assert refusals(PRINTING, marks, 0, job, table) == refusals(PRINTING, marks, beyond - 1, job, table) == [20] * 5
+            assert refusals(PRINTING, marks, 0, job, EMPTY) == [0] * 4 + [11]
+
+    # A job's readings depend on its own entries, and on where they stand only in item 7's answer.
+    for table, seen in [(EMPTY, [(7, 0), (7, 0)]), (filled(2, 0), [(11, 17), (7, 0)]), (filled(1, 1), [(7, 0), (11, 17)]),
+                        ([(1, address(1)), None, (0, address(1))] + [None] * 13, [(11, 18), (11, 16)]),
+                        ([None] * 15 + [(1, address(1))], [(7, 0), (11, 31)])]:
+        # The other capture is one that any reading would refuse.
+        for job, captures in [(0, [(octets, marks), (octets, [])]), (1, [(octets, []), (octets, marks)])]:
+            r = reading(PRINTING, State(), octets, marks, 0, job, table)
+            assert (r.outcome, r.address) == seen[job] and why(PRINTING, octets, marks, 0, job, table).outcome == r.outcome
+            assert fields_of(r).address == seen[job][1] == logged_walk(PRINTING, State(), octets, marks, 0, [0] * 16, job, table).log[5]
+            assert showing(PRINTING, captures, 0, job, table) == (0, (22, 60) if r.outcome == 11 else (0, 0))
+            assert showing(PRINTING, captures, 1, job, table) == (0, (0, 0)) and showing(PRINTING, captures[::-1], 0, job, table) == (2, (0, 0))
+
+
+try_jobs()
 
 
 # ---- The reasons, tried with a frame for each outcome and at both sides of each limit

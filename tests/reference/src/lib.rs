@@ -1,5 +1,5 @@
-//! A reference implementation of document 01, with items 1 to 9 of document 02: the
-//! work of an Ethernet MAC on line symbols kept in memory.
+//! A reference implementation of document 01, with items 1 to 10 of document 02:
+//! the work of an Ethernet MAC on line symbols kept in memory.
 //!
 //! Written from those documents alone, to be compared with the proved program.
 //! The words in quotes in the comments are the names of their sections.
@@ -19,6 +19,8 @@ mod receive;
 mod refusal;
 mod send;
 mod settings;
+mod show;
+mod table;
 mod totals;
 
 pub use check::{fcs, fcs_update, Check};
@@ -32,4 +34,6 @@ pub use reason::{explain, Explained, Reason, Why};
 pub use receive::{read, walk, Answer, Reading, Walked};
 pub use send::{fill_idle, send_client, send_pause, send_pfc, Client, Form, Sent, Tag, TagKind};
 pub use settings::{screen, Flow, Settings, State};
+pub use show::{show, Lent, Part};
+pub use table::{Entry, Table};
 pub use totals::{fill_totals, starts_before, Total};

@@ -6,6 +6,7 @@ use crate::check::Check;
 use crate::receive::{check, read, Answer, Reading};
 use crate::refusal;
 use crate::settings::{Settings, State};
+use crate::table::Table;
 
 /// Octets of a record.
 pub(crate) const RECORD_LEN: usize = 16;
@@ -107,7 +108,7 @@ pub fn first_unused(log: &[u8]) -> Result<usize, u8> {
 /// Open point: outcome 0 doesn't hide a wrong log length, as only 12 is named.
 ///
 /// Open point: no value of a field is refused. An outcome above 11 is written,
-/// and so is an address above 8, so that reading back "gives what was
+/// and so is an address that no reading has, so that reading back "gives what was
 /// appended".
 pub fn append(log: &mut [u8], record: &Record) -> Result<Option<usize>, u8> {
     refusal::log(log)?;
@@ -196,8 +197,8 @@ pub struct Logged {
 }
 
 /// A walk that keeps its readings: from `place` on, reading after reading, each
-/// counted Start's record appended, until `none`, `open` or a full log. Gives 1
-/// to 3 as a reading at that place does, then 11, and never 12.
+/// counted Start's record appended, until `none`, `open` or a full log. Gives 1,
+/// 14, 2, 3 and 20 as a reading at that place does, then 11, and never 12.
 ///
 /// Open point: the documents know no call for this, and "Support wants the
 /// readings of a run kept", for which one log may be too short. So a Start that
@@ -205,10 +206,13 @@ pub struct Logged {
 /// Start of a walk from `next` on, and with another log there nothing is lost
 /// and nothing comes twice. Where the reading is `none` or `open`, that is the
 /// end, whether or not an unused record is left.
+#[allow(clippy::too_many_arguments)] // The shape is that of the compared call.
 pub fn walk_log(
     kind: Check,
     s: &Settings,
     state: &mut State,
+    job: u8,
+    table: &Table,
     octets: &[u8],
     marks: &[u8],
     place: usize,
@@ -219,7 +223,8 @@ pub fn walk_log(
         next,
         appended,
     };
-    if let Err(number) = check(s, octets, marks, place).and_then(|()| refusal::log(log)) {
+    let checked = check(s, job, table, octets, marks, place);
+    if let Err(number) = checked.and_then(|()| refusal::log(log)) {
         return logged(LogEnd::Refused(number), place, 0);
     }
 
@@ -230,7 +235,7 @@ pub fn walk_log(
     let (mut next, mut appended) = (place, 0);
     loop {
         let mut after = *state;
-        let reading = read(kind, s, &mut after, octets, marks, next);
+        let reading = read(kind, s, &mut after, job, table, octets, marks, next);
         match reading.answer {
             // Not reached: no next place lies beyond the capture.
             Answer::Refused(number) => return logged(LogEnd::Refused(number), next, appended),

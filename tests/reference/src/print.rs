@@ -5,6 +5,7 @@ use std::fmt::Write;
 use crate::check::Check;
 use crate::receive::{walk_with, Answer, Walked};
 use crate::settings::{Settings, State};
+use crate::table::Table;
 
 /// Most records of two octets that are read.
 const MAX_RECORDS: usize = 32_768;
@@ -14,6 +15,8 @@ const BAD_INPUT: &str = "bad input\n";
 /// What the printing program prints for this standard input.
 ///
 /// Open point: every line, `bad input` included, ends with a newline.
+///
+/// Open point: job 0 reads, with an empty table, since "none listed".
 pub fn print(input: &[u8]) -> String {
     let records = input.chunks_exact(2);
     if !records.remainder().is_empty() || records.len() > MAX_RECORDS {
@@ -28,6 +31,8 @@ pub fn print(input: &[u8]) -> String {
         kind,
         &Settings::PRINTED,
         &mut state,
+        0,
+        &Table::EMPTY,
         &octets,
         &marks,
         |reading| {

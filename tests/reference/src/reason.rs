@@ -4,6 +4,7 @@
 use crate::check::Check;
 use crate::receive::{find, judge, Found};
 use crate::settings::{Outcome, Settings};
+use crate::table::Table;
 
 /// Why a Start has its outcome. A place is an index into the capture.
 #[derive(Clone, Copy, Debug, PartialEq, Eq)]
@@ -131,15 +132,24 @@ pub struct Explained {
     pub next: usize,
 }
 
-/// Names the reason of the first Start at `place` or later. Gives 1 to 3.
-pub fn explain(kind: Check, s: &Settings, octets: &[u8], marks: &[u8], place: usize) -> Explained {
+/// Names the reason of the first Start at `place` or later. Gives 1, 14, 2, 3 and
+/// 20 as a reading does.
+pub fn explain(
+    kind: Check,
+    s: &Settings,
+    job: u8,
+    table: &Table,
+    octets: &[u8],
+    marks: &[u8],
+    place: usize,
+) -> Explained {
     let at = |why, start, next| Explained { why, start, next };
-    match find(s, octets, marks, place) {
+    match find(s, job, table, octets, marks, place) {
         Found::Refused(number) => at(Why::Refused(number), place, place),
         Found::None => at(Why::None, octets.len(), octets.len()),
         Found::Open { start } => at(Why::Open, start, start),
         Found::Run { start, end } => {
-            let judged = judge(kind, s, octets, start, end);
+            let judged = judge(kind, s, job, table, octets, start, end);
             let reason = judged.map_or_else(|reason| reason, |taken| taken.reason());
             at(Why::Because(reason), start, end)
         }

@@ -1,6 +1,7 @@
 //! "Reading one Start", "Control frames" and the walk over a capture; "Which
 //! address let it in?", item 7 of document 02. What the rules give is a reason
-//! by item 8, and the reading has its outcome.
+//! by item 8, and the reading has its outcome. By item 10 it is a job that reads,
+//! with the table that has the listed addresses.
 
 use crate::check::Check;
 use crate::frame::{number_at, Frame, MIN_FRAME};
@@ -9,6 +10,7 @@ use crate::line::{PREAMBLE, RESERVED_GROUP, TERMINATE};
 use crate::reason::Reason;
 use crate::refusal::{self, Checked};
 use crate::settings::{Flow, Settings, State, BY_NONE, BY_RESERVED_GROUP};
+use crate::table::Table;
 
 /// What a reading answers.
 #[derive(Clone, Copy, Debug, PartialEq, Eq)]
@@ -31,9 +33,9 @@ pub enum Answer {
         /// How many octets of client data are handed out; 0 for outcomes 1
         /// to 10.
         len: usize,
-        /// Which address let it in: 1 own, 2 to 5 the first listed entry that
-        /// matches, 6 broadcast, 7 promiscuous only, 8 the reserved group of
-        /// a control frame; 0 for outcomes 1 to 7.
+        /// Which address let it in: 1 own, 6 broadcast, 7 promiscuous only, 8
+        /// the reserved group of a control frame, 16 to 31 the entry of the
+        /// table that matches; 0 for outcomes 1 to 7.
         address: u8,
     },
 }
@@ -119,11 +121,11 @@ impl Taken<'_> {
 /// Which address lets a frame in: "Every control frame to the reserved group
 /// says 8, listed or not." Nothing refuses one to the own address, which is the
 /// first that the address rule tries.
-fn address(s: &Settings, frame: &Frame) -> u8 {
+fn address(s: &Settings, job: u8, table: &Table, frame: &Frame) -> u8 {
     if frame.is_control() && frame.destination == RESERVED_GROUP {
         BY_RESERVED_GROUP
     } else {
-        s.let_in_by(&frame.destination)
+        s.let_in_by(job, table, &frame.destination)
     }
 }
 
@@ -169,6 +171,8 @@ fn preamble(run: &[u8], start: usize) -> Option<Reason> {
 pub(crate) fn judge<'a>(
     kind: Check,
     s: &Settings,
+    job: u8,
+    table: &Table,
     octets: &'a [u8],
     start: usize,
     end: usize,
@@ -202,7 +206,7 @@ pub(crate) fn judge<'a>(
     } else {
         data
     };
-    let address = address(s, &frame);
+    let address = address(s, job, table, &frame);
     if address == BY_NONE {
         let destination = frame.destination;
         return Err(Reason::Filtered { destination });
@@ -243,10 +247,19 @@ fn settle(state: &mut State, judged: Result<Taken, Reason>) -> Answer {
     }
 }
 
-/// Refusals 1 to 3.
-pub(crate) fn check(s: &Settings, octets: &[u8], marks: &[u8], place: usize) -> Checked {
+/// Refusals 1, 14, 2, 3 and 20.
+pub(crate) fn check(
+    s: &Settings,
+    job: u8,
+    table: &Table,
+    octets: &[u8],
+    marks: &[u8],
+    place: usize,
+) -> Checked {
     refusal::settings(s)?;
-    refusal::line(octets, marks, place)
+    refusal::job(job)?;
+    refusal::line(octets, marks, place)?;
+    refusal::table(table)
 }
 
 /// What there is at a place or later.
@@ -262,8 +275,15 @@ pub(crate) enum Found {
 }
 
 /// Finds the first Start at `place` or later and its run.
-pub(crate) fn find(s: &Settings, octets: &[u8], marks: &[u8], place: usize) -> Found {
-    if let Err(number) = check(s, octets, marks, place) {
+pub(crate) fn find(
+    s: &Settings,
+    job: u8,
+    table: &Table,
+    octets: &[u8],
+    marks: &[u8],
+    place: usize,
+) -> Found {
+    if let Err(number) = check(s, job, table, octets, marks, place) {
         return Found::Refused(number);
     }
     let Some(start) = find_start(octets, marks, place) else {
@@ -275,11 +295,15 @@ pub(crate) fn find(s: &Settings, octets: &[u8], marks: &[u8], place: usize) -> F
     }
 }
 
-/// Reads the first Start at `place` or later.
+/// Reads the first Start at `place` or later, for a job whose capture this is.
+/// Gives 1, 14, 2, 3 and 20, in that order.
+#[allow(clippy::too_many_arguments)] // The shape is that of the compared call.
 pub fn read(
     kind: Check,
     s: &Settings,
     state: &mut State,
+    job: u8,
+    table: &Table,
     octets: &[u8],
     marks: &[u8],
     place: usize,
@@ -289,12 +313,12 @@ pub fn read(
         start,
         next,
     };
-    match find(s, octets, marks, place) {
+    match find(s, job, table, octets, marks, place) {
         Found::Refused(number) => at(Answer::Refused(number), place, place),
         Found::None => at(Answer::None, octets.len(), octets.len()),
         Found::Open { start } => at(Answer::Open, start, start),
         Found::Run { start, end } => {
-            let judged = judge(kind, s, octets, start, end);
+            let judged = judge(kind, s, job, table, octets, start, end);
             at(settle(state, judged), start, end)
         }
     }
@@ -303,10 +327,13 @@ pub fn read(
 /// Walks a capture and shows each counted reading to `see`. Every reading
 /// goes on where the last one stopped, so each symbol is looked at a fixed
 /// number of times.
+#[allow(clippy::too_many_arguments)] // Those of the walk, and `see`.
 pub(crate) fn walk_with(
     kind: Check,
     s: &Settings,
     state: &mut State,
+    job: u8,
+    table: &Table,
     octets: &[u8],
     marks: &[u8],
     mut see: impl FnMut(&Reading),
@@ -314,7 +341,7 @@ pub(crate) fn walk_with(
     let mut place = 0;
     let mut starts = 0;
     loop {
-        let reading = read(kind, s, state, octets, marks, place);
+        let reading = read(kind, s, state, job, table, octets, marks, place);
         let open = match reading.answer {
             // Only the first reading can be refused, before anything changed.
             Answer::Refused(number) => return Walked::Refused(number),
@@ -336,6 +363,14 @@ pub(crate) fn walk_with(
 /// Open point: document 01 knows no call for the walk. It is refused as its
 /// first reading is, and `starts` is the number of counted Starts, as in the
 /// last line of the printing program.
-pub fn walk(kind: Check, s: &Settings, state: &mut State, octets: &[u8], marks: &[u8]) -> Walked {
-    walk_with(kind, s, state, octets, marks, |_| ())
+pub fn walk(
+    kind: Check,
+    s: &Settings,
+    state: &mut State,
+    job: u8,
+    table: &Table,
+    octets: &[u8],
+    marks: &[u8],
+) -> Walked {
+    walk_with(kind, s, state, job, table, octets, marks, |_| ())
 }

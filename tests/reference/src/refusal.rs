@@ -1,13 +1,15 @@
 //! "Refusals and their order". Each check gives its number as the error, so a
 //! call that makes its checks in their order, with `?` between them, gives the
-//! first: the order is that of the numbers, but 10 stands between 6 and 7, and
-//! 19, 21 and 22 right behind 3.
+//! first: the order is that of the numbers, but 10 stands between 6 and 7, 14
+//! right behind 1, 19, 20, 21 and 22 right behind 3, and 17 before 15. A call on
+//! the table has none of the capture's, so that 20 comes right behind 14 there.
 
 use crate::line::{is_tag, CONTROL_FIELD, FIRST_TYPE, LAST_LENGTH, MAX_SYMBOLS, MAX_TAGS};
 use crate::log::RECORD_LEN;
 use crate::port::Port;
 use crate::send::{Form, Tag};
 use crate::settings::{Flow, Settings, State};
+use crate::table::Table;
 use crate::totals::{self, Total, BLOCK};
 
 pub(crate) type Checked = Result<(), u8>;
@@ -109,6 +111,36 @@ pub(crate) fn unused(is_there: bool) -> Checked {
 /// Refusal 13, unless there is a used record of that number: gives that one.
 pub(crate) fn used<T>(record: Option<T>) -> Result<T, u8> {
     record.ok_or(13)
+}
+
+/// Refusal 14.
+pub(crate) fn job(job: u8) -> Checked {
+    refuse(14, job > 1)
+}
+
+/// Refusal 20.
+pub(crate) fn table(table: &Table) -> Checked {
+    refuse(20, table.is_broken())
+}
+
+/// Refusal 17.
+pub(crate) fn new_to(table: &Table, job: u8, address: &[u8; 6]) -> Checked {
+    refuse(17, table.entry_of(job, address).is_some())
+}
+
+/// Refusal 15.
+pub(crate) fn held(table: &Table, job: u8) -> Checked {
+    refuse(15, table.holds_all(job))
+}
+
+/// Refusal 16, unless there is a free entry: gives the lowest.
+pub(crate) fn free_entry(table: &Table) -> Result<usize, u8> {
+    table.lowest_free().ok_or(16)
+}
+
+/// Refusal 18, unless the job has listed the address: gives its entry.
+pub(crate) fn listed(table: &Table, job: u8, address: &[u8; 6]) -> Result<usize, u8> {
+    table.entry_of(job, address).ok_or(18)
 }
 
 /// Refusal 21.

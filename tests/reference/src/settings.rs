@@ -1,6 +1,7 @@
 //! Settings and state, with the "Address rule", the counters and the timers.
 
 use crate::line::{is_group, BROADCAST};
+use crate::table::Table;
 
 /// Flow mode.
 #[derive(Clone, Copy, Debug, PartialEq, Eq)]
@@ -19,10 +20,6 @@ pub enum Flow {
 pub struct Settings {
     /// The own address.
     pub own: [u8; 6],
-    /// Further addresses, of which the first `count` are listed.
-    pub listed: [[u8; 6]; 4],
-    /// How many addresses are listed; above 4 is refused.
-    pub count: u8,
     /// Accept broadcast.
     pub broadcast: bool,
     /// Accept every destination.
@@ -41,8 +38,6 @@ impl Settings {
     /// The settings of the printing program.
     pub const PRINTED: Settings = Settings {
         own: [0x02, 0x00, 0x00, 0x00, 0x00, 0x01],
-        listed: [[0; 6]; 4],
-        count: 0,
         broadcast: true,
         promiscuous: false,
         checking: true,
@@ -51,19 +46,19 @@ impl Settings {
         pass_control: false,
     };
 
-    /// The opposite of refusal 1.
+    /// The opposite of refusal 1; by item 10 of document 02 "the listed count
+    /// falls away".
     pub(crate) fn are_valid(&self) -> bool {
-        !is_group(&self.own)
-            && usize::from(self.count) <= self.listed.len()
-            && (1518..=9618).contains(&self.limit)
+        !is_group(&self.own) && (1518..=9618).contains(&self.limit)
     }
 
     /// "Address rule", with "Which address let it in?", item 7 of document 02:
-    /// 0 if the rule refuses.
+    /// 0 if the rule refuses. Listed are the entries of the table that the job
+    /// holds, by item 10.
     ///
     /// Open point: an own address that is listed too says 1, since it is named
-    /// first, and of equal entries the first speaks.
-    pub(crate) fn let_in_by(&self, destination: &[u8; 6]) -> u8 {
+    /// first.
+    pub(crate) fn let_in_by(&self, job: u8, table: &Table, destination: &[u8; 6]) -> u8 {
         let of_all = if self.promiscuous { BY_ALL } else { BY_NONE };
         if *destination == BROADCAST {
             // "listed or not"
@@ -72,9 +67,8 @@ impl Settings {
         if *destination == self.own {
             return BY_OWN;
         }
-        let mut listed = self.listed.iter().take(usize::from(self.count));
-        match listed.position(|address| address == destination) {
-            Some(entry) => BY_FIRST_LISTED + entry as u8,
+        match table.entry_of(job, destination) {
+            Some(entry) => BY_FIRST_ENTRY + entry as u8,
             None => of_all,
         }
     }
@@ -84,14 +78,16 @@ impl Settings {
 pub(crate) const BY_NONE: u8 = 0;
 /// The own address.
 const BY_OWN: u8 = 1;
-/// The first listed address; the others follow up to 5.
-const BY_FIRST_LISTED: u8 = 2;
 /// Broadcast.
 const BY_BROADCAST: u8 = 6;
 /// "promiscuous only".
 const BY_ALL: u8 = 7;
 /// A control frame's destination, the reserved group.
 pub(crate) const BY_RESERVED_GROUP: u8 = 8;
+/// Entry 0 of the table, "16 plus the entry"; the others follow up to 31.
+///
+/// Open point: the entries are counted from 0.
+const BY_FIRST_ENTRY: u8 = 16;
 
 /// "Reading one Start": the outcomes by their numbers.
 #[derive(Clone, Copy, Debug, PartialEq, Eq)]

@@ -1,9 +1,10 @@
 //! "Which address let it in?", item 7 of document 02. That outcomes 1 to 7 say 0
 //! and the others don't, the captures check with every frame.
 
-use reference::{append_reading, walk_log, Answer, Check, LogEnd, Record, Settings, State};
+use reference::Table;
+use reference::{append_reading, walk_log, Answer, Check, Entry, LogEnd, Record, Settings, State};
 
-use crate::hand::{frame, ramp, see, Capture, Seen};
+use crate::hand::{frame, listing, ramp, see, Capture, Reader, Seen};
 use crate::hand::{BROADCAST, MULTICAST, OTHER, OWN, PAUSE, PFC, PLAIN, RESERVED};
 
 /// Four listed addresses, no two alike; none of them is OTHER or MULTICAST.
@@ -14,72 +15,101 @@ const LISTED: [[u8; 6]; 4] = [
     [0x01, 0, 0x5E, 0, 0, 4],
 ];
 
-fn listing(listed: [[u8; 6]; 4], count: u8) -> Settings {
-    Settings {
-        listed,
-        count,
-        ..PLAIN
-    }
+/// Each job with these addresses in its first entries, and nothing of the other
+/// job's.
+fn readers(s: Settings, listed: &[[u8; 6]]) -> [Reader; 2] {
+    [0, 1].map(|job| Reader {
+        s,
+        job,
+        table: listing(job, listed),
+    })
 }
 
 /// Outcome and address of a frame with a type.
-fn typed(s: &Settings, dest: [u8; 6]) -> (u8, u8) {
+fn typed(by: impl Into<Reader>, dest: [u8; 6]) -> (u8, u8) {
     let Seen {
         outcome, address, ..
-    } = see(s, &frame(dest, &[0x0800], &ramp(46)));
+    } = see(by, &frame(dest, &[0x0800], &ramp(46)));
     (outcome, address)
 }
 
 /// Outcome and address of a control frame.
-fn control(s: &Settings, dest: [u8; 6], opcode: u16) -> (u8, u8) {
+fn control(by: impl Into<Reader>, dest: [u8; 6], opcode: u16) -> (u8, u8) {
     let mut data = opcode.to_be_bytes().to_vec();
     data.resize(46, 0);
     let Seen {
         outcome, address, ..
-    } = see(s, &frame(dest, &[0x8808], &data));
+    } = see(by, &frame(dest, &[0x8808], &data));
     (outcome, address)
 }
 
-/// The same settings with promiscuous off and on, and what is said of a
-/// destination that nothing but it accepts.
-fn with_promiscuous(s: Settings) -> [(Settings, (u8, u8)); 2] {
+/// Each job with promiscuous off and on, and what is said of a destination that
+/// nothing but it accepts.
+fn with_promiscuous(s: Settings, listed: &[[u8; 6]]) -> Vec<(Reader, (u8, u8))> {
     [(false, (7, 0)), (true, (11, 7))]
-        .map(|(promiscuous, said)| (Settings { promiscuous, ..s }, said))
+        .into_iter()
+        .flat_map(|(promiscuous, said)| {
+            let s = Settings { promiscuous, ..s };
+            readers(s, listed).map(|by| (by, said))
+        })
+        .collect()
 }
 
 #[test]
 fn own_and_listed_before_promiscuous() {
     for count in 0..=4 {
-        for (s, other) in with_promiscuous(listing(LISTED, count)) {
-            assert_eq!(typed(&s, OWN), (11, 1));
+        for (by, other) in with_promiscuous(PLAIN, &LISTED[..count]) {
+            assert_eq!(typed(by, OWN), (11, 1));
             for (entry, dest) in (0..).zip(LISTED) {
-                let said = if entry < count {
-                    (11, 2 + entry)
+                let said = if usize::from(entry) < count {
+                    (11, 16 + entry)
                 } else {
                     other
                 };
-                assert_eq!(typed(&s, dest), said, "{count} {entry}");
+                assert_eq!(typed(by, dest), said, "{count} {entry}");
             }
             for dest in [OTHER, MULTICAST, RESERVED, [0; 6]] {
-                assert_eq!(typed(&s, dest), other);
+                assert_eq!(typed(by, dest), other);
             }
         }
     }
 }
 
 #[test]
-fn the_first_of_equal_entries() {
-    // Every choice of two addresses for four entries.
-    for choice in 0..16_usize {
-        let pair = [MULTICAST, OTHER];
-        let listed = std::array::from_fn(|entry| pair[choice >> entry & 1]);
-        for count in 0..=4 {
-            for (s, other) in with_promiscuous(listing(listed, count)) {
-                for dest in pair {
-                    let mut entries = (0..count).filter(|&k| listed[usize::from(k)] == dest);
-                    let said = entries.next().map_or(other, |entry| (11, 2 + entry));
-                    assert_eq!(typed(&s, dest), said, "{choice} {count}");
-                }
+fn sixteen_plus_the_entry() {
+    // In each entry alone, for one job and not for the other.
+    for entry in 0..16_u8 {
+        for job in [0, 1] {
+            let mut entries = [Entry::Free; 16];
+            entries[usize::from(entry)] = Entry::held(job, MULTICAST);
+            let table = Table::from_entries(entries);
+            for promiscuous in [false, true] {
+                let s = Settings {
+                    promiscuous,
+                    ..PLAIN
+                };
+                let other = if promiscuous { (11, 7) } else { (7, 0) };
+                let by = Reader { s, job, table };
+                assert_eq!(typed(by, MULTICAST), (11, 16 + entry));
+                let job = 1 - job;
+                assert_eq!(typed(Reader { s, job, table }, MULTICAST), other);
+            }
+        }
+    }
+}
+
+#[test]
+fn both_jobs_with_the_same_address() {
+    for first in 0..16_u8 {
+        for second in (0..16).filter(|&second| second != first) {
+            let mut entries = [Entry::Free; 16];
+            entries[usize::from(first)] = Entry::Job0(MULTICAST);
+            entries[usize::from(second)] = Entry::Job1(MULTICAST);
+            let table = Table::from_entries(entries);
+            for (job, entry) in [(0, first), (1, second)] {
+                let s = PLAIN;
+                let by = Reader { s, job, table };
+                assert_eq!(typed(by, MULTICAST), (11, 16 + entry));
             }
         }
     }
@@ -90,21 +120,21 @@ fn an_own_address_that_is_listed() {
     for entry in 0..4 {
         let mut listed = LISTED;
         listed[entry] = OWN;
-        for (s, _) in with_promiscuous(listing(listed, 4)) {
-            assert_eq!(typed(&s, OWN), (11, 1));
-            assert_eq!(control(&s, OWN, 2), (10, 1));
+        for (by, _) in with_promiscuous(PLAIN, &listed) {
+            assert_eq!(typed(by, OWN), (11, 1));
+            assert_eq!(control(by, OWN, 2), (10, 1));
         }
     }
 }
 
 #[test]
 fn all_six_octets() {
-    for (s, other) in with_promiscuous(listing(LISTED, 4)) {
+    for (by, other) in with_promiscuous(PLAIN, &LISTED) {
         for near in LISTED.into_iter().chain([OWN, BROADCAST]) {
             for at in 0..6 {
                 let mut dest = near;
                 dest[at] ^= 0x40;
-                assert_eq!(typed(&s, dest), other, "{dest:?}");
+                assert_eq!(typed(by, dest), other, "{dest:?}");
             }
         }
     }
@@ -117,16 +147,13 @@ fn broadcast_listed_or_not() {
         if entry < 4 {
             listed[entry] = BROADCAST;
         }
-        for (s, other) in with_promiscuous(listing(listed, 4)) {
-            assert_eq!(typed(&s, BROADCAST), (11, 6));
-            assert_eq!(control(&s, BROADCAST, 1), (10, 6));
-            let deaf = Settings {
-                broadcast: false,
-                ..s
-            };
-            assert_eq!(typed(&deaf, BROADCAST), other);
+        for (mut by, other) in with_promiscuous(PLAIN, &listed) {
+            assert_eq!(typed(by, BROADCAST), (11, 6));
+            assert_eq!(control(by, BROADCAST, 1), (10, 6));
+            by.s.broadcast = false;
+            assert_eq!(typed(by, BROADCAST), other);
             let dropped = if other == (7, 0) { (7, 0) } else { (10, 7) };
-            assert_eq!(control(&deaf, BROADCAST, 1), dropped);
+            assert_eq!(control(by, BROADCAST, 1), dropped);
         }
     }
 }
@@ -143,10 +170,8 @@ fn control_frames_to_the_reserved_group() {
         (PFC, 0x0001, 10),
     ] {
         for pass_control in [false, true] {
-            for (first, count) in [([0; 6], 0), (RESERVED, 0), (RESERVED, 1), (RESERVED, 4)] {
+            for listed in [&[][..], &[OTHER], &[RESERVED], &[OTHER, RESERVED]] {
                 let s = Settings {
-                    listed: [first, OTHER, RESERVED, RESERVED],
-                    count,
                     pass_control,
                     ..base
                 };
@@ -154,8 +179,8 @@ fn control_frames_to_the_reserved_group() {
                     10 if pass_control => 11,
                     _ => outcome,
                 };
-                for (s, _) in with_promiscuous(s) {
-                    assert_eq!(control(&s, RESERVED, opcode), (outcome, 8));
+                for (by, _) in with_promiscuous(s, listed) {
+                    assert_eq!(control(by, RESERVED, opcode), (outcome, 8));
                 }
             }
         }
@@ -165,42 +190,37 @@ fn control_frames_to_the_reserved_group() {
 #[test]
 fn the_reserved_group_in_other_frames() {
     // A tagged 0x8808 is an ordinary type.
-    for (s, other) in with_promiscuous(PLAIN) {
-        let tagged = |s: &Settings| {
-            let octets = frame(RESERVED, &[0x8100, 0, 0x8808], &ramp(46));
-            let seen = see(s, &octets);
-            (seen.outcome, seen.address)
-        };
-        assert_eq!(typed(&s, RESERVED), other);
-        assert_eq!(tagged(&s), other);
-        let listed = Settings {
-            listed: [OTHER, RESERVED, RESERVED, RESERVED],
-            count: 4,
-            ..s
-        };
-        assert_eq!(typed(&listed, RESERVED), (11, 3));
-        assert_eq!(tagged(&listed), (11, 3));
+    let tagged = |by: &Reader| {
+        let octets = frame(RESERVED, &[0x8100, 0, 0x8808], &ramp(46));
+        let seen = see(by, &octets);
+        (seen.outcome, seen.address)
+    };
+    for (by, other) in with_promiscuous(PLAIN, &[]) {
+        assert_eq!(typed(by, RESERVED), other);
+        assert_eq!(tagged(&by), other);
+    }
+    for (by, _) in with_promiscuous(PLAIN, &[OTHER, RESERVED]) {
+        assert_eq!(typed(by, RESERVED), (11, 17));
+        assert_eq!(tagged(&by), (11, 17));
     }
 }
 
 #[test]
 fn control_frames_to_others() {
-    for (s, other) in with_promiscuous(listing(LISTED, 2)) {
+    for (by, other) in with_promiscuous(PLAIN, &LISTED[..2]) {
         for pass_control in [false, true] {
-            let s = Settings { pass_control, ..s };
+            let mut by = by;
+            by.s.pass_control = pass_control;
             let outcome = if pass_control { 11 } else { 10 };
-            assert_eq!(control(&s, OWN, 1), (outcome, 1));
-            assert_eq!(control(&s, LISTED[1], 1), (outcome, 3));
-            assert_eq!(control(&s, BROADCAST, 1), (outcome, 6));
+            assert_eq!(control(by, OWN, 1), (outcome, 1));
+            assert_eq!(control(by, LISTED[1], 1), (outcome, 17));
+            assert_eq!(control(by, BROADCAST, 1), (outcome, 6));
             for dest in [LISTED[2], OTHER, MULTICAST] {
                 let said = if other == (7, 0) { other } else { (outcome, 7) };
-                assert_eq!(control(&s, dest, 1), said);
+                assert_eq!(control(by, dest, 1), said);
             }
-            let pausing = Settings {
-                flow: PAUSE.flow,
-                ..s
-            };
-            assert_eq!(control(&pausing, OWN, 1), (8, 1));
+            by.s.flow = PAUSE.flow;
+            assert_eq!(control(by, OWN, 1), (8, 1));
         }
     }
 }
@@ -222,43 +242,48 @@ fn earlier_outcomes_say_nothing() {
     }
 }
 
-/// A capture with a frame for each number, in order, and the settings for it.
-fn each_number() -> (Settings, Capture) {
+/// What lets in the frames of the capture below, in order.
+const NUMBERS: [u8; 8] = [1, 16, 17, 18, 19, 6, 7, 8];
+
+/// A capture with a frame for each number, and who reads it.
+fn each_number() -> (Reader, Capture) {
     let s = Settings {
         promiscuous: true,
-        ..listing(LISTED, 4)
+        ..PLAIN
     };
+    let [by, _] = readers(s, &LISTED);
     let mut capture = Capture::new();
     for dest in [OWN].into_iter().chain(LISTED).chain([BROADCAST, OTHER]) {
         capture = capture.frame(&frame(dest, &[0x0800], &ramp(46)));
     }
-    (s, capture.frame(&frame(RESERVED, &[0x8808], &ramp(46))))
+    (by, capture.frame(&frame(RESERVED, &[0x8808], &ramp(46))))
 }
 
 #[test]
 fn the_log_holds_it() {
-    let (s, capture) = each_number();
+    let (by, capture) = each_number();
     let (octets, marks) = (&capture.octets, &capture.marks);
     // By readings with an appending behind each, and by the walk.
     let mut appended = [0; 16 * 8];
     let mut place = 0;
-    for number in 1..=8 {
-        let reading = capture.read(&s, &mut State::default(), place);
+    for (record, number) in NUMBERS.into_iter().enumerate() {
+        let reading = capture.read(by, &mut State::default(), place);
         let Answer::Counted { address, .. } = reading.answer else {
             panic!("{reading:?}");
         };
         assert_eq!(address, number);
         assert_eq!(Record::of(&reading).address, number);
-        let entry = usize::from(number) - 1;
-        assert_eq!(append_reading(&mut appended, &reading), Ok(Some(entry)));
+        assert_eq!(append_reading(&mut appended, &reading), Ok(Some(record)));
         place = reading.next;
     }
     let mut walked = [0; 16 * 8];
     let kind = Check::ByteTable;
     let logged = walk_log(
         kind,
-        &s,
+        &by.s,
         &mut State::default(),
+        by.job,
+        &by.table,
         octets,
         marks,
         0,
@@ -267,7 +292,7 @@ fn the_log_holds_it() {
     assert_eq!((logged.end, logged.appended), (LogEnd::None, 8));
     assert_eq!(walked, appended);
     let held: Vec<u8> = walked.chunks_exact(16).map(|record| record[5]).collect();
-    assert_eq!(held, [1, 2, 3, 4, 5, 6, 7, 8]);
+    assert_eq!(held, NUMBERS);
 }
 
 #[test]

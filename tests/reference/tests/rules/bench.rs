@@ -6,7 +6,7 @@
 use reference::{fill_idle, read, send_client, send_pause, send_pfc, walk};
 use reference::{fill_idle_counting, send_client_counting};
 use reference::{send_pause_counting, send_pfc_counting};
-use reference::{Answer, Check, Client, Port, Reading, Sent, Settings, State, Walked};
+use reference::{Answer, Check, Client, Port, Reading, Sent, Settings, State, Table, Walked};
 
 use crate::hand::{KINDS, PLAIN, START};
 
@@ -14,6 +14,9 @@ use crate::hand::{KINDS, PLAIN, START};
 pub struct Bench {
     pub s: Settings,
     pub state: State,
+    /// Who reads, with the table; no sending call takes them.
+    pub job: u8,
+    pub table: Table,
     /// What frames are sent on.
     pub port: Port,
     pub octets: Vec<u8>,
@@ -29,6 +32,8 @@ impl Bench {
         Bench {
             s: PLAIN,
             state: State::default(),
+            job: 0,
+            table: Table::EMPTY,
             port: Port::Plain,
             octets: vec![0xA7; len],
             marks: vec![0xC9; len],
@@ -176,8 +181,9 @@ impl Bench {
     pub fn read(&mut self) -> Reading {
         let before = self.state;
         let kind = Check::ByteTable;
+        let (s, job, table, place) = (&self.s, self.job, &self.table, self.place);
         let (octets, marks) = (&self.octets, &self.marks);
-        let reading = read(kind, &self.s, &mut self.state, octets, marks, self.place);
+        let reading = read(kind, s, &mut self.state, job, table, octets, marks, place);
         assert_eq!(self.state.deficit, before.deficit);
         if let Answer::Refused(_) = reading.answer {
             assert_eq!((reading.start, reading.next), (self.place, self.place));
@@ -189,7 +195,9 @@ impl Bench {
     pub fn walk(&mut self) -> Walked {
         let before = self.state;
         let kind = Check::ByteTable;
-        let walked = walk(kind, &self.s, &mut self.state, &self.octets, &self.marks);
+        let (s, job, table) = (&self.s, self.job, &self.table);
+        let (octets, marks) = (&self.octets, &self.marks);
+        let walked = walk(kind, s, &mut self.state, job, table, octets, marks);
         assert_eq!(self.state.deficit, before.deficit);
         if let Walked::Refused(_) = walked {
             assert_eq!(self.state, before);

@@ -2,7 +2,7 @@
 //! and the 32-bit values of the management screen. That only one of them rises,
 //! and by one, the captures check with every frame.
 
-use reference::{screen, LogEnd, State, Walked};
+use reference::{screen, LogEnd, State, Table, Walked};
 
 use crate::hand::{frame, ramp, see_with, Capture, OWN, PLAIN, START, TERMINATE};
 
@@ -60,7 +60,8 @@ fn a_walk_passes_both_ends() {
         let mut logged = all_at(value);
         let (octets, marks) = (&capture.octets, &capture.marks);
         let kind = reference::Check::Bitwise;
-        let end = reference::walk_log(kind, &PLAIN, &mut logged, octets, marks, 0, &mut [0; 48]);
+        let (table, log) = (&Table::EMPTY, &mut [0; 48]);
+        let end = reference::walk_log(kind, &PLAIN, &mut logged, 0, table, octets, marks, 0, log);
         assert_eq!((end.end, end.appended), (LogEnd::Open, 3));
         assert_eq!(logged, state);
     }

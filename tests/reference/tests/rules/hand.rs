@@ -1,6 +1,7 @@
 //! Captures put together by hand, without the sender under test.
 
-use reference::{read, walk, Answer, Check, Flow, Reading, Settings, State, Tag, TagKind, Walked};
+use reference::{read, walk, Answer, Check, Entry, Flow, Reading, Settings, State, Table};
+use reference::{Lent, Tag, TagKind, Walked};
 
 pub const KINDS: [Check; 3] = [Check::Bitwise, Check::ByteTable, Check::Slicing16];
 
@@ -42,8 +43,6 @@ pub const LENGTH_RULE: [(u16, usize, Option<usize>); 20] = [
 /// The settings of the printing program.
 pub const PLAIN: Settings = Settings {
     own: OWN,
-    listed: [[0; 6]; 4],
-    count: 0,
     broadcast: true,
     promiscuous: false,
     checking: true,
@@ -61,6 +60,40 @@ pub const PFC: Settings = Settings {
     flow: Flow::Pfc,
     ..PLAIN
 };
+
+/// Who reads: a job with its settings and the table.
+#[derive(Clone, Copy, Debug, PartialEq)]
+pub struct Reader {
+    pub s: Settings,
+    pub job: u8,
+    pub table: Table,
+}
+
+/// Settings alone: job 0 reads, with an empty table.
+impl From<&Settings> for Reader {
+    fn from(s: &Settings) -> Self {
+        Reader {
+            s: *s,
+            job: 0,
+            table: Table::EMPTY,
+        }
+    }
+}
+
+impl From<&Reader> for Reader {
+    fn from(reader: &Reader) -> Self {
+        *reader
+    }
+}
+
+/// A table in which a job holds the first entries, with these addresses.
+pub fn listing(job: u8, addresses: &[[u8; 6]]) -> Table {
+    let mut entries = [Entry::Free; 16];
+    for (entry, &address) in entries.iter_mut().zip(addresses) {
+        *entry = Entry::held(job, address);
+    }
+    Table::from_entries(entries)
+}
 
 /// The FCS as clause 3 defines it: the register isn't bit-reversed, octets go
 /// in low bit first, the result is complemented and sent from its top bit on,
@@ -153,10 +186,12 @@ impl Capture {
         self.open_frame(frame).control(TERMINATE)
     }
 
-    pub fn read(&self, s: &Settings, state: &mut State, place: usize) -> Reading {
+    pub fn read(&self, by: impl Into<Reader>, state: &mut State, place: usize) -> Reading {
+        let Reader { s, job, table } = by.into();
         let mut readings = KINDS.iter().map(|&kind| {
             let mut own = *state;
-            let reading = read(kind, s, &mut own, &self.octets, &self.marks, place);
+            let (octets, marks) = (&self.octets, &self.marks);
+            let reading = read(kind, &s, &mut own, job, &table, octets, marks, place);
             (reading, own)
         });
         let (reading, after) = readings.next().unwrap();
@@ -165,17 +200,27 @@ impl Capture {
         reading
     }
 
-    pub fn walk(&self, s: &Settings, state: &mut State) -> Walked {
-        walk(Check::ByteTable, s, state, &self.octets, &self.marks)
+    pub fn lent(&self) -> Lent<'_> {
+        Lent {
+            octets: &self.octets,
+            marks: &self.marks,
+        }
+    }
+
+    pub fn walk(&self, by: impl Into<Reader>, state: &mut State) -> Walked {
+        let Reader { s, job, table } = by.into();
+        let (octets, marks) = (&self.octets, &self.marks);
+        walk(Check::ByteTable, &s, state, job, &table, octets, marks)
     }
 
     /// Outcomes of all counted Starts, and whether the walk ended open.
-    pub fn outcomes(&self, s: &Settings) -> (Vec<u8>, bool) {
+    pub fn outcomes(&self, by: impl Into<Reader>) -> (Vec<u8>, bool) {
+        let by = by.into();
         let mut state = State::default();
         let mut outcomes = Vec::new();
         let mut place = 0;
         loop {
-            let reading = self.read(s, &mut state, place);
+            let reading = self.read(by, &mut state, place);
             match reading.answer {
                 Answer::Counted { outcome, .. } => outcomes.push(outcome),
                 Answer::None => return (outcomes, false),
@@ -200,10 +245,10 @@ pub struct Seen {
 /// Reads a single frame and checks everything that doesn't depend on it: the
 /// places, the one counter that rises, the empty parts of outcomes 1 to 10, and
 /// that an address let in exactly those of outcomes 8 to 11.
-pub fn see_with(s: &Settings, state: &mut State, frame: &[u8]) -> Seen {
+pub fn see_with(by: impl Into<Reader>, state: &mut State, frame: &[u8]) -> Seen {
     let capture = Capture::new().frame(frame).control(IDLE);
     let mut expected = *state;
-    let reading = capture.read(s, state, 0);
+    let reading = capture.read(by, state, 0);
     assert_eq!(reading.start, 0);
     assert_eq!(reading.next, 8 + frame.len());
     let Answer::Counted {
@@ -228,7 +273,7 @@ pub fn see_with(s: &Settings, state: &mut State, frame: &[u8]) -> Seen {
     if outcome < 8 {
         assert_eq!((status, address), (0, 0));
     } else {
-        assert!((1..=8).contains(&address));
+        assert!([1, 6, 7, 8].contains(&address) || (16..32).contains(&address));
     }
     Seen {
         outcome,
@@ -238,10 +283,10 @@ pub fn see_with(s: &Settings, state: &mut State, frame: &[u8]) -> Seen {
     }
 }
 
-pub fn see(s: &Settings, frame: &[u8]) -> Seen {
-    see_with(s, &mut State::default(), frame)
+pub fn see(by: impl Into<Reader>, frame: &[u8]) -> Seen {
+    see_with(by, &mut State::default(), frame)
 }
 
-pub fn outcome(s: &Settings, frame: &[u8]) -> u8 {
-    see(s, frame).outcome
+pub fn outcome(by: impl Into<Reader>, frame: &[u8]) -> u8 {
+    see(by, frame).outcome
 }

@@ -1,6 +1,6 @@
 //! "Both sides of the limits", every entry.
 
-use reference::{send_client, Check, Client, Form, Port, Sent, Settings, State};
+use reference::{send_client, Check, Client, Form, Port, Sent, Settings, State, Table};
 
 use crate::hand::{frame, outcome, ramp, see, see_with, tags, Capture, Seen, KINDS};
 use crate::hand::{OTHER, OWN, PAUSE, PFC, PLAIN, RESERVED, START, TERMINATE};
@@ -162,6 +162,8 @@ fn length_0_has_its_real_place() {
             kind,
             &PLAIN,
             &mut State::default(),
+            0,
+            &Table::EMPTY,
             &capture.octets,
             &capture.marks,
             0,

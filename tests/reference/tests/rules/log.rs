@@ -1,10 +1,12 @@
 //! "A reading log", item 4 of document 02.
 
 use reference::{append, append_reading, first_unused, read, record, used_in_front, walk_log};
-use reference::{Answer, Check, LogEnd, LogReader, Logged, Reading, Record, Settings, State};
+use reference::{
+    Answer, Check, LogEnd, LogReader, Logged, Reading, Record, Settings, State, Table,
+};
 
-use crate::hand::{frame, ramp, see_with, Capture, BROADCAST, IDLE, MULTICAST, OTHER, OWN};
-use crate::hand::{KINDS, PAUSE, PFC, PLAIN, RESERVED, START, TERMINATE};
+use crate::hand::{frame, listing, ramp, see_with, Capture, Reader, BROADCAST, IDLE, KINDS};
+use crate::hand::{MULTICAST, OTHER, OWN, PAUSE, PFC, PLAIN, RESERVED, START, TERMINATE};
 use crate::robust::Dice;
 
 /// Fields of which no two octets are alike, and the same as they stand.
@@ -578,15 +580,17 @@ fn ended(end: LogEnd, next: usize, appended: usize) -> Logged {
 /// All readings from a place on, each with the state behind it; all but the
 /// last one are counted.
 fn readings_from(
-    s: &Settings,
+    by: &Reader,
     capture: &Capture,
     mut state: State,
     mut place: usize,
 ) -> Vec<(Reading, State)> {
     let mut readings = Vec::new();
+    let Reader { s, job, table } = by;
     loop {
+        let kind = Check::ByteTable;
         let (octets, marks) = (&capture.octets, &capture.marks);
-        let reading = read(Check::ByteTable, s, &mut state, octets, marks, place);
+        let reading = read(kind, s, &mut state, *job, table, octets, marks, place);
         readings.push((reading, state));
         let Answer::Counted { .. } = reading.answer else {
             return readings;
@@ -597,7 +601,7 @@ fn readings_from(
 
 /// What a walk with a log must give, by readings with an appending behind each.
 fn by_hand(
-    s: &Settings,
+    by: &Reader,
     capture: &Capture,
     state: &mut State,
     place: usize,
@@ -606,7 +610,7 @@ fn by_hand(
     let mut next = place;
     for appended in 0.. {
         let mut after = *state;
-        let reading = capture.read(s, &mut after, next);
+        let reading = capture.read(by, &mut after, next);
         match (reading.answer, append_reading(log, &reading)) {
             (Answer::Counted { .. }, Ok(Some(_))) => *state = after,
             (Answer::Counted { .. }, Err(12)) => return ended(LogEnd::Full, next, appended),
@@ -624,23 +628,27 @@ fn by_hand(
 /// then; else it keeps as many of the readings that there are from that place
 /// on as there are unused records.
 fn walk_checked(
-    s: &Settings,
+    by: impl Into<Reader>,
     capture: &Capture,
     state: &mut State,
     place: usize,
     log: &mut [u8],
 ) -> Logged {
+    let by = by.into();
+    let Reader { s, job, table } = &by;
     let mut results = KINDS.iter().map(|&kind| {
-        let (mut state, mut log) = (*state, log.to_vec());
+        let (mut after, mut kept) = (*state, log.to_vec());
         let (octets, marks) = (&capture.octets, &capture.marks);
-        let logged = walk_log(kind, s, &mut state, octets, marks, place, &mut log);
-        (logged, state, log)
+        let logged = walk_log(
+            kind, s, &mut after, *job, table, octets, marks, place, &mut kept,
+        );
+        (logged, after, kept)
     });
     let first = results.next().unwrap();
     assert!(results.all(|other| other == first));
     let (logged, after, log_after) = first;
 
-    let readings = readings_from(s, capture, *state, place);
+    let readings = readings_from(&by, capture, *state, place);
     let ((last, state_at_end), counted) = readings.split_last().unwrap();
     let behind = log.len() % 16;
     let refusal = match last.answer {
@@ -678,16 +686,17 @@ fn walk_checked(
 /// Walks on with another log of zero octets each time one is full: the last
 /// answer, and the records of all these logs.
 fn walk_on(
-    s: &Settings,
+    by: impl Into<Reader>,
     capture: &Capture,
     state: &mut State,
     mut place: usize,
     sizes: impl IntoIterator<Item = usize>,
 ) -> (Logged, Vec<Record>) {
+    let by = by.into();
     let mut records = Vec::new();
     for size in sizes {
         let mut log = vec![0; 16 * size];
-        let logged = walk_checked(s, capture, state, place, &mut log);
+        let logged = walk_checked(by, capture, state, place, &mut log);
         records.extend(read_back(&log));
         if logged.end != LogEnd::Full {
             return (logged, records);
@@ -951,50 +960,58 @@ fn a_walk_from_any_place() {
 
 #[test]
 fn ladder_of_a_walk_with_a_log() {
-    let mut s = Settings { limit: 0, ..PLAIN };
+    let mut by = Reader {
+        s: Settings { limit: 0, ..PLAIN },
+        job: 2,
+        table: listing(1, &[OTHER, OTHER]),
+    };
     let mut capture = five_starts(START);
     capture.marks.push(0);
     let mut place = 404;
     let mut log = vec![0xA7; 17];
     let mut state = BEFORE;
-    let mut answer = |s: &Settings, capture: &Capture, place, log: &mut [u8]| {
-        walk_checked(s, capture, &mut state, place, log)
+    let mut answer = |by: &Reader, capture: &Capture, place, log: &mut [u8]| {
+        walk_checked(by, capture, &mut state, place, log)
     };
     let refused = |number, place| ended(LogEnd::Refused(number), place, 0);
-    assert_eq!(answer(&s, &capture, place, &mut log), refused(1, 404));
-    s = PLAIN;
-    assert_eq!(answer(&s, &capture, place, &mut log), refused(2, 404));
+    assert_eq!(answer(&by, &capture, place, &mut log), refused(1, 404));
+    by.s = PLAIN;
+    assert_eq!(answer(&by, &capture, place, &mut log), refused(14, 404));
+    by.job = 1;
+    assert_eq!(answer(&by, &capture, place, &mut log), refused(2, 404));
     capture.marks.pop();
-    assert_eq!(answer(&s, &capture, place, &mut log), refused(3, 404));
+    assert_eq!(answer(&by, &capture, place, &mut log), refused(3, 404));
     place = 403;
-    assert_eq!(answer(&s, &capture, place, &mut log), refused(11, 403));
+    assert_eq!(answer(&by, &capture, place, &mut log), refused(20, 403));
+    by.table = Table::EMPTY;
+    assert_eq!(answer(&by, &capture, place, &mut log), refused(11, 403));
     place = 0;
-    assert_eq!(answer(&s, &capture, place, &mut log), refused(11, 0));
+    assert_eq!(answer(&by, &capture, place, &mut log), refused(11, 0));
     // 11 is given too if there is nothing to append.
     let empty = Capture::new();
-    assert_eq!(answer(&s, &empty, place, &mut log), refused(11, 0));
+    assert_eq!(answer(&by, &empty, place, &mut log), refused(11, 0));
     assert_eq!(log, [0xA7; 17]);
     // Never 12: a log without an unused record is an end.
     log.pop();
     let full = ended(LogEnd::Full, 0, 0);
-    assert_eq!(answer(&s, &capture, place, &mut log), full);
+    assert_eq!(answer(&by, &capture, place, &mut log), full);
     assert_eq!(log, [0xA7; 16]);
     log[4] = 0;
     let full = ended(LogEnd::Full, 73, 1);
-    assert_eq!(answer(&s, &capture, place, &mut log), full);
+    assert_eq!(answer(&by, &capture, place, &mut log), full);
     log.extend([0; 16 * 4]);
     let open = ended(LogEnd::Open, 402, 4);
-    assert_eq!(answer(&s, &capture, 73, &mut log), open);
+    assert_eq!(answer(&by, &capture, 73, &mut log), open);
     assert_eq!(read_back(&log), five_records());
 }
 
 #[test]
 fn walks_of_all_sorts() {
     let mut dice = Dice::new(7);
-    let mut refusals = [0; 12];
+    let mut refusals = [0; 21];
     let mut ends = [0; 3];
     for _ in 0..4_000 {
-        let s = dice.settings();
+        let by = dice.reader();
         let mut capture = Capture::new();
         for _ in 0..dice.roll(8) {
             capture = dice.piece(capture);
@@ -1013,7 +1030,7 @@ fn walks_of_all_sorts() {
         }
         let mut expected_log = log.clone();
         let (mut state, mut expected_state) = (BEFORE, BEFORE);
-        let logged = walk_checked(&s, &capture, &mut state, place, &mut log);
+        let logged = walk_checked(by, &capture, &mut state, place, &mut log);
         match logged.end {
             LogEnd::Refused(number) => {
                 refusals[usize::from(number)] += 1;
@@ -1023,20 +1040,20 @@ fn walks_of_all_sorts() {
             LogEnd::Open => ends[1] += 1,
             LogEnd::Full => ends[2] += 1,
         }
-        let expected = by_hand(&s, &capture, &mut expected_state, place, &mut expected_log);
+        let expected = by_hand(&by, &capture, &mut expected_state, place, &mut expected_log);
         assert_eq!(logged, expected);
         assert_eq!((state, log), (expected_state, expected_log));
 
         // With any logs one after the other it is the walk with room.
         let mut state = BEFORE;
-        let (whole, records) = walk_on(&s, &capture, &mut state, place, [capture.octets.len()]);
+        let (whole, records) = walk_on(by, &capture, &mut state, place, [capture.octets.len()]);
         let sizes: Vec<usize> = (0..1_000).map(|_| dice.roll(4)).collect();
         let mut stepped = BEFORE;
-        let (last, stepped_records) = walk_on(&s, &capture, &mut stepped, place, sizes);
+        let (last, stepped_records) = walk_on(by, &capture, &mut stepped, place, sizes);
         assert_eq!((last.end, last.next), (whole.end, whole.next));
         assert_eq!((stepped, stepped_records), (state, records));
     }
-    for number in [1, 2, 3, 11] {
+    for number in [1, 2, 3, 11, 14, 20] {
         assert!(refusals[number] > 0, "{refusals:?}");
     }
     assert!(ends.iter().all(|&count| count > 0), "{ends:?}");

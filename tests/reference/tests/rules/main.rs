@@ -1,5 +1,5 @@
-//! The rules of document 01 and of items 1 to 9 of document 02, one module for each
-//! part.
+//! The rules of document 01 and of items 1 to 10 of document 02, one module for
+//! each part.
 
 mod addresses;
 mod bench;
@@ -7,6 +7,7 @@ mod counters;
 mod fcs;
 mod four_lanes;
 mod hand;
+mod jobs;
 mod limits;
 mod log;
 mod printing;

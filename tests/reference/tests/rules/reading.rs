@@ -1,9 +1,9 @@
 //! "Reading one Start": each outcome, the order of the rules, addresses,
 //! lengths, control frames and status words.
 
-use reference::{read, Answer, Check, Flow, Reading, Settings, State, Walked};
+use reference::{read, Answer, Check, Flow, Reading, Settings, State, Table, Walked};
 
-use crate::hand::{frame, outcome, ramp, see, see_with, Capture};
+use crate::hand::{frame, listing, outcome, ramp, see, see_with, Capture, Reader};
 use crate::hand::{
     BROADCAST, ERROR, IDLE, LENGTH_RULE, MULTICAST, OTHER, OWN, PAUSE, PFC, PLAIN, RESERVED,
 };
@@ -162,35 +162,38 @@ fn outcome_6_wrong_length() {
 fn outcome_7_filtered() {
     let to = |dest| frame(dest, &[0x0800], &ramp(46));
     let listed = [MULTICAST, OTHER, BROADCAST, [0x03, 1, 2, 3, 4, 5]];
-    let s = Settings { listed, ..PLAIN };
-    assert_eq!(outcome(&s, &to(OWN)), 11);
+    assert_eq!(outcome(&PLAIN, &to(OWN)), 11);
     for count in 0..=4 {
-        let s = Settings { count, ..s };
-        for (number, dest) in (0..).zip(listed) {
+        let mut by = Reader {
+            table: listing(0, &listed[..count]),
+            ..Reader::from(&PLAIN)
+        };
+        for (number, dest) in listed.into_iter().enumerate() {
             if dest != BROADCAST {
                 let expected = if number < count { 11 } else { 7 };
-                assert_eq!(outcome(&s, &to(dest)), expected);
+                assert_eq!(outcome(by, &to(dest)), expected);
             }
         }
-        let deaf = Settings {
-            broadcast: false,
-            ..s
-        };
-        assert_eq!(outcome(&s, &to(BROADCAST)), 11);
-        assert_eq!(outcome(&deaf, &to(BROADCAST)), 7);
+        assert_eq!(outcome(by, &to(BROADCAST)), 11);
+        by.s.broadcast = false;
+        assert_eq!(outcome(by, &to(BROADCAST)), 7);
     }
     // All six octets count.
+    let by = Reader {
+        table: listing(0, &listed[..1]),
+        ..Reader::from(&PLAIN)
+    };
     for near in [OWN, MULTICAST] {
         for at in 0..6 {
             let mut dest = near;
             dest[at] ^= 0x80;
-            assert_eq!(outcome(&Settings { count: 1, ..s }, &to(dest)), 7);
+            assert_eq!(outcome(by, &to(dest)), 7);
         }
     }
     let promiscuous = Settings {
         promiscuous: true,
         broadcast: false,
-        ..s
+        ..PLAIN
     };
     for dest in [OTHER, MULTICAST, RESERVED, BROADCAST, [0; 6]] {
         assert_eq!(outcome(&promiscuous, &to(dest)), 11);
@@ -250,11 +253,9 @@ fn outcome_9_pfc_taken() {
 
 #[test]
 fn outcome_10_control_dropped_or_11() {
-    let listed = [MULTICAST, [0; 6], [0; 6], [0; 6]];
-    let base = Settings {
-        listed,
-        count: 1,
-        ..PLAIN
+    let mut by = Reader {
+        table: listing(0, &[MULTICAST]),
+        ..Reader::from(&PLAIN)
     };
     let (pause, pfc, unknown) = (0x0001, 0x0101, 0x0002);
     // Flow mode, destination, opcode: none of them is taken.
@@ -281,14 +282,11 @@ fn outcome_10_control_dropped_or_11() {
             _ => 1 << 38,
         };
         let status = kind | 1 << 34 | 64 << 16 | 46;
-        let s = Settings { flow, ..base };
-        let seen = see(&s, &octets);
+        by.s = Settings { flow, ..PLAIN };
+        let seen = see(by, &octets);
         assert_eq!((seen.outcome, seen.status), (10, status));
-        let s = Settings {
-            pass_control: true,
-            ..s
-        };
-        let seen = see(&s, &octets);
+        by.s.pass_control = true;
+        let seen = see(by, &octets);
         assert_eq!((seen.outcome, seen.status), (11, status));
         assert_eq!(seen.data, &octets[14..60]);
     }
@@ -433,6 +431,8 @@ fn buffers_of_the_greatest_length() {
         Check::Slicing16,
         &PLAIN,
         &mut state,
+        0,
+        &Table::EMPTY,
         &capture.octets,
         &capture.marks,
         0,

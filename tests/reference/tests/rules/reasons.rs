@@ -4,7 +4,7 @@
 
 use reference::{explain, Answer, Explained, Flow, Reason, Settings, State, Why};
 
-use crate::hand::{clause_3, frame, ramp, tagged, Capture, KINDS};
+use crate::hand::{clause_3, frame, listing, ramp, tagged, Capture, Reader, KINDS};
 use crate::hand::{BROADCAST, ERROR, IDLE, MULTICAST, OTHER, OWN, PAUSE, PFC, PLAIN, RESERVED};
 use crate::hand::{START, TERMINATE};
 use crate::robust::Dice;
@@ -23,7 +23,8 @@ fn tag_count(octets: &[u8]) -> usize {
 
 /// Does the rule of this number hold? One that looks into a frame is asked only
 /// where those before it hold for none, so that the frame is long enough.
-fn holds(rule: u8, s: &Settings, run: &[u8], ending: u8) -> bool {
+fn holds(rule: u8, by: &Reader, run: &[u8], ending: u8) -> bool {
+    let s = &by.s;
     let octets = run.get(7..).unwrap_or(&[]);
     let len = octets.len();
     match rule {
@@ -52,7 +53,8 @@ fn holds(rule: u8, s: &Settings, run: &[u8], ending: u8) -> bool {
             s.checking && !kept
         }
         7 => {
-            let listed = s.listed[..usize::from(s.count)].contains(&dest);
+            let mut entries = by.table.entries().iter();
+            let listed = entries.any(|entry| entry.address_of(by.job) == Some(dest));
             let accepted = match dest {
                 _ if s.promiscuous => true,
                 BROADCAST => s.broadcast,
@@ -103,12 +105,14 @@ fn is_evidence(reason: Reason, s: &Settings, octets: &[u8], start: usize, next: 
 }
 
 /// Explains in all three ways, and checks all that holds of every answer.
-fn explained(s: &Settings, capture: &Capture, place: usize) -> Explained {
+fn explained(by: impl Into<Reader>, capture: &Capture, place: usize) -> Explained {
+    let by = by.into();
+    let Reader { s, job, table } = &by;
     let (octets, marks) = (&capture.octets, &capture.marks);
-    let answers = KINDS.map(|kind| explain(kind, s, octets, marks, place));
+    let answers = KINDS.map(|kind| explain(kind, s, *job, table, octets, marks, place));
     let answer = answers[0];
     assert_eq!(answers, [answer; 3]);
-    let reading = capture.read(s, &mut State::default(), place);
+    let reading = capture.read(by, &mut State::default(), place);
     assert_eq!((answer.start, answer.next), (reading.start, reading.next));
     match (answer.why, reading.answer) {
         (Why::Refused(number), Answer::Refused(same)) => assert_eq!(number, same),
@@ -125,7 +129,7 @@ fn explained(s: &Settings, capture: &Capture, place: usize) -> Explained {
             }
             let (start, next) = (answer.start, answer.next);
             let run = &octets[start + 1..next];
-            let mut rules = (1..=11).filter(|&rule| holds(rule, s, run, octets[next]));
+            let mut rules = (1..=11).filter(|&rule| holds(rule, &by, run, octets[next]));
             assert_eq!(rules.next(), Some(outcome), "{reason:?}");
             assert!(is_evidence(reason, s, octets, start, next), "{reason:?}");
         }
@@ -158,8 +162,8 @@ fn good() -> Vec<u8> {
 
 #[test]
 fn no_reason() {
-    let refused = |s: &Settings, capture: &Capture, place, number| {
-        let answer = explained(s, capture, place);
+    let refused = |by: &Reader, capture: &Capture, place, number| {
+        let answer = explained(by, capture, place);
         let expected = Explained {
             why: Why::Refused(number),
             start: place,
@@ -167,33 +171,42 @@ fn no_reason() {
         };
         assert_eq!(answer, expected);
     };
-    let mut s = Settings { limit: 0, ..PLAIN };
+    let mut by = Reader {
+        s: Settings { limit: 0, ..PLAIN },
+        job: 2,
+        table: listing(1, &[OWN, OWN]),
+    };
     let mut capture = Capture::new().control(IDLE).open_frame(&good());
     let len = capture.octets.len();
     capture.marks.push(0);
-    refused(&s, &capture, len + 1, 1);
-    s = PLAIN;
-    refused(&s, &capture, len + 1, 2);
+    refused(&by, &capture, len + 1, 1);
+    by.s = PLAIN;
+    refused(&by, &capture, len + 1, 14);
+    by.job = 0;
+    refused(&by, &capture, len + 1, 2);
     capture.marks.pop();
-    refused(&s, &capture, len + 1, 3);
-    refused(&s, &capture, usize::MAX, 3);
+    refused(&by, &capture, len + 1, 3);
+    refused(&by, &capture, usize::MAX, 3);
+    refused(&by, &capture, len, 20);
+    refused(&by, &capture, 0, 20);
+    by.table = listing(1, &[OWN, OTHER]);
     for (place, why, both) in [
         (0, Why::Open, 1),
         (1, Why::Open, 1),
         (2, Why::None, len),
         (len, Why::None, len),
     ] {
-        let answer = explained(&s, &capture, place);
+        let answer = explained(by, &capture, place);
         assert_eq!((answer.why, answer.start, answer.next), (why, both, both));
     }
-    let none = explained(&s, &Capture::new(), 0);
+    let none = explained(by, &Capture::new(), 0);
     assert_eq!((none.why, none.start, none.next), (Why::None, 0, 0));
     for limit in [1517, 9619] {
         let s = Settings { limit, ..PLAIN };
-        refused(&s, &Capture::new(), 0, 1);
+        refused(&Reader::from(&s), &Capture::new(), 0, 1);
     }
     let long = Capture::new().data(&[0].repeat(65_537));
-    refused(&PLAIN, &long, 0, 2);
+    refused(&Reader::from(&PLAIN), &long, 0, 2);
 }
 
 #[test]
@@ -453,16 +466,16 @@ fn captures_of_all_sorts() {
     let mut dice = Dice::new(9);
     let mut counts = [0; 12];
     for _ in 0..2_000 {
-        let s = dice.settings();
+        let by = dice.reader();
         let mut capture = Capture::new();
         for _ in 0..dice.roll(6) {
             capture = dice.piece(capture);
         }
-        explained(&s, &capture, dice.roll(capture.octets.len() + 3));
+        explained(by, &capture, dice.roll(capture.octets.len() + 3));
         let mut place = 0;
-        while let Why::Because(reason) = explained(&s, &capture, place).why {
+        while let Why::Because(reason) = explained(by, &capture, place).why {
             counts[usize::from(reason.outcome())] += 1;
-            place = explained(&s, &capture, place).next;
+            place = explained(by, &capture, place).next;
         }
     }
     // Oversized ones are too long for this test.

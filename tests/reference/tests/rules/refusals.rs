@@ -2,10 +2,10 @@
 //! first; then one after the other is mended, the first first, so every number
 //! is seen with all later ones behind it. The single causes follow.
 
-use reference::{Answer, Client, Flow, Form, Sent, Settings, Walked};
+use reference::{Answer, Client, Flow, Form, Sent, Settings, Table, Walked};
 
 use crate::bench::Bench;
-use crate::hand::{ramp, tags, OTHER, PLAIN};
+use crate::hand::{listing, ramp, tags, OTHER, PLAIN};
 
 const CLIENT: Client = Client {
     dest: OTHER,
@@ -14,10 +14,13 @@ const CLIENT: Client = Client {
     class: 0,
 };
 
-/// All that can be wrong with settings, buffers and place.
+/// All that can be wrong with settings, job, buffers, place and table. No
+/// sending call looks at job and table.
 fn broken() -> Bench {
     let mut bench = Bench::new(10);
     bench.s.limit = 0;
+    bench.job = 2;
+    bench.table = listing(1, &[OTHER, OTHER]);
     bench.marks.pop();
     bench.place = usize::MAX;
     bench
@@ -25,6 +28,14 @@ fn broken() -> Bench {
 
 fn mend_settings(bench: &mut Bench) {
     bench.s = PLAIN;
+}
+
+fn mend_job(bench: &mut Bench) {
+    bench.job = 0;
+}
+
+fn mend_table(bench: &mut Bench) {
+    bench.table = Table::EMPTY;
 }
 
 fn mend_buffers(bench: &mut Bench) {
@@ -41,10 +52,14 @@ fn ladder_of_reading() {
     let refused = |bench: &mut Bench| bench.read().answer;
     assert_eq!(refused(&mut bench), Answer::Refused(1));
     mend_settings(&mut bench);
+    assert_eq!(refused(&mut bench), Answer::Refused(14));
+    mend_job(&mut bench);
     assert_eq!(refused(&mut bench), Answer::Refused(2));
     mend_buffers(&mut bench);
     assert_eq!(refused(&mut bench), Answer::Refused(3));
     mend_place(&mut bench);
+    assert_eq!(refused(&mut bench), Answer::Refused(20));
+    mend_table(&mut bench);
     assert_eq!(refused(&mut bench), Answer::None);
 }
 
@@ -53,8 +68,12 @@ fn ladder_of_the_walk() {
     let mut bench = broken();
     assert_eq!(bench.walk(), Walked::Refused(1));
     mend_settings(&mut bench);
+    assert_eq!(bench.walk(), Walked::Refused(14));
+    mend_job(&mut bench);
     assert_eq!(bench.walk(), Walked::Refused(2));
     mend_buffers(&mut bench);
+    assert_eq!(bench.walk(), Walked::Refused(20));
+    mend_table(&mut bench);
     let ended = Walked::Ended {
         starts: 0,
         open: false,
@@ -172,12 +191,6 @@ fn refusal_1() {
     }
     for limit in [1518, 1519, 9617, 9618] {
         right.push(Settings { limit, ..PLAIN });
-    }
-    for count in [5, 6, 255] {
-        wrong.push(Settings { count, ..PLAIN });
-    }
-    for count in 0..=4 {
-        right.push(Settings { count, ..PLAIN });
     }
     for first in 0..=255u8 {
         let own = [first, 9, 9, 9, 9, 9];

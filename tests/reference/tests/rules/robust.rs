@@ -1,12 +1,12 @@
 //! Any input: no panic, the three checks agree, the counters rise by the
 //! number of Starts, and a walk takes linear time.
 
-use reference::Walked;
-use reference::{print, read, walk, Answer, Check, Client, Flow, Form, Port, Settings, State};
+use reference::{print, read, walk, Answer, Check, Client, Entry, Flow, Form, Port, Settings};
+use reference::{State, Table, Walked};
 
 use crate::bench::Bench;
-use crate::hand::{frame, ramp, tagged, tags, Capture, BROADCAST, KINDS, MULTICAST, OTHER, OWN};
-use crate::hand::{PLAIN, RESERVED, START};
+use crate::hand::{frame, ramp, tagged, tags, Capture, Reader, BROADCAST, KINDS, MULTICAST};
+use crate::hand::{OTHER, OWN, PLAIN, RESERVED, START};
 
 /// A small generator of numbers that look random and are the same each time.
 pub struct Dice(u64);
@@ -50,14 +50,45 @@ impl Dice {
     pub fn settings(&mut self) -> Settings {
         Settings {
             own: self.pick(&[OWN, OWN, OWN, OTHER, MULTICAST]),
-            listed: [(); 4].map(|()| self.address()),
-            count: self.pick(&[0, 1, 2, 3, 4, 4, 0, 5]),
             broadcast: self.coin(),
             promiscuous: self.coin(),
             checking: self.coin(),
             limit: self.pick(&[1518, 1518, 1600, 9618, 1517]),
             flow: self.pick(&[Flow::None, Flow::Pause, Flow::Pfc]),
             pass_control: self.coin(),
+        }
+    }
+
+    /// A table: at times empty or full, or wrong.
+    pub fn table(&mut self) -> Table {
+        let most = self.pick(&[0, 1, 4, 16]);
+        let mut table = Table::EMPTY;
+        for near in 0..most {
+            let mut address = self.address();
+            if self.coin() {
+                address[5] = near;
+            }
+            // An address that is there stays alone.
+            let _ = table.add(self.roll(2) as u8, address);
+        }
+        for _ in 0..self.roll(3) {
+            let _ = table.remove(self.roll(2) as u8, self.address());
+        }
+        let mut entries = *table.entries();
+        if self.roll(8) == 0 {
+            for _ in 0..2 {
+                entries[self.roll(16)] = Entry::Job1(OTHER);
+            }
+        }
+        Table::from_entries(entries)
+    }
+
+    /// Who reads; at times one that is refused.
+    pub fn reader(&mut self) -> Reader {
+        Reader {
+            s: self.settings(),
+            job: self.pick(&[0, 0, 0, 0, 1, 1, 1, 1, 1, 2]),
+            table: self.table(),
         }
     }
 
@@ -90,11 +121,12 @@ impl Dice {
 }
 
 /// Walks in all three ways and checks what holds for every walk.
-fn check_walk(s: &Settings, capture: &Capture, before: State) -> Option<State> {
+fn check_walk(by: impl Into<Reader>, capture: &Capture, before: State) -> Option<State> {
+    let Reader { s, job, table } = by.into();
     let (octets, marks) = (&capture.octets, &capture.marks);
     let mut results = KINDS.iter().map(|&kind| {
         let mut state = before;
-        let walked = walk(kind, s, &mut state, octets, marks);
+        let walked = walk(kind, &s, &mut state, job, &table, octets, marks);
         (walked, state)
     });
     let (walked, after) = results.next().unwrap();
@@ -122,12 +154,12 @@ fn captures_of_all_sorts() {
     let mut dice = Dice::new(1);
     let mut total = [0u64; 11];
     for _ in 0..3_000 {
-        let s = dice.settings();
+        let by = dice.reader();
         let mut capture = Capture::new();
         for _ in 0..dice.roll(8) {
             capture = dice.piece(capture);
         }
-        if let Some(after) = check_walk(&s, &capture, State::default()) {
+        if let Some(after) = check_walk(by, &capture, State::default()) {
             for (total, counter) in total.iter_mut().zip(after.counters) {
                 *total += counter;
             }
@@ -137,15 +169,17 @@ fn captures_of_all_sorts() {
             timers: [5; 8],
             deficit: 200,
         };
-        check_walk(&s, &capture, before);
+        check_walk(by, &capture, before);
         // A single reading at any place.
         let place = dice.roll(capture.octets.len() + 3);
         let mut state = State::default();
         let (octets, marks) = (&capture.octets, &capture.marks);
-        let reading = read(Check::Slicing16, &s, &mut state, octets, marks, place);
+        let Reader { s, job, table } = &by;
+        let kind = Check::Slicing16;
+        let reading = read(kind, s, &mut state, *job, table, octets, marks, place);
         match reading.answer {
             Answer::Refused(number) => {
-                assert!((1..=3).contains(&number));
+                assert!([1, 2, 3, 14, 20].contains(&number));
                 assert_eq!((reading.start, reading.next), (place, place));
             }
             Answer::None => assert_eq!(reading.start, octets.len()),
@@ -170,7 +204,11 @@ fn calls_of_all_sorts() {
     let mut answers = [0; 23];
     for _ in 0..4_000 {
         let mut bench = Bench::new(dice.pick(&[0, 83, 84, 88, 200, 1_538, 1_700]));
-        bench.s = dice.settings();
+        Reader {
+            s: bench.s,
+            job: bench.job,
+            table: bench.table,
+        } = dice.reader();
         if dice.roll(8) == 0 {
             bench.marks.push(0);
         }

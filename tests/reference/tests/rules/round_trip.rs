@@ -1,9 +1,10 @@
 //! What is sent is read again, also behind damage (demand 3).
 
-use reference::{read, Answer, Check, Client, Flow, Form, Port, Sent, Settings, State, Walked};
+use reference::{Answer, Client, Flow, Form, Port, Sent, State, Walked};
 
 use crate::bench::Bench;
-use crate::hand::{frame, ramp, tags, MULTICAST, OTHER, OWN, PAUSE, PFC, PLAIN};
+use crate::hand::{frame, listing, ramp, tags, Capture, Reader};
+use crate::hand::{MULTICAST, OTHER, OWN, PAUSE, PFC, PLAIN};
 use crate::robust::Dice;
 
 const PORTS: [Port; 2] = [Port::Plain, Port::FourLane];
@@ -36,12 +37,13 @@ fn clients() -> Vec<(Client, Vec<u8>)> {
     all
 }
 
-fn receiver() -> Settings {
-    Settings {
-        listed: [[0; 6], MULTICAST, [0; 6], [0; 6]],
-        count: 2,
-        ..PLAIN
-    }
+/// Each job with a table that gives no 20.
+fn receivers() -> [Reader; 2] {
+    [0, 1].map(|job| Reader {
+        s: PLAIN,
+        job,
+        table: listing(job, &[[0; 6], MULTICAST]),
+    })
 }
 
 /// What comes out: the data, followed by zeros to 46 in the type form.
@@ -53,14 +55,22 @@ fn received(client: &Client, data: &[u8]) -> Vec<u8> {
     data
 }
 
+fn line(bench: &Bench) -> Capture {
+    Capture {
+        octets: bench.octets.clone(),
+        marks: bench.marks.clone(),
+    }
+}
+
 /// Reads from a place on and gives the data handed out, in order.
-fn handed_out(bench: &Bench, s: &Settings, from: usize) -> Vec<Vec<u8>> {
+fn handed_out(bench: &Bench, by: impl Into<Reader>, from: usize) -> Vec<Vec<u8>> {
+    let by = by.into();
+    let capture = line(bench);
     let mut parts = Vec::new();
     let mut state = State::default();
     let mut place = 0;
     loop {
-        let kind = Check::Slicing16;
-        let reading = read(kind, s, &mut state, &bench.octets, &bench.marks, place);
+        let reading = capture.read(by, &mut state, place);
         match reading.answer {
             Answer::Counted {
                 outcome, at, len, ..
@@ -98,18 +108,25 @@ fn clients_on(port: Port) {
     let last = bench.place;
     bench.octets.truncate(last);
     bench.marks.truncate(last);
-    assert_eq!(handed_out(&bench, &receiver(), 0), expected);
+    for by in receivers() {
+        assert_eq!(handed_out(&bench, by, 0), expected);
 
-    bench.s = receiver();
-    let walked = bench.walk();
-    let ended = Walked::Ended {
-        starts: expected.len(),
-        open: false,
-    };
-    assert_eq!(walked, ended);
-    let mut counters = [0; 11];
-    counters[10] = expected.len() as u64;
-    assert_eq!(bench.state.counters, counters);
+        let mut bench = Bench {
+            s: by.s,
+            job: by.job,
+            table: by.table,
+            ..bench.clone()
+        };
+        let walked = bench.walk();
+        let ended = Walked::Ended {
+            starts: expected.len(),
+            open: false,
+        };
+        assert_eq!(walked, ended);
+        let mut counters = [0; 11];
+        counters[10] = expected.len() as u64;
+        assert_eq!(bench.state.counters, counters);
+    }
 }
 
 #[test]
@@ -178,13 +195,12 @@ fn controls_on(port: Port) {
     bench.pfc(0xA6, &quanta);
 
     let mut state = State::default();
-    let (octets, marks) = (&bench.octets, &bench.marks);
-    let kind = Check::Bitwise;
-    let reading = read(kind, &PAUSE, &mut state, octets, marks, 0);
+    let capture = line(&bench);
+    let reading = capture.read(&PAUSE, &mut state, 0);
     assert!(matches!(reading.answer, Answer::Counted { outcome: 8, .. }));
     assert_eq!(state.timers, [0xABCD * 64; 8]);
     let mut state = State::default();
-    let reading = read(kind, &PFC, &mut state, octets, marks, reading.next);
+    let reading = capture.read(&PFC, &mut state, reading.next);
     assert!(matches!(reading.answer, Answer::Counted { outcome: 9, .. }));
     assert_eq!(state.timers, [0, 128, 192, 0, 0, 384, 0, 4_194_240]);
 }
