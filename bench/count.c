@@ -17,6 +17,7 @@
 static const fenhamper_address own = {{0x02, 0x00, 0x00, 0x00, 0x00, 0x01}};
 
 static fenhamper_settings settings;
+static fenhamper_table table; /* of which nobody holds an entry */
 static fenhamper_state state;
 static fenhamper_client client;
 static uint8_t data[FENHAMPER_MOST_LENGTH];
@@ -84,7 +85,7 @@ static void read_frames(size_t frames) {
   fenhamper_reading reading;
   size_t place = 0;
   while (frames-- > 0) {
-    fenhamper_read(&settings, &state, octets, LINE, marks, LINE, place, &reading);
+    fenhamper_read(&settings, 0, &table, &state, octets, LINE, marks, LINE, place, &reading);
     expect(reading.outcome == (uint64_t)outcome, "a frame has another outcome");
     place = reading.next;
   }
@@ -94,7 +95,7 @@ static void explain_frames(size_t frames) {
   fenhamper_explained explained;
   size_t place = 0;
   while (frames-- > 0) {
-    fenhamper_explain(&settings, octets, LINE, marks, LINE, place, &explained);
+    fenhamper_explain(&settings, 0, &table, octets, LINE, marks, LINE, place, &explained);
     expect(explained.outcome == (uint64_t)outcome, "a frame has another outcome");
     place = explained.next;
   }
@@ -103,7 +104,7 @@ static void explain_frames(size_t frames) {
 static void walk_frames(size_t frames, size_t symbols) {
   fenhamper_walked walked;
   if (frames == 0) return; /* so that a whole call can be counted too */
-  fenhamper_walk(&settings, &state, octets, symbols, marks, symbols, &walked);
+  fenhamper_walk(&settings, 0, &table, &state, octets, symbols, marks, symbols, &walked);
   expect(walked.refusal == 0 && walked.starts == frames, "the walk counts other Starts");
   expect(fenhamper_counter(&state, outcome) == frames, "a frame has another outcome");
 }
@@ -112,7 +113,7 @@ static void walk_frames(size_t frames, size_t symbols) {
 static void keep_frames(size_t frames, size_t symbols) {
   fenhamper_kept kept;
   if (frames == 0) return;
-  fenhamper_walk_log(&settings, &state, octets, symbols, marks, symbols, 0, (uint8_t *)kept_records, sizeof kept_records, &kept);
+  fenhamper_walk_log(&settings, 0, &table, &state, octets, symbols, marks, symbols, 0, (uint8_t *)kept_records, sizeof kept_records, &kept);
   expect(kept.refusal == 0 && kept.records == frames, "the walk keeps other Starts");
   expect(kept_records[frames - 1].outcome == outcome, "a frame has another outcome");
 }

@@ -18,7 +18,7 @@ use baseline::Reader;
 use captures::{Kind, Line, FRAMES, HOSTILE, SYMBOLS};
 use measure::{agree, Effort, Rivals};
 use reference::{Check, Port};
-use report::{placed, Cell, Growth, Report, Row, Totals};
+use report::{placed, Cell, Growth, Listed, Report, Row, Totals};
 use rivals::{Asker, By, Filler, InC, Independent, IndependentSender, Job, Proved, ProvedSender};
 use rivals::{Rival, Whose};
 
@@ -38,6 +38,9 @@ const SENDINGS: [(&str, Port, bool); 3] = [
     ("send, four lanes", Port::FourLane, false),
     ("send, totals", Port::Plain, true),
 ];
+
+/// The capture that is read with a full table too.
+const LISTED: &str = "64";
 
 /// The captures whose totals are filled and asked.
 const COUNTED: [&str; 3] = ["all Idle", "64", "all Starts"];
@@ -123,6 +126,27 @@ impl Bench {
             rows.push(row("readings", read[1], byte_and_16));
         }
         rows
+    }
+
+    // `walk` and `read` with a table of 12 and 4 entries, and, in the same turns, with an empty one.
+    fn listed(&self, kind: &Kind, line: &Line) -> Vec<Listed> {
+        let (name, limit) = (kind.name, kind.limit);
+        let by = |(call, by)| {
+            let independent = |check| Box::new(Independent::new(check, by, line, limit).listing());
+            let mut rivals: Rivals = vec![
+                Box::new(Proved::new(by, line, limit).listing()),
+                Box::new(Proved::new(by, line, limit)),
+                independent(Check::ByteTable),
+                independent(Check::Slicing16),
+            ];
+            agree(name, &mut rivals);
+            Listed {
+                call,
+                capture: name,
+                rates: self.rates(line.octets.len(), &mut rivals),
+            }
+        };
+        [("walk", By::Walk), ("read", By::Read)].map(by).into()
     }
 
     // Sending frames of one kind in all ways, which take their turns together.
@@ -215,12 +239,18 @@ impl Bench {
 
     fn report(&self, machine: Vec<String>) -> Report {
         let kinds: Vec<Kind> = FRAMES.into_iter().chain(HOSTILE).collect();
-        let (mut rows, mut totals, mut growth) = (Vec::new(), Vec::new(), Vec::new());
+        let (mut rows, mut listed) = (Vec::new(), Vec::new());
+        let (mut totals, mut growth) = (Vec::new(), Vec::new());
         for kind in &kinds {
             eprintln!("reading: {}", kind.name);
             if let Some(line) = kind.capture(SYMBOLS) {
                 rows.extend(self.reading(kind, &line));
             }
+        }
+        for kind in FRAMES.iter().filter(|kind| kind.name == LISTED) {
+            eprintln!("listed: {}", kind.name);
+            let line = kind.capture(SYMBOLS);
+            listed.extend(line.into_iter().flat_map(|line| self.listed(kind, &line)));
         }
         for kind in &FRAMES {
             eprintln!("sending: {}", kind.name);
@@ -243,6 +273,7 @@ impl Bench {
             machine,
             zlib: self.zlib.is_some(),
             rows,
+            listed,
             totals,
             sizes: SIZES.to_vec(),
             growth,

@@ -35,6 +35,15 @@ impl Row {
     }
 }
 
+/// A call on one capture with a table of 12 and 4 entries.
+pub struct Listed {
+    pub call: &'static str,
+    pub capture: &'static str,
+    /// 10^9 symbols per second: Fenhamper's with that table and with an empty one, and with that
+    /// table the reference's by byte table and by 16.
+    pub rates: Vec<f64>,
+}
+
 /// Totals of one capture of the most symbols: Fenhamper's, the reference's, C's.
 pub struct Totals {
     pub capture: &'static str,
@@ -74,6 +83,7 @@ pub struct Report {
     pub machine: Vec<String>,
     pub zlib: bool,
     pub rows: Vec<Row>,
+    pub listed: Vec<Listed>,
     pub totals: Vec<Totals>,
     pub sizes: Vec<usize>,
     pub growth: Vec<Growth>,
@@ -153,6 +163,37 @@ impl Report {
             out,
             captures.iter().map(|&c| cell(self.beside(calls, c), 2)),
         );
+    }
+
+    // With a full table and with an empty one.
+    fn listed(&self, out: &mut String) {
+        out.push_str("In 10^9 symbols per second, job 0 reading, which holds 12 of the 16 entries; the frames are to its own address.\n\n");
+        let names = [
+            "Call",
+            "Capture",
+            "Fenhamper",
+            "empty table",
+            "to empty table",
+            "reference, byte table",
+            "reference, by 16",
+            "to reference, by 16",
+        ];
+        head(out, names.map(str::to_owned).to_vec(), 2);
+        for listed in &self.listed {
+            let rate = |i: usize| listed.rates.get(i).copied();
+            let to = |i: usize| Some(rate(0)? / rate(i)?);
+            let cells = [
+                format!("`{}`", listed.call),
+                listed.capture.to_owned(),
+                cell(rate(0), 3),
+                cell(rate(1), 3),
+                cell(to(1), 2),
+                cell(rate(2), 3),
+                cell(rate(3), 3),
+                cell(to(3), 2),
+            ];
+            line(out, cells);
+        }
     }
 
     // Filling totals, and asking them.
@@ -305,6 +346,8 @@ impl Report {
         self.by_capture(&mut out, EXPLAINED);
         out.push_str("\n### `send, totals`: how many times as fast as `send`, by capture\n\n");
         self.by_capture(&mut out, COUNTED);
+        out.push_str("\n### A table of 12 and 4 entries\n\n");
+        self.listed(&mut out);
         out.push_str("\n### Totals of 65,536 symbols\n\n");
         self.totals(&mut out);
         out.push_str("\n### `walk`: nanoseconds per symbol by the capture's size in symbols\n\n");

@@ -3,7 +3,7 @@ use std::hint::black_box;
 
 use fenhamper::limits::RECORD_SIZE;
 use fenhamper::{blocks, Address, Capture, End, Explained, Frame, Log, Reading, Reason};
-use fenhamper::{Sender, Settings, State};
+use fenhamper::{Listener, Sender, Settings, State, Table};
 use reference::{Answer, Check, Client, Form, Port, Sent, Walked, Why};
 
 use crate::baseline::{self, Reader};
@@ -48,6 +48,40 @@ fn settings(limit: u16) -> Settings {
     Settings::new(Address(OWN)).limit(limit)
 }
 
+/// Job 0 reads; both jobs hold as many entries of the table as they can together.
+const READER: u8 = 0;
+const HELD: [(u8, usize); 2] = [(0, 12), (1, 4)];
+
+// The addresses that a full table lists, each with its job: groups, none of them a frame's destination.
+fn full() -> impl Iterator<Item = (u8, [u8; 6])> {
+    let jobs = HELD
+        .into_iter()
+        .flat_map(|(job, n)| std::iter::repeat_n(job, n));
+    jobs.zip(0..)
+        .map(|(job, n)| (job, [0x01, 0x00, 0x5E, 0x00, 0x00, n]))
+}
+
+// A table that lists nothing, or all that it can, for the reference.
+fn reference_table(is_full: bool) -> reference::Table {
+    let mut table = reference::Table::EMPTY;
+    for (job, address) in full().filter(|_| is_full) {
+        let added = table.add(job, address);
+        added.expect("the table takes 16");
+    }
+    table
+}
+
+// The same for Fenhamper.
+fn table(is_full: bool) -> Table {
+    let mut table = Table::new();
+    for (job, address) in full().filter(|_| is_full) {
+        let job = fenhamper::Job::from_number(job).expect("there are two jobs");
+        let added = table.add(job, Address(address));
+        added.expect("the table takes 16");
+    }
+    table
+}
+
 /// How Fenhamper reads a capture.
 #[derive(Clone, Copy)]
 pub enum By {
@@ -63,11 +97,17 @@ pub enum By {
     Explain,
 }
 
+// Job 0 with this table.
+fn listener<'t>(settings: &Settings, table: &'t Table) -> Listener<'t> {
+    settings.listing(fenhamper::Job::Zero, black_box(table))
+}
+
 /// Fenhamper, reading.
 pub struct Proved<'a> {
     by: By,
     line: &'a Line,
     settings: Settings,
+    table: Table,
     state: State,
     log: Vec<u8>,
     // of reasons, which no state has a part in
@@ -80,7 +120,9 @@ const SPARE_RECORDS: usize = 1024;
 // A log with room for each Start that is counted, and more.
 fn log_for(line: &Line, limit: u16) -> Vec<u8> {
     let (s, mut state) = (reference_settings(limit), reference::State::default());
-    let walk = reference::walk(Check::Slicing16, &s, &mut state, &line.octets, &line.marks);
+    let (check, table) = (Check::Slicing16, reference_table(false));
+    let (octets, marks) = (&line.octets, &line.marks);
+    let walk = reference::walk(check, &s, &mut state, READER, &table, octets, marks);
     match walk {
         Walked::Ended { starts, .. } => vec![0; (starts + SPARE_RECORDS) * RECORD_SIZE],
         Walked::Refused(_) => Vec::new(),
@@ -97,10 +139,17 @@ impl<'a> Proved<'a> {
             by,
             line,
             settings: settings(limit),
+            table: table(false),
             state: State::default(),
             log,
             counters: [0; 11],
         }
+    }
+
+    /// The same with a table of 12 and 4 entries in place of an empty one.
+    pub fn listing(mut self) -> Self {
+        self.table = table(true);
+        self
     }
 
     /// The log of the last run.
@@ -114,7 +163,12 @@ impl<'a> Proved<'a> {
             Ok(log) => log,
             Err(_) => return Tally::default(),
         };
-        let kept = capture.walk_log(&self.settings, &mut self.state, 0, &mut log);
+        let kept = capture.walk_log(
+            listener(&self.settings, &self.table),
+            &mut self.state,
+            0,
+            &mut log,
+        );
         kept.map_or_else(
             |_| Tally::default(),
             |kept| Tally {
@@ -127,7 +181,8 @@ impl<'a> Proved<'a> {
 
     fn read(&mut self, capture: Capture) -> Tally {
         let (mut tally, mut place) = (Tally::default(), 0);
-        while let Ok(reading) = capture.read(&self.settings, &mut self.state, place) {
+        let listener = listener(&self.settings, &self.table);
+        while let Ok(reading) = capture.read(listener, &mut self.state, place) {
             match reading {
                 Reading::Counted(r) => {
                     tally.count += 1;
@@ -148,7 +203,8 @@ impl<'a> Proved<'a> {
     // What a reason tells of data is its length, as a reading does.
     fn explain(&mut self, capture: Capture) -> Tally {
         let (mut tally, mut place) = (Tally::default(), 0);
-        while let Ok(explained) = capture.explain(&self.settings, place) {
+        let listener = listener(&self.settings, &self.table);
+        while let Ok(explained) = capture.explain(listener, place) {
             match explained {
                 Explained::Because { next, reason, .. } => {
                     tally.count += 1;
@@ -170,7 +226,8 @@ impl<'a> Proved<'a> {
 
     fn readings(&mut self, capture: Capture) -> Tally {
         let mut tally = Tally::default();
-        let mut readings = capture.readings(&self.settings, &mut self.state);
+        let listener = listener(&self.settings, &self.table);
+        let mut readings = capture.readings(listener, &mut self.state);
         for r in readings.by_ref().flatten() {
             tally.count += 1;
             tally.octets += r.data.len();
@@ -186,7 +243,8 @@ impl Rival for Proved<'_> {
         let capture = Capture::new(black_box(&self.line.octets), black_box(&self.line.marks));
         match self.by {
             By::Walk => {
-                let walk = capture.walk(&self.settings, &mut self.state);
+                let listener = listener(&self.settings, &self.table);
+                let walk = capture.walk(listener, &mut self.state);
                 walk.map_or_else(
                     |_| Tally::default(),
                     |walk| Tally {
@@ -222,6 +280,7 @@ pub struct Independent<'a> {
     by: By,
     line: &'a Line,
     settings: reference::Settings,
+    table: reference::Table,
     state: reference::State,
 }
 
@@ -232,27 +291,35 @@ impl<'a> Independent<'a> {
             by,
             line,
             settings: reference_settings(limit),
+            table: reference_table(false),
             state: reference::State::default(),
         }
+    }
+
+    /// The same with a table of 12 and 4 entries in place of an empty one.
+    pub fn listing(mut self) -> Self {
+        self.table = reference_table(true);
+        self
     }
 }
 
 impl Rival for Independent<'_> {
     fn run(&mut self) -> Tally {
         let (check, s, state) = (self.check, &self.settings, &mut self.state);
+        let table = black_box(&self.table);
         let (octets, marks) = (black_box(&self.line.octets), black_box(&self.line.marks));
         let mut tally = Tally::default();
         let mut place = 0;
         match self.by {
             By::Walk => {
-                let walk = reference::walk(check, s, state, octets, marks);
+                let walk = reference::walk(check, s, state, READER, table, octets, marks);
                 if let Walked::Ended { starts, open } = walk {
                     (tally.count, tally.open) = (starts, open);
                 }
                 return tally;
             }
             By::Explain => loop {
-                let explained = reference::explain(check, s, octets, marks, place);
+                let explained = reference::explain(check, s, READER, table, octets, marks, place);
                 match explained.why {
                     Why::Because(reason) => {
                         tally.count += 1;
@@ -272,7 +339,7 @@ impl Rival for Independent<'_> {
             By::Read | By::Readings | By::WalkLog => {}
         }
         loop {
-            let reading = reference::read(check, s, state, octets, marks, place);
+            let reading = reference::read(check, s, state, READER, table, octets, marks, place);
             match reading.answer {
                 Answer::Counted { status, len, .. } => {
                     tally.count += 1;

@@ -1,5 +1,5 @@
 //! That the rivals do the same job: frames of every kind, good and damaged, with the same counters.
-use reference::{Check, Port, State};
+use reference::{Check, Port, State, Table};
 
 use crate::baseline::{self, Reader};
 use crate::captures::{data, symbols, Kind, Line, Random, FRAMES, HOSTILE};
@@ -31,6 +31,17 @@ fn same(name: &str, line: &Line, limit: u16) -> Vec<u64> {
         Box::new(Proved::new(By::Explain, line, limit)),
         Box::new(Independent::new(Check::Slicing16, By::Explain, line, limit)),
     ];
+    // what a full table lists is no frame's destination here
+    for by in [By::Walk, By::Read] {
+        let both: Rivals = vec![
+            Box::new(Proved::new(by, line, limit).listing()),
+            Box::new(Independent::new(Check::Slicing16, by, line, limit).listing()),
+        ];
+        match by {
+            By::Walk => walks.extend(both),
+            _ => reads.extend(both),
+        }
+    }
     let counted = agree(name, &mut walks);
     assert_eq!(counted, agree(name, &mut reads));
     assert_eq!(counted, agree(name, &mut whys));
@@ -47,6 +58,8 @@ fn logs_alike(line: &Line, limit: u16) -> bool {
         Check::Slicing16,
         &reference_settings(limit),
         &mut State::default(),
+        0,
+        &Table::EMPTY,
         &line.octets,
         &line.marks,
         0,

@@ -68,7 +68,7 @@ int main(int words, char **word) {
   kept.next = 0;
   do {
     memset(log, 0, sizeof log); /* an empty log */
-    kept = fenhamper_capture_keep(&settings, &state, capture, (size_t)kept.next, log, RECORDS);
+    kept = fenhamper_capture_keep(&settings, 0, NULL, &state, capture, (size_t)kept.next, log, RECORDS);
     expect(kept.refusal == 0, fenhamper_refusal_name(kept.refusal));
     print_log(log);
     expect(fwrite(log, sizeof *log, RECORDS, file) == RECORDS, "the log cannot be written");

@@ -96,7 +96,7 @@ static fenhamper_state read_them_back(const fenhamper_settings *settings, fenham
   size_t place = 0, i;
   fenhamper_fresh_state(&state);
   for (i = 0; i < FRAMES; i++) {
-    r = fenhamper_capture_read(settings, &state, capture, place);
+    r = fenhamper_capture_read(settings, 0, NULL, &state, capture, place);
     expect(r.refusal == 0, fenhamper_refusal_name(r.refusal));
     expect(r.kind == FENHAMPER_COUNTED, "a frame was not found");
     expect(r.start == frames[i].start, "a Start is at another place");
@@ -110,7 +110,7 @@ static fenhamper_state read_them_back(const fenhamper_settings *settings, fenham
     print_reading(capture, &r);
     place = r.next;
   }
-  r = fenhamper_capture_read(settings, &state, capture, place);
+  r = fenhamper_capture_read(settings, 0, NULL, &state, capture, place);
   expect(r.refusal == 0 && r.kind == FENHAMPER_NONE, "there is a fourth Start");
   expect(r.start == capture.length, "the capture ends at another place");
   return state;
@@ -121,7 +121,7 @@ static fenhamper_state walk_over_them(const fenhamper_settings *settings, fenham
   fenhamper_state state;
   fenhamper_walked w;
   fenhamper_fresh_state(&state);
-  w = fenhamper_capture_walk(settings, &state, capture);
+  w = fenhamper_capture_walk(settings, 0, NULL, &state, capture);
   expect(w.refusal == 0, fenhamper_refusal_name(w.refusal));
   printf("walk: starts %u open %u\n", (unsigned)w.starts, (unsigned)w.open);
   expect(w.starts == FRAMES, "the walk counts other Starts");

@@ -25,6 +25,9 @@ static const fenhamper_address other = {{0x02, 0x00, 0x00, 0x00, 0x00, 0x09}};
 static uint8_t octets[LINE], marks[LINE];
 static fenhamper_state state;
 
+/* A table that nobody holds an entry of; for the inline calls null says as much. */
+static const fenhamper_table nothing = FENHAMPER_ZEROS;
+
 /* Zeroed buffers, and a fresh state. */
 static fenhamper_line fresh_line(void) {
   fenhamper_line line;
@@ -40,7 +43,7 @@ static fenhamper_line fresh_line(void) {
 static void settings_are_the_printing_programs(void) {
   fenhamper_settings s = fenhamper_settings_for(own);
   CHECK(memcmp(&s.own, &own, sizeof own) == 0);
-  CHECK(s.listed_count == 0 && s.broadcast == 1 && s.promiscuous == 0 && s.checking == 1 && s.pass_control == 0);
+  CHECK(s.broadcast == 1 && s.promiscuous == 0 && s.checking == 1 && s.pass_control == 0);
   CHECK(s.flow == FENHAMPER_FLOW_NONE && s.limit == 1518);
 }
 
@@ -101,12 +104,12 @@ static void lines_are_the_archives(void) {
   CHECK(memcmp(octets, o, LINE) == 0 && memcmp(marks, m, LINE) == 0 && memcmp(octets, marks, LINE) != 0);
 
   capture = fenhamper_captured(line, LINE);
-  reading = fenhamper_capture_read(&s, &state, capture, 90);
-  fenhamper_read(&s, &theirs, o, LINE, m, LINE, 90, &read);
+  reading = fenhamper_capture_read(&s, 0, NULL, &state, capture, 90);
+  fenhamper_read(&s, 0, &nothing, &theirs, o, LINE, m, LINE, 90, &read);
   CHECK(reading.outcome == FENHAMPER_PFC_TAKEN && memcmp(&reading, &read, sizeof read) == 0);
   CHECK(state.timers[0] == 1 * FENHAMPER_QUANTUM && state.timers[1] == 0 && state.timers[7] == 8 * FENHAMPER_QUANTUM);
-  walked = fenhamper_capture_walk(&s, &state, capture);
-  fenhamper_walk(&s, &theirs, o, LINE, m, LINE, &walk);
+  walked = fenhamper_capture_walk(&s, 0, NULL, &state, capture);
+  fenhamper_walk(&s, 0, &nothing, &theirs, o, LINE, m, LINE, &walk);
   CHECK(walked.starts == 2 && memcmp(&walked, &walk, sizeof walk) == 0);
   CHECK(memcmp(&state, &theirs, sizeof state) == 0);
 }
@@ -128,7 +131,7 @@ static void a_reading_says_whose_frame_it_is(void) {
   CHECK(fenhamper_line_client(&s, &state, FENHAMPER_PORT_PLAIN, line, 10, &client, (const uint8_t *)"data", 4).refusal == 0);
   s.own = other;
   capture = fenhamper_captured(line, 94);
-  r = fenhamper_capture_read(&s, &state, capture, 0);
+  r = fenhamper_capture_read(&s, 0, NULL, &state, capture, 0);
   CHECK(r.outcome == FENHAMPER_HANDED_OUT && fenhamper_counter(&state, FENHAMPER_HANDED_OUT) == 1);
   CHECK(fenhamper_destination(capture, &r) == octets + 18 && fenhamper_source(capture, &r) == octets + 24);
   CHECK(memcmp(fenhamper_destination(capture, &r), other.octets, 6) == 0);
@@ -160,7 +163,7 @@ static void a_refused_call_leaves_all(void) {
   none.length = 0;
   memset(&worn, 0xFF, sizeof worn);
   memset(&state, 0xFF, sizeof state);
-  CHECK(fenhamper_capture_read(&s, &state, fenhamper_captured(line, 9), 10).refusal == FENHAMPER_BAD_PLACE);
+  CHECK(fenhamper_capture_read(&s, 0, NULL, &state, fenhamper_captured(line, 9), 10).refusal == FENHAMPER_BAD_PLACE);
   CHECK(fenhamper_line_client(&s, &state, FENHAMPER_PORT_PLAIN, line, 0, &client, NULL, 0).refusal == FENHAMPER_HELD);
   CHECK(fenhamper_line_pause(&s, &state, FENHAMPER_PORT_PLAIN, line, 0, 1).refusal == FENHAMPER_OTHER_FLOW);
   CHECK(fenhamper_line_pfc(&s, &state, FENHAMPER_PORT_PLAIN, line, 0, 1, quanta).refusal == FENHAMPER_OTHER_FLOW);
@@ -168,7 +171,7 @@ static void a_refused_call_leaves_all(void) {
   CHECK(fenhamper_line_client(&s, &state, FENHAMPER_PORT_FOUR_LANE, line, 0, &client, NULL, 0).refusal == FENHAMPER_HIGH_DEFICIT);
   CHECK(fenhamper_line_pause(&s, &state, FENHAMPER_PORT_FOUR_LANE, line, 2, 1).refusal == FENHAMPER_BAD_PLACE);
   s.limit = 0;
-  CHECK(fenhamper_capture_walk(&s, &state, fenhamper_captured(line, 9)).refusal == FENHAMPER_BAD_SETTINGS);
+  CHECK(fenhamper_capture_walk(&s, 0, NULL, &state, fenhamper_captured(line, 9)).refusal == FENHAMPER_BAD_SETTINGS);
   CHECK(memcmp(&state, &worn, sizeof state) == 0);
 }
 
@@ -195,7 +198,7 @@ static void counters_are_of_64_bits(void) {
   marks[0] = marks[1] = marks[2] = 1;
   state.counters[FENHAMPER_CUT - 1] = UINT32_MAX;
   state.counters[FENHAMPER_BAD_PREAMBLE - 1] = UINT64_MAX;
-  CHECK(fenhamper_capture_walk(&s, &state, fenhamper_captured(line, 3)).starts == 2);
+  CHECK(fenhamper_capture_walk(&s, 0, NULL, &state, fenhamper_captured(line, 3)).starts == 2);
   CHECK(fenhamper_counter(&state, FENHAMPER_CUT) == UINT64_C(1) << 32);
   CHECK(fenhamper_counter(&state, FENHAMPER_BAD_PREAMBLE) == 0);
   fenhamper_screen(&state, shown);
@@ -205,6 +208,12 @@ static void counters_are_of_64_bits(void) {
 static void every_number_has_a_name(void) {
   CHECK(strcmp(fenhamper_outcome_name(FENHAMPER_WRONG_FCS), "wrong FCS") == 0);
   CHECK(strcmp(fenhamper_refusal_name(FENHAMPER_HELD), "held") == 0);
+  CHECK(strcmp(fenhamper_refusal_name(FENHAMPER_BAD_JOB), "bad job") == 0);
+  CHECK(strcmp(fenhamper_refusal_name(FENHAMPER_HOLDS_TWELVE), "holds twelve") == 0);
+  CHECK(strcmp(fenhamper_refusal_name(FENHAMPER_ALL_IN_USE), "all in use") == 0);
+  CHECK(strcmp(fenhamper_refusal_name(FENHAMPER_ALREADY_LISTED), "already listed") == 0);
+  CHECK(strcmp(fenhamper_refusal_name(FENHAMPER_NOT_LISTED), "not listed") == 0);
+  CHECK(strcmp(fenhamper_refusal_name(FENHAMPER_BAD_TABLE), "bad table") == 0);
   CHECK(strcmp(fenhamper_outcome_name(0), "none") == 0 && strcmp(fenhamper_outcome_name(UINT64_MAX), "none") == 0);
   CHECK(strcmp(fenhamper_refusal_name(0), "none") == 0 && strcmp(fenhamper_refusal_name(UINT64_MAX), "none") == 0);
 }
@@ -292,7 +301,7 @@ static void a_count_above_three_is_refused(void) {
     client.traffic_class = 0;
     CHECK(fenhamper_line_client(&s, &state, FENHAMPER_PORT_PLAIN, line, 1, &client, NULL, 0).place == 85);
     CHECK(fenhamper_line_idle(&state, line, 85, 2).place == 87);
-    CHECK(fenhamper_capture_walk(&s, &state, fenhamper_captured(line, 87)).starts == 1);
+    CHECK(fenhamper_capture_walk(&s, 0, NULL, &state, fenhamper_captured(line, 87)).starts == 1);
     CHECK(state.deficit == counts[i]);
     client.traffic_class = 8;
   }
@@ -467,7 +476,7 @@ static void readings_are_appended(void) {
   fenhamper_reading r;
   size_t place = 0;
   do {
-    r = fenhamper_capture_read(&s, &state, capture, place);
+    r = fenhamper_capture_read(&s, 0, NULL, &state, capture, place);
     CHECK(fenhamper_log_append_reading(log, 64, &r) == 0);
     place = (size_t)r.next;
   } while (r.outcome != 0);
@@ -475,11 +484,11 @@ static void readings_are_appended(void) {
   /* the log is full now */
   memcpy(was, logged, sizeof was);
   CHECK(fenhamper_log_append_reading(log, 64, &r) == 0);
-  r = fenhamper_capture_read(&s, &state, capture, LINE);
+  r = fenhamper_capture_read(&s, 0, NULL, &state, capture, LINE);
   CHECK(r.kind == FENHAMPER_NONE && fenhamper_log_append_reading(log, 64, &r) == 0);
-  r = fenhamper_capture_read(&s, &state, capture, LINE + 1);
+  r = fenhamper_capture_read(&s, 0, NULL, &state, capture, LINE + 1);
   CHECK(r.refusal == FENHAMPER_BAD_PLACE && fenhamper_log_append_reading(log, 64, &r) == 0);
-  r = fenhamper_capture_read(&s, &state, capture, 0);
+  r = fenhamper_capture_read(&s, 0, NULL, &state, capture, 0);
   CHECK(r.outcome == FENHAMPER_HANDED_OUT && fenhamper_log_append_reading(log, 64, &r) == FENHAMPER_LOG_FULL);
   CHECK(same_but(4));
 }
@@ -494,6 +503,21 @@ static fenhamper_address group(unsigned n) {
   fenhamper_address a = {{0x01, 0x00, 0x5E, 0x00, 0x00, 0x00}};
   a.octets[5] = (uint8_t)n;
   return a;
+}
+
+/* The table that both jobs share here. */
+static fenhamper_table table;
+
+/* Whether a job's addition is refused so; else it must take this entry. */
+static int adds(unsigned job, fenhamper_address address, uint32_t refusal, size_t entry) {
+  size_t taken = 99;
+  return fenhamper_table_add(&table, (uint8_t)job, &address, &taken) == refusal && taken == (refusal == 0 ? entry : 99);
+}
+
+/* Likewise a removal, and the entry that it frees. */
+static int removes(unsigned job, fenhamper_address address, uint32_t refusal, size_t entry) {
+  size_t freed = 99;
+  return fenhamper_table_remove(&table, (uint8_t)job, &address, &freed) == refusal && freed == (refusal == 0 ? entry : 99);
 }
 
 /* A frame of 64 octets to this address, of this type and with this opcode. */
@@ -516,52 +540,57 @@ static fenhamper_capture frame_to(fenhamper_address to, unsigned type, unsigned 
   return fenhamper_captured(line, 73);
 }
 
-/* Whether that frame gets this outcome and came in this way: so say the reading, its record, and the record that a walk keeps. */
-static int comes_by(const fenhamper_settings *s, fenhamper_address to, unsigned type, unsigned opcode, fenhamper_outcome outcome, unsigned way) {
+/* Whether to this job that frame gets this outcome and came in this way: so say the reading, its record, and the record that a walk keeps. */
+static int comes_by(unsigned job, const fenhamper_settings *s, fenhamper_address to, unsigned type, unsigned opcode, fenhamper_outcome outcome, unsigned way) {
   fenhamper_capture capture = frame_to(to, type, opcode);
   fenhamper_state walked = state;
   fenhamper_record record = numbered;
-  fenhamper_reading r = fenhamper_capture_read(s, &state, capture, 0);
+  fenhamper_reading r = fenhamper_capture_read(s, (uint8_t)job, &table, &state, capture, 0);
+  fenhamper_explained e = fenhamper_capture_explain(s, (uint8_t)job, &table, capture, 0);
   uint8_t *log = zero_log();
   int holds = r.outcome == (uint64_t)outcome && r.way == way && r.spare[0] == 0 && r.spare[1] == 0 && r.spare[2] == 0;
+  holds = holds && e.outcome == r.outcome && e.start == r.start && e.next == r.next;
   holds = holds && fenhamper_log_append_reading(log, 16, &r) == 0 && fenhamper_log_record(log, 16, 0, &record) == 0;
   holds = holds && record.outcome == outcome && record.way == way && log[5] == way;
-  holds = holds && fenhamper_capture_keep(s, &walked, capture, 0, logged + 1, 1).records == 1 && same(&logged[1], &record);
+  holds = holds && fenhamper_capture_keep(s, (uint8_t)job, &table, &walked, capture, 0, logged + 1, 1).records == 1 && same(&logged[1], &record);
+  holds = holds && memcmp(&state, &walked, sizeof state) == 0;
+  fenhamper_fresh_state(&walked);
+  holds = holds && fenhamper_capture_walk(s, (uint8_t)job, &table, &walked, capture).starts == 1;
   return holds && memcmp(&state, &walked, sizeof state) == 0;
 }
 
 /* As a client frame. */
-static int client_by(const fenhamper_settings *s, fenhamper_address to, unsigned way) {
-  return comes_by(s, to, 0x0800, 0, way == FENHAMPER_WAY_NONE ? FENHAMPER_FILTERED : FENHAMPER_HANDED_OUT, way);
+static int client_by(unsigned job, const fenhamper_settings *s, fenhamper_address to, unsigned way) {
+  return comes_by(job, s, to, 0x0800, 0, way == FENHAMPER_WAY_NONE ? FENHAMPER_FILTERED : FENHAMPER_HANDED_OUT, way);
 }
 
-/* Own address and list before promiscuous, the first of equal entries; those beyond the count are not looked at. */
+/* Own address and the job's entries before promiscuous; the other job's are not looked at. */
 static void a_frame_says_by_which_address_it_came(void) {
   fenhamper_settings s = fenhamper_settings_for(own);
-  unsigned promiscuous, n;
-  for (promiscuous = 0; promiscuous < 2; promiscuous++) {
-    unsigned not_named = promiscuous ? FENHAMPER_WAY_PROMISCUOUS : FENHAMPER_WAY_NONE;
-    s.promiscuous = (uint8_t)promiscuous;
+  unsigned turn, n;
+  for (turn = 0; turn < 4; turn++) {
+    unsigned job = turn & 1, not_named = turn & 2 ? FENHAMPER_WAY_PROMISCUOUS : FENHAMPER_WAY_NONE;
+    s.promiscuous = (uint8_t)(turn >> 1);
     s.broadcast = 1;
-    for (n = 0; n < FENHAMPER_MOST_LISTED; n++) s.listed[n] = group(n);
-    for (n = 0; n < FENHAMPER_MOST_LISTED; n++) {
-      s.listed_count = (uint8_t)n;
-      CHECK(client_by(&s, group(n), not_named));
-      s.listed_count = (uint8_t)(n + 1);
-      CHECK(client_by(&s, group(n), FENHAMPER_WAY_LISTED + n));
+    fenhamper_table_empty(&table);
+    CHECK(adds(1 - job, group(100), 0, 0) && adds(1 - job, group(1), 0, 1));
+    for (n = 0; n < FENHAMPER_MOST_HELD; n++) {
+      CHECK(client_by(job, &s, group(n), not_named));
+      CHECK(adds(job, group(n), 0, n + 2));
+      CHECK(client_by(job, &s, group(n), FENHAMPER_WAY_ENTRY + n + 2));
     }
-    s.listed[3] = s.listed[2] = group(1);
-    CHECK(client_by(&s, group(1), FENHAMPER_WAY_LISTED + 1));
-    CHECK(client_by(&s, group(3), not_named) && client_by(&s, other, not_named));
-    s.listed[0] = own;
-    CHECK(client_by(&s, own, FENHAMPER_WAY_OWN));
+    /* the same address by each job's own entry, and an address by none of this job's */
+    CHECK(client_by(job, &s, group(1), FENHAMPER_WAY_ENTRY + 3) && client_by(1 - job, &s, group(1), FENHAMPER_WAY_ENTRY + 1));
+    CHECK(client_by(job, &s, group(100), not_named) && client_by(job, &s, other, not_named));
+    CHECK(removes(job, group(0), 0, 2) && client_by(job, &s, group(0), not_named));
+    CHECK(client_by(job, &s, own, FENHAMPER_WAY_OWN) && adds(job, own, 0, 2) && client_by(job, &s, own, FENHAMPER_WAY_OWN));
     /* broadcast by its setting, listed or not */
     for (n = 0; n < 2; n++) {
       s.broadcast = 1;
-      CHECK(client_by(&s, everyone, FENHAMPER_WAY_BROADCAST));
+      CHECK(client_by(job, &s, everyone, FENHAMPER_WAY_BROADCAST));
       s.broadcast = 0;
-      CHECK(client_by(&s, everyone, not_named));
-      s.listed[0] = everyone;
+      CHECK(client_by(job, &s, everyone, not_named));
+      if (n == 0) CHECK(removes(job, own, 0, 2) && adds(job, everyone, 0, 2));
     }
   }
 }
@@ -570,19 +599,21 @@ static void a_frame_says_by_which_address_it_came(void) {
 static void control_frames_say_it_too(void) {
   fenhamper_settings s = fenhamper_settings_for(own);
   unsigned n;
-  for (n = 0; n < 8; n++) {
-    s.listed_count = (uint8_t)(n & 1);
-    s.listed[0] = reserved;
+  for (n = 0; n < 16; n++) {
+    unsigned job = n >> 3, listed = n & 1;
+    fenhamper_table_empty(&table);
+    CHECK(adds(1 - job, reserved, 0, 0));
+    if (listed) CHECK(adds(job, reserved, 0, 1));
     s.promiscuous = (uint8_t)(n >> 1 & 1);
     s.pass_control = (uint8_t)(n >> 2 & 1);
     s.flow = FENHAMPER_FLOW_PAUSE;
-    CHECK(comes_by(&s, reserved, 0x8808, 0x0001, FENHAMPER_PAUSE_TAKEN, FENHAMPER_WAY_RESERVED));
-    CHECK(comes_by(&s, own, 0x8808, 0x0001, FENHAMPER_PAUSE_TAKEN, FENHAMPER_WAY_OWN));
+    CHECK(comes_by(job, &s, reserved, 0x8808, 0x0001, FENHAMPER_PAUSE_TAKEN, FENHAMPER_WAY_RESERVED));
+    CHECK(comes_by(job, &s, own, 0x8808, 0x0001, FENHAMPER_PAUSE_TAKEN, FENHAMPER_WAY_OWN));
     s.flow = FENHAMPER_FLOW_PFC;
-    CHECK(comes_by(&s, reserved, 0x8808, 0x0101, FENHAMPER_PFC_TAKEN, FENHAMPER_WAY_RESERVED));
+    CHECK(comes_by(job, &s, reserved, 0x8808, 0x0101, FENHAMPER_PFC_TAKEN, FENHAMPER_WAY_RESERVED));
     s.flow = FENHAMPER_FLOW_NONE;
-    CHECK(comes_by(&s, reserved, 0x8808, 0x0001, s.pass_control ? FENHAMPER_HANDED_OUT : FENHAMPER_CONTROL_DROPPED, FENHAMPER_WAY_RESERVED));
-    CHECK(client_by(&s, reserved, s.listed_count ? FENHAMPER_WAY_LISTED : s.promiscuous ? FENHAMPER_WAY_PROMISCUOUS : FENHAMPER_WAY_NONE));
+    CHECK(comes_by(job, &s, reserved, 0x8808, 0x0001, s.pass_control ? FENHAMPER_HANDED_OUT : FENHAMPER_CONTROL_DROPPED, FENHAMPER_WAY_RESERVED));
+    CHECK(client_by(job, &s, reserved, listed ? FENHAMPER_WAY_ENTRY + 1 : s.promiscuous ? FENHAMPER_WAY_PROMISCUOUS : FENHAMPER_WAY_NONE));
   }
 }
 
@@ -609,18 +640,18 @@ static void a_walk_keeps_its_readings(void) {
   fenhamper_kept kept;
   fenhamper_record log[4];
   zero_log();
-  CHECK(ended(fenhamper_capture_keep(&s, &state, capture, 0, logged, 4), FENHAMPER_END_OPEN, 260, 4));
+  CHECK(ended(fenhamper_capture_keep(&s, 0, NULL, &state, capture, 0, logged, 4), FENHAMPER_END_OPEN, 260, 4));
   CHECK(memcmp(logged, kept_of_traffic, sizeof logged) == 0);
-  CHECK(fenhamper_capture_walk(&s, &walked, capture).starts == 4 && memcmp(&state, &walked, sizeof state) == 0);
+  CHECK(fenhamper_capture_walk(&s, 0, NULL, &walked, capture).starts == 4 && memcmp(&state, &walked, sizeof state) == 0);
   /* the inline one is the archive's */
   memset(log, 0, sizeof log);
-  fenhamper_walk_log(&s, &archives, octets, LINE, marks, LINE, 0, (uint8_t *)log, sizeof log, &kept);
+  fenhamper_walk_log(&s, 0, &nothing, &archives, octets, LINE, marks, LINE, 0, (uint8_t *)log, sizeof log, &kept);
   CHECK(ended(kept, FENHAMPER_END_OPEN, 260, 4) && memcmp(log, logged, sizeof log) == 0);
   CHECK(memcmp(&state, &archives, sizeof state) == 0);
   /* none and open end it, where no record is left too */
-  CHECK(ended(fenhamper_capture_keep(&s, &state, capture, 202, logged, 4), FENHAMPER_END_OPEN, 260, 0));
-  CHECK(ended(fenhamper_capture_keep(&s, &state, capture, 261, logged, 4), FENHAMPER_END_NONE, LINE, 0));
-  CHECK(ended(fenhamper_capture_keep(&s, &state, capture, 261, logged, 0), FENHAMPER_END_NONE, LINE, 0));
+  CHECK(ended(fenhamper_capture_keep(&s, 0, NULL, &state, capture, 202, logged, 4), FENHAMPER_END_OPEN, 260, 0));
+  CHECK(ended(fenhamper_capture_keep(&s, 0, NULL, &state, capture, 261, logged, 4), FENHAMPER_END_NONE, LINE, 0));
+  CHECK(ended(fenhamper_capture_keep(&s, 0, NULL, &state, capture, 261, logged, 0), FENHAMPER_END_NONE, LINE, 0));
   CHECK(memcmp(&state, &archives, sizeof state) == 0 && memcmp(log, logged, sizeof log) == 0);
 }
 
@@ -631,22 +662,22 @@ static void a_full_log_goes_on_with_another(void) {
   fenhamper_state whole = state;
   fenhamper_kept kept;
   size_t place = 0, i;
-  CHECK(fenhamper_capture_walk(&s, &whole, capture).refusal == 0);
+  CHECK(fenhamper_capture_walk(&s, 0, NULL, &whole, capture).refusal == 0);
   zero_log();
-  CHECK(ended(fenhamper_capture_keep(&s, &state, capture, 0, logged, 0), FENHAMPER_END_FULL, 0, 0));
+  CHECK(ended(fenhamper_capture_keep(&s, 0, NULL, &state, capture, 0, logged, 0), FENHAMPER_END_FULL, 0, 0));
   CHECK(fenhamper_counter(&state, FENHAMPER_HANDED_OUT) == 0);
   for (i = 0; i < 3; i++) {
-    kept = fenhamper_capture_keep(&s, &state, capture, place, logged + i, 1);
+    kept = fenhamper_capture_keep(&s, 0, NULL, &state, capture, place, logged + i, 1);
     CHECK(ended(kept, FENHAMPER_END_FULL, i == 0 ? 75 : i == 1 ? 159 : 201, 1));
     place = (size_t)kept.next;
   }
   CHECK(fenhamper_counter(&state, FENHAMPER_CUT) == 1 && fenhamper_counter(&state, FENHAMPER_BAD_PREAMBLE) == 0);
-  CHECK(ended(fenhamper_capture_keep(&s, &state, capture, place, logged + 3, 1), FENHAMPER_END_OPEN, 260, 1));
+  CHECK(ended(fenhamper_capture_keep(&s, 0, NULL, &state, capture, place, logged + 3, 1), FENHAMPER_END_OPEN, 260, 1));
   CHECK(memcmp(logged, kept_of_traffic, sizeof logged) == 0 && memcmp(&state, &whole, sizeof state) == 0);
   /* holes of a log are filled in order */
   log_of(9, 0, 9, 0);
   fenhamper_fresh_state(&state);
-  CHECK(ended(fenhamper_capture_keep(&s, &state, capture, 0, logged, 4), FENHAMPER_END_FULL, 159, 2));
+  CHECK(ended(fenhamper_capture_keep(&s, 0, NULL, &state, capture, 0, logged, 4), FENHAMPER_END_FULL, 159, 2));
   CHECK(same(&logged[1], &kept_of_traffic[0]) && same(&logged[3], &kept_of_traffic[1]));
   CHECK(same(&logged[0], &was[0]) && same(&logged[2], &was[2]));
 }
@@ -658,7 +689,7 @@ static int refused(const fenhamper_settings *s, size_t marks_length, size_t plac
   uint8_t *log = log_of(0, 0, 0, 0);
   memset(&state, 0xFF, sizeof state);
   before = state;
-  fenhamper_walk_log(s, &state, octets, LINE, marks, marks_length, place, log, log_length, &kept);
+  fenhamper_walk_log(s, 0, &nothing, &state, octets, LINE, marks, marks_length, place, log, log_length, &kept);
   return kept.refusal == refusal && kept.end == 0 && kept.next == place && kept.records == 0 && same_but(4) && memcmp(&state, &before, sizeof state) == 0;
 }
 
@@ -675,8 +706,8 @@ static void a_walk_with_a_log_is_refused_in_order(void) {
 
 /* Whether the first Start from a place on has this reason, and the answer agrees with a reading from there. */
 static int because(const fenhamper_settings *s, fenhamper_capture capture, size_t place, uint64_t reason, uint64_t first, uint64_t second) {
-  fenhamper_explained e = fenhamper_capture_explain(s, capture, place);
-  fenhamper_reading r = fenhamper_capture_read(s, &state, capture, place);
+  fenhamper_explained e = fenhamper_capture_explain(s, 0, NULL, capture, place);
+  fenhamper_reading r = fenhamper_capture_read(s, 0, NULL, &state, capture, place);
   CHECK(e.refusal == r.refusal && e.kind == r.kind && e.outcome == r.outcome && e.start == r.start && e.next == r.next);
   CHECK((e.reason == FENHAMPER_REASON_NONE) == (e.outcome == 0));
   return e.reason == reason && e.first == first && e.second == second;
@@ -698,15 +729,15 @@ static void a_reason_has_its_evidence(void) {
   CHECK(fcs_at(155) != fenhamper_fcs(octets + 95, 60));
   CHECK(because(&s, capture, 88, FENHAMPER_REASON_CUT_AT, 201, 0xFB));
   CHECK(because(&s, capture, 201, FENHAMPER_REASON_SHORT_RUN, 0, 0));
-  CHECK(because(&s, capture, 202, FENHAMPER_REASON_NONE, 0, 0) && fenhamper_capture_explain(&s, capture, 202).kind == FENHAMPER_OPEN);
-  CHECK(because(&s, capture, LINE, FENHAMPER_REASON_NONE, 0, 0) && fenhamper_capture_explain(&s, capture, LINE).kind == FENHAMPER_NONE);
+  CHECK(because(&s, capture, 202, FENHAMPER_REASON_NONE, 0, 0) && fenhamper_capture_explain(&s, 0, NULL, capture, 202).kind == FENHAMPER_OPEN);
+  CHECK(because(&s, capture, LINE, FENHAMPER_REASON_NONE, 0, 0) && fenhamper_capture_explain(&s, 0, NULL, capture, LINE).kind == FENHAMPER_NONE);
   CHECK(because(&s, capture, LINE + 1, FENHAMPER_REASON_NONE, 0, 0));
-  e = fenhamper_capture_explain(&s, capture, LINE + 1);
+  e = fenhamper_capture_explain(&s, 0, NULL, capture, LINE + 1);
   CHECK(e.refusal == FENHAMPER_BAD_PLACE && e.start == LINE + 1 && e.next == LINE + 1);
-  fenhamper_explain(&s, octets, LINE, marks, LINE - 1, 5, &e);
+  fenhamper_explain(&s, 0, &nothing, octets, LINE, marks, LINE - 1, 5, &e);
   CHECK(e.refusal == FENHAMPER_BAD_BUFFERS && e.start == 5 && e.next == 5 && e.reason == FENHAMPER_REASON_NONE);
   CHECK(because(&theirs, capture, 0, FENHAMPER_REASON_NOT_FOR_US, UINT64_C(0x020000000001), 0));
-  e = fenhamper_capture_explain(&theirs, capture, 0);
+  e = fenhamper_capture_explain(&theirs, 0, NULL, capture, 0);
   CHECK(memcmp(fenhamper_address_of(e.first).octets, own.octets, 6) == 0 && address.octets[0] == 0x01 && address.octets[5] == 0xAB);
   /* a field of 47 before 46 octets of data, under its own FCS */
   octets[3 + 8 + 13] = 47;
@@ -1018,8 +1049,247 @@ static void a_total_above_256_is_refused(void) {
   }
 }
 
+/* ---- two jobs on one table */
+
+/* What the table was. */
+static fenhamper_table table_then;
+
+static int table_left(void) { return memcmp(&table, &table_then, sizeof table) == 0; }
+
+static void a_table_begins_empty(void) {
+  memset(&table, 0xFF, sizeof table);
+  fenhamper_table_empty(&table);
+  CHECK(memcmp(&table, &nothing, sizeof table) == 0 && fenhamper_table_or_empty(NULL) != NULL);
+  CHECK(memcmp(fenhamper_table_or_empty(NULL), &nothing, sizeof nothing) == 0 && fenhamper_table_or_empty(&table) == &table);
+}
+
+/* The lowest free entry is taken, whoever freed it; what stands in the others stays. */
+static void freed_entries_are_used_again(void) {
+  static const fenhamper_entry zero = {FENHAMPER_HOLDER_0, {{1, 2, 3, 4, 5, 6}}, 0}, one = {FENHAMPER_HOLDER_1, {{1, 2, 3, 4, 5, 6}}, 0};
+  memset(&table, 0, sizeof table);
+  CHECK(adds(0, zero.address, 0, 0) && adds(1, group(7), 0, 1) && adds(1, one.address, 0, 2) && adds(0, group(8), 0, 3));
+  CHECK(memcmp(&table.entries[0], &zero, sizeof zero) == 0 && memcmp(&table.entries[2], &one, sizeof one) == 0);
+  table_then = table;
+  CHECK(removes(1, group(7), 0, 1) && memcmp(&table.entries[1], &nothing.entries[1], sizeof zero) == 0);
+  CHECK(removes(0, zero.address, 0, 0) && table.entries[0].holder == FENHAMPER_FREE);
+  CHECK(adds(1, group(9), 0, 0) && adds(0, group(9), 0, 1) && adds(0, zero.address, 0, 4));
+  CHECK(memcmp(&table.entries[2], &table_then.entries[2], 2 * sizeof zero) == 0);
+  /* a job frees its own entry alone */
+  CHECK(removes(0, group(9), 0, 1) && removes(0, group(9), FENHAMPER_NOT_LISTED, 0) && removes(1, group(9), 0, 0));
+}
+
+/* Twelve at most, and so four at least; 17 comes before 15 and 16. */
+static void each_job_gets_four(void) {
+  unsigned first, n;
+  for (first = 0; first < 2; first++) {
+    memset(&table, 0, sizeof table);
+    for (n = 0; n < FENHAMPER_MOST_HELD; n++) CHECK(adds(first, group(n), 0, n));
+    table_then = table;
+    CHECK(adds(first, group(12), FENHAMPER_HOLDS_TWELVE, 0) && adds(first, group(11), FENHAMPER_ALREADY_LISTED, 0) && table_left());
+    for (n = 0; n < FENHAMPER_LEAST_HELD; n++) CHECK(adds(1 - first, group(n), 0, FENHAMPER_MOST_HELD + n));
+    table_then = table;
+    CHECK(adds(1 - first, group(4), FENHAMPER_ALL_IN_USE, 0) && adds(1 - first, group(3), FENHAMPER_ALREADY_LISTED, 0));
+    CHECK(adds(first, group(12), FENHAMPER_HOLDS_TWELVE, 0) && adds(first, group(0), FENHAMPER_ALREADY_LISTED, 0));
+    CHECK(removes(first, group(12), FENHAMPER_NOT_LISTED, 0) && removes(1 - first, group(4), FENHAMPER_NOT_LISTED, 0) && table_left());
+  }
+  CHECK(FENHAMPER_MOST_HELD + FENHAMPER_LEAST_HELD == FENHAMPER_ENTRIES);
+}
+
+/* A table of which each octet is `octet` but for the holders, where job 0 holds so many and then job 1 so many, all with addresses that differ. */
+static void held_by(unsigned zero, unsigned one, uint8_t octet) {
+  unsigned n;
+  memset(&table, octet, sizeof table);
+  for (n = 0; n < FENHAMPER_ENTRIES; n++) {
+    table.entries[n].holder = (uint8_t)(n < zero ? FENHAMPER_HOLDER_0 : n < zero + one ? FENHAMPER_HOLDER_1 : FENHAMPER_FREE);
+    if (n < zero + one) table.entries[n].address = group(n);
+  }
+  table_then = table;
+}
+
+/* What a job's calls on the table give, a reading among them: all 20, or all none. */
+static int bad_table(void) {
+  fenhamper_settings s = fenhamper_settings_for(own);
+  fenhamper_capture both[FENHAMPER_JOBS], capture = frame_to(own, 0x0800, 0);
+  unsigned job, bad = 0;
+  fenhamper_part part;
+  uint64_t refusal;
+  size_t entry;
+  both[0] = both[1] = capture;
+  table_then = table;
+  for (job = 0; job < 2; job++) {
+    fenhamper_address address = group(200);
+    refusal = fenhamper_capture_read(&s, (uint8_t)job, &table, &state, capture, 0).refusal;
+    CHECK(refusal == 0 || refusal == FENHAMPER_BAD_TABLE);
+    bad += refusal != 0;
+    CHECK(fenhamper_capture_explain(&s, (uint8_t)job, &table, capture, 0).refusal == refusal);
+    CHECK(fenhamper_capture_walk(&s, (uint8_t)job, &table, &state, capture).refusal == refusal);
+    CHECK(fenhamper_capture_keep(&s, (uint8_t)job, &table, &state, capture, 0, logged, 4).refusal == refusal);
+    CHECK(fenhamper_captures_screen(&s, (uint8_t)job, &table, both, 0, &part) == refusal);
+    CHECK(fenhamper_table_remove(&table, (uint8_t)job, &address, &entry) == (refusal == 0 ? FENHAMPER_NOT_LISTED : FENHAMPER_BAD_TABLE));
+    CHECK(table_left());
+    CHECK((fenhamper_table_add(&table, (uint8_t)job, &address, &entry) == FENHAMPER_BAD_TABLE) == (refusal != 0));
+    CHECK(refusal == 0 || table_left());
+    table = table_then;
+  }
+  CHECK(bad == 0 || bad == 2);
+  return bad != 0;
+}
+
+/* Above twelve entries of a job, or an address twice among them, in any two of its entries, whichever job reads. */
+static void a_bad_table_is_refused(void) {
+  unsigned zero, one, first, second;
+  for (zero = 0; zero <= FENHAMPER_ENTRIES; zero++) {
+    for (one = 0; zero + one <= FENHAMPER_ENTRIES; one++) {
+      held_by(zero, one, 0xA5);
+      CHECK(bad_table() == (zero > FENHAMPER_MOST_HELD || one > FENHAMPER_MOST_HELD));
+    }
+  }
+  for (first = 0; first < FENHAMPER_ENTRIES; first++) {
+    for (second = 0; second < first; second++) {
+      held_by(8, 8, 0);
+      table.entries[first].address = table.entries[second].address;
+      CHECK(bad_table() == ((first < 8) == (second < 8)));
+      /* all six octets are compared */
+      table.entries[first].address.octets[(first + second) % 6] ^= 0x80;
+      CHECK(!bad_table());
+    }
+  }
+  /* of one that is free nothing is looked at, and any other holder than 1 and 2 is nobody */
+  held_by(0, 0, 0x77);
+  CHECK(!bad_table());
+  for (first = 0; first < FENHAMPER_ENTRIES; first++) table.entries[first].holder = (uint8_t)(first < 2 ? 0 : first == 2 ? 255 : first);
+  CHECK(!bad_table() && adds(0, group(0), 0, 0) && adds(1, group(0), 0, 1) && adds(0, group(1), 0, 2) && table.entries[2].spare == 0);
+  CHECK(table.entries[3].holder == 3 && table.entries[3].spare == 0x77);
+}
+
+/* What can be wrong with a job's call, in the order in which it is refused. */
+enum { JOB_SETTINGS = 1, JOB_JOB = 2, JOB_BUFFERS = 4, JOB_PLACE = 8, JOB_TABLE = 16, JOB_LOG = 32, JOB_WRONGS = 64 };
+
+static uint64_t first_of_jobs(unsigned wrongs) {
+  if (wrongs & JOB_SETTINGS) return FENHAMPER_BAD_SETTINGS;
+  if (wrongs & JOB_JOB) return FENHAMPER_BAD_JOB;
+  if (wrongs & JOB_BUFFERS) return FENHAMPER_BAD_BUFFERS;
+  if (wrongs & JOB_PLACE) return FENHAMPER_BAD_PLACE;
+  if (wrongs & JOB_TABLE) return FENHAMPER_BAD_TABLE;
+  return wrongs & JOB_LOG ? FENHAMPER_BAD_LOG : 0;
+}
+
+/* 1, 14, 2, 3, 20, 11: each call with each set of wrongs gives the first that it looks at, and a refused one leaves state, table and log. */
+static void jobs_are_refused_in_order(void) {
+  static const uint8_t above[] = {2, 3, 16, 128, 255};
+  unsigned wrongs;
+  for (wrongs = 0; wrongs < JOB_WRONGS; wrongs++) {
+    fenhamper_settings s = fenhamper_settings_for(own);
+    fenhamper_capture capture = frame_to(own, 0x0800, 0);
+    uint8_t job = wrongs & JOB_JOB ? above[wrongs % 5] : (uint8_t)(wrongs % 2), *log;
+    size_t n = capture.length, m = wrongs & JOB_BUFFERS ? n - 1 : n, place = wrongs & JOB_PLACE ? n + 1 : 0;
+    uint64_t most = first_of_jobs(wrongs & ~(unsigned)JOB_LOG);
+    fenhamper_reading reading;
+    fenhamper_explained explained;
+    fenhamper_walked walked;
+    fenhamper_kept kept;
+    fenhamper_part part = {7, 7};
+    fenhamper_state before;
+    if (wrongs & JOB_SETTINGS) s.own.octets[0] |= 1;
+    held_by(wrongs & JOB_TABLE ? 13 : 12, 3, 0);
+    state.spare[2] = 5;
+    before = state;
+    fenhamper_read(&s, job, &table, &state, octets, n, marks, m, place, &reading);
+    CHECK(reading.refusal == most && (most == 0 || memcmp(&state, &before, sizeof state) == 0));
+    CHECK(most == 0 || (reading.start == place && reading.next == place && reading.kind == 0 && reading.way == 0));
+    fenhamper_explain(&s, job, &table, octets, n, marks, m, place, &explained);
+    CHECK(explained.refusal == most && (most == 0 || (explained.start == place && explained.reason == 0)));
+    state = before;
+    fenhamper_walk(&s, job, &table, &state, octets, n, marks, m, &walked);
+    CHECK(walked.refusal == first_of_jobs(wrongs & ~(unsigned)(JOB_LOG | JOB_PLACE)));
+    CHECK(walked.refusal == 0 || memcmp(&state, &before, sizeof state) == 0);
+    state = before;
+    log = log_of(0, 0, 0, 0);
+    fenhamper_walk_log(&s, job, &table, &state, octets, n, marks, m, place, log, wrongs & JOB_LOG ? 63 : 64, &kept);
+    CHECK(kept.refusal == first_of_jobs(wrongs) && (kept.refusal == 0 || (same_but(4) && memcmp(&state, &before, sizeof state) == 0)));
+    /* of the other job's capture nothing is looked at */
+    if (job == 0) CHECK(fenhamper_screen_data(&s, job, &table, octets, n, marks, m, octets, 1, marks, 0, place, &part) == most);
+    if (job != 0) CHECK(fenhamper_screen_data(&s, job, &table, octets, 1, marks, 0, octets, n, marks, m, place, &part) == most);
+    CHECK(most == 0 ? part.place == reading.data_place && part.length == reading.data_length : part.place == 0 && part.length == 0);
+    CHECK(table_left());
+  }
+}
+
+/* What can be wrong with a table call. 17 and 18 have the same wrong: whether the job lists the address. */
+static void table_calls_are_refused_in_order(void) {
+  unsigned wrongs;
+  for (wrongs = 0; wrongs < 32; wrongs++) {
+    unsigned bad_job = wrongs & 1, bad = wrongs & 2, listed = wrongs & 4, twelve = wrongs & 8, all = wrongs & 16;
+    unsigned job = bad_job ? 2 : 0, mine = bad ? 13 : twelve ? 12 : 4;
+    fenhamper_address address = group(listed ? 2 : 200);
+    uint32_t first = bad_job ? FENHAMPER_BAD_JOB : bad ? FENHAMPER_BAD_TABLE : 0;
+    held_by(mine, all ? FENHAMPER_ENTRIES - mine : 0, 0);
+    CHECK(adds(job, address, first ? first : listed ? FENHAMPER_ALREADY_LISTED : twelve ? FENHAMPER_HOLDS_TWELVE : all ? FENHAMPER_ALL_IN_USE : 0, mine));
+    CHECK(table_left() == (first != 0 || listed || twelve || all));
+    held_by(mine, all ? FENHAMPER_ENTRIES - mine : 0, 0);
+    CHECK(removes(job, address, first ? first : listed ? 0 : FENHAMPER_NOT_LISTED, 2) && table_left() == (first != 0 || !listed));
+  }
+}
+
+/* The data that a reading of the chosen job gives, in its own octets, at each place. The other capture, where the same frame lies elsewhere, has no part. */
+static void the_screen_shows_the_chosen_job(void) {
+  static uint8_t o[LINE], m[LINE];
+  fenhamper_settings s = fenhamper_settings_for(own);
+  fenhamper_capture both[FENHAMPER_JOBS], mine = traffic();
+  unsigned job;
+  size_t place;
+  memcpy(o + 7, octets, LINE - 7);
+  memcpy(m + 7, marks, LINE - 7);
+  fenhamper_table_empty(&table);
+  for (job = 0; job < 2; job++) {
+    both[job] = mine;
+    both[1 - job].octets = o;
+    both[1 - job].marks = m;
+    both[1 - job].length = LINE - 1;
+    for (place = 0; place <= LINE + 1; place++) {
+      fenhamper_reading r = fenhamper_capture_read(&s, (uint8_t)job, &table, &state, mine, place);
+      fenhamper_part part = {99, 99};
+      CHECK(fenhamper_captures_screen(&s, (uint8_t)job, &table, both, place, &part) == r.refusal);
+      CHECK(part.place == r.data_place && part.length == r.data_length);
+      CHECK(r.outcome != FENHAMPER_HANDED_OUT || memcmp(octets + part.place, "data", 4) == 0);
+    }
+  }
+}
+
+/* A job's readings go by its own entries: whatever the other one holds, they stay, but for the number of an entry that the table put elsewhere. */
+static void jobs_do_not_see_each_other(void) {
+  fenhamper_settings s = fenhamper_settings_for(own);
+  unsigned job, held, n;
+  for (job = 0; job < 2; job++) {
+    for (held = 0; held <= FENHAMPER_MOST_HELD; held++) {
+      memset(&table, 0, sizeof table);
+      for (n = 0; n < held; n++) CHECK(adds(1 - job, n == 0 ? own : group(n), 0, n));
+      CHECK(adds(job, group(50), 0, held) && adds(job, group(1), 0, held + 1));
+      CHECK(client_by(job, &s, group(50), FENHAMPER_WAY_ENTRY + held) && client_by(job, &s, group(1), FENHAMPER_WAY_ENTRY + held + 1));
+      CHECK(client_by(job, &s, own, FENHAMPER_WAY_OWN) && client_by(job, &s, group(2), FENHAMPER_WAY_NONE));
+      CHECK(client_by(job, &s, everyone, FENHAMPER_WAY_BROADCAST));
+    }
+  }
+}
+
+/* What is spare in the settings is not looked at, by readings or by sendings. */
+static void spare_settings_are_not_looked_at(void) {
+  fenhamper_settings s = fenhamper_settings_for(own), worn = s;
+  fenhamper_client client = fenhamper_client_to(other);
+  fenhamper_capture capture = traffic();
+  fenhamper_reading plain, also;
+  fenhamper_line line;
+  worn.unused = 0xFF;
+  memset(worn.spare, 0xFF, sizeof worn.spare);
+  plain = fenhamper_capture_read(&s, 0, NULL, &state, capture, 0);
+  also = fenhamper_capture_read(&worn, 0, NULL, &state, capture, 0);
+  CHECK(plain.outcome == FENHAMPER_HANDED_OUT && memcmp(&plain, &also, sizeof plain) == 0);
+  line = fresh_line();
+  CHECK(fenhamper_line_client(&worn, &state, FENHAMPER_PORT_PLAIN, line, 0, &client, NULL, 0).place == 84);
+}
+
 int main(void) {
-  CHECK(fenhamper_layout_3() == FENHAMPER_LAYOUT);
+  CHECK(fenhamper_layout_4() == FENHAMPER_LAYOUT);
   settings_are_the_printing_programs();
   types_and_tags_go_out_high_octet_first();
   a_ninth_tag_is_refused();
@@ -1058,5 +1328,14 @@ int main(void) {
   totals_stay_true();
   counted_calls_are_refused_in_order();
   a_total_above_256_is_refused();
+  a_table_begins_empty();
+  freed_entries_are_used_again();
+  each_job_gets_four();
+  a_bad_table_is_refused();
+  jobs_are_refused_in_order();
+  table_calls_are_refused_in_order();
+  the_screen_shows_the_chosen_job();
+  jobs_do_not_see_each_other();
+  spare_settings_are_not_looked_at();
   return wrong;
 }

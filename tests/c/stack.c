@@ -19,6 +19,7 @@ static void (*what)(void);
 static const fenhamper_address own = {{0x02, 0, 0, 0, 0, 1}};
 static uint8_t octets[FENHAMPER_MOST_SYMBOLS], marks[FENHAMPER_MOST_SYMBOLS], data[1500];
 static fenhamper_settings settings;
+static fenhamper_table table;
 static fenhamper_state state;
 static fenhamper_client client;
 static uint16_t quanta[FENHAMPER_CLASSES], totals[FENHAMPER_MOST_BLOCKS];
@@ -47,34 +48,34 @@ static void nothing(void) {}
 
 static void read_one(void) {
   fenhamper_reading reading;
-  fenhamper_read(&settings, &state, octets, symbols, marks, symbols, 0, &reading);
+  fenhamper_read(&settings, 1, &table, &state, octets, symbols, marks, symbols, 0, &reading);
 }
 
 static void explain_one(void) {
   fenhamper_explained explained;
-  fenhamper_explain(&settings, octets, symbols, marks, symbols, 0, &explained);
+  fenhamper_explain(&settings, 1, &table, octets, symbols, marks, symbols, 0, &explained);
 }
 
 static void walk_short(void) {
   fenhamper_walked walked;
-  fenhamper_walk(&settings, &state, octets, 4096, marks, 4096, &walked);
+  fenhamper_walk(&settings, 1, &table, &state, octets, 4096, marks, 4096, &walked);
 }
 
 static void walk_long(void) {
   fenhamper_walked walked;
-  fenhamper_walk(&settings, &state, octets, symbols, marks, symbols, &walked);
+  fenhamper_walk(&settings, 1, &table, &state, octets, symbols, marks, symbols, &walked);
 }
 
 static void walk_log_short(void) {
   fenhamper_kept kept;
   memset(logged, 0, sizeof logged);
-  fenhamper_walk_log(&settings, &state, octets, 4096, marks, 4096, 0, (uint8_t *)logged, sizeof logged, &kept);
+  fenhamper_walk_log(&settings, 1, &table, &state, octets, 4096, marks, 4096, 0, (uint8_t *)logged, sizeof logged, &kept);
 }
 
 static void walk_log_long(void) {
   fenhamper_kept kept;
   memset(logged, 0, sizeof logged);
-  fenhamper_walk_log(&settings, &state, octets, symbols, marks, symbols, 0, (uint8_t *)logged, sizeof logged, &kept);
+  fenhamper_walk_log(&settings, 1, &table, &state, octets, symbols, marks, symbols, 0, (uint8_t *)logged, sizeof logged, &kept);
 }
 
 /* The records of the walk above stand in front. */
@@ -97,6 +98,25 @@ static void log_next(void) {
   fenhamper_record record;
   size_t at = 1;
   fenhamper_log_next((const uint8_t *)logged, sizeof logged, &at, &record);
+}
+
+static void table_add(void) {
+  static const fenhamper_address group = {{0x01, 0, 0x5E, 0, 0, 99}};
+  size_t entry;
+  fenhamper_table_add(&table, 1, &group, &entry);
+}
+
+static void table_remove(void) {
+  static const fenhamper_address group = {{0x01, 0, 0x5E, 0, 0, 15}};
+  size_t entry;
+  fenhamper_table_remove(&table, 1, &group, &entry);
+}
+
+static void table_empty(void) { fenhamper_table_empty(&table); }
+
+static void screen_data(void) {
+  fenhamper_part part;
+  fenhamper_screen_data(&settings, 1, &table, octets, 0, marks, 0, octets, symbols, marks, symbols, 0, &part);
 }
 
 static void log_used(void) {
@@ -164,18 +184,24 @@ static void hold(const char *name, void (*call)(void), size_t bound) {
 }
 
 int main(void) {
-  size_t i;
+  size_t i, entry;
   fenhamper_sent sent;
   symbols = sizeof octets;
   settings = fenhamper_settings_for(own);
   client = fenhamper_client_to(own);
   fenhamper_fresh_state(&state);
   for (i = 0; i < 8; i++) fenhamper_add_tag(&client, FENHAMPER_TAG_CUSTOMER, (uint16_t)i);
+  /* an entry is free, and job 1 holds the last eleven */
+  for (i = 0; i < FENHAMPER_ENTRIES - 1; i++) {
+    fenhamper_address group = {{0x01, 0, 0x5E, 0, 0, (uint8_t)(i + 1)}};
+    fenhamper_table_add(&table, i < FENHAMPER_LEAST_HELD ? 0 : 1, &group, &entry);
+  }
   /* a capture of frames, each with eight tags */
   for (sent.place = 0, sent.refusal = 0; sent.refusal == 0;)
     fenhamper_send_client(&settings, &state, port, octets, symbols, marks, symbols, (size_t)sent.place, &client, data, 100, &sent);
   hold("read", read_one, FENHAMPER_STACK_READ);
   hold("explain", explain_one, FENHAMPER_STACK_READ);
+  hold("screen_data", screen_data, FENHAMPER_STACK_SCREEN);
   hold("walk, under 8,192 symbols", walk_short, FENHAMPER_STACK_WALK);
   hold("walk", walk_long, FENHAMPER_STACK_WALK);
   hold("walk_log, under 8,192 symbols", walk_log_short, FENHAMPER_STACK_WALK);
@@ -185,6 +211,9 @@ int main(void) {
   hold("log_record", log_record, FENHAMPER_STACK_READ);
   hold("log_next", log_next, FENHAMPER_STACK_READ);
   hold("log_used", log_used, FENHAMPER_STACK_READ);
+  hold("table_add", table_add, FENHAMPER_STACK_READ);
+  hold("table_remove", table_remove, FENHAMPER_STACK_READ);
+  hold("table_empty", table_empty, FENHAMPER_STACK_READ);
   hold("fill_totals", fill_totals, FENHAMPER_STACK_SEND);
   hold("starts_before", starts_before, FENHAMPER_STACK_SEND);
   hold("send_client", send_client, FENHAMPER_STACK_SEND);

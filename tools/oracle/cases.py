@@ -10,8 +10,9 @@ from typing import Any, List
 
 sys.dont_write_bytecode = True  # nothing is written into the repository
 import model
-from model import (BROADCAST, CONTROL, CUSTOMER, ERROR, IDLE, MOST_TAGS, PREAMBLE, RESERVED_GROUP, START, TAG_KINDS, TERMINATE, Client, LogReader,
+from model import (BROADCAST, CONTROL, CUSTOMER, EMPTY, ERROR, IDLE, MOST_TAGS, PREAMBLE, RESERVED_GROUP, START, TAG_KINDS, TERMINATE, Client, LogReader,
                    Record, Settings, State, high_first)
+from tape import entries, entry_octets
 
 KINDS = {"refused": 0, "none": 1, "open": 2, "counted": 3}
 
@@ -37,16 +38,20 @@ PUBLISHED = [
 
 @dataclass
 class Case:
-    call: str  # reading, walk, why, client, pause, pfc, idle, fcs; of a log append, look, keep; of totals fill, before
+    call: str  # reading, walk, why, client, pause, pfc, idle, fcs; of a log append, look, keep; of totals fill, before; of two jobs add, remove, bad, screen
     settings: Any = None
     state: Any = None
     octets: Any = None
     marks: Any = None
     place: int = 0
-    asked: Any = None  # a Client; quanta; (named, quanta); a number of Idles; the octets under a check and the published value; a Record; its number
+    # a Client; quanta; (named, quanta); a number of Idles; the octets under a check and the published value; a Record; its number; an address
+    asked: Any = None
     log: Any = None
     totals: Any = None  # a sending that has them keeps them
     port: str = model.PLAIN
+    job: int = 0
+    table: Any = None  # the octets of one that a call goes by
+    other: Any = None  # octets and marks of the other job's capture
 
     def __post_init__(self):
         self.answer, self.hits = ANSWERS[self.call](self)
@@ -66,14 +71,33 @@ def reading_numbers(r):
     return [KINDS[r.kind], number, r.status, at, length, r.address, r.start, r.next] + state_numbers(r.state) + r.data
 
 
+def heard(c):
+    """The job and the table of a case."""
+    return c.job, entries(c.table)
+
+
+def mine(c):
+    return model.own_entries(entries(c.table), c.job)
+
+
+def read_tests(c):
+    return [(1, model.bad_settings(c.settings)), (2, model.bad_buffers(c.octets, c.marks)), (3, c.place > len(c.octets)), (14, model.bad_job(c.job)),
+            (20, model.bad_table(entries(c.table)))]
+
+
+def pairs(name, tests):
+    """Of what the refusals hit the pairs alone."""
+    return {x for x in refusal_hits(name, tests) if "before" in x}
+
+
 def answer_reading(c):
-    r = model.reading(c.settings, c.state, c.octets, c.marks, c.place)
+    r = model.reading(c.settings, c.state, c.octets, c.marks, c.place, *heard(c))
     return reading_numbers(r), reading_hits(c, r)
 
 
 def answer_why(c):
-    w = model.why(c.settings, c.octets, c.marks, c.place)
-    hits = {"why: " + {"refused": f"refused {w.refusal}", "counted": f"outcome {w.outcome}"}.get(w.kind, w.kind)}
+    w = model.why(c.settings, c.octets, c.marks, c.place, *heard(c))
+    hits = {"why: " + {"refused": f"refused {w.refusal}", "counted": f"outcome {w.outcome}"}.get(w.kind, w.kind)} | pairs("why", read_tests(c))
     evidence = list(w.evidence)
     if w.outcome == 2:  # which of the two it is, as a number
         hits.add(f"why: bad preamble, {evidence[0] if evidence[0] == 'length' else f'octet {evidence[1] - w.start}'}")
@@ -90,7 +114,7 @@ def answer_why(c):
 
 
 def answer_walk(c):
-    rs = model.walk(c.settings, c.state, c.octets, c.marks)
+    rs = model.walk(c.settings, c.state, c.octets, c.marks, 0, *heard(c))
     last, counted = rs[-1], len(rs) - 1
     handed = [n for r in rs if r.outcome == 11 for n in [len(r.data)] + r.data]
     refused = last.kind == "refused"
@@ -100,6 +124,7 @@ def answer_walk(c):
         hits.add(f"walk: outcome {r.outcome} inside")
     if any(a.next == b.start for a, b in zip(rs, rs[1:]) if a.kind == b.kind == "counted"):
         hits.add("walk: a Start that ended the run before it")
+    hits |= pairs("walk", read_tests(c)) | {f"walk: way {r.address}" for r in rs}
     return ended + state_numbers(last.state) + handed, hits
 
 
@@ -160,7 +185,7 @@ def common_hits(name, c, needed, tests):
 def settings_hits(name, s, refused):
     if not refused:
         return {f"{name}: M {s.limit} taken"} if s.limit in (1518, 9618) else set()
-    reasons = {"group bit": s.own[0] & 1, "count 5": s.count > 4, "M 1517": s.limit < 1518, "M 9619": s.limit > 9618}
+    reasons = {"group bit": s.own[0] & 1, "M 1517": s.limit < 1518, "M 9619": s.limit > 9618}
     return {f"{name}: {reason} refused" for reason, holds in reasons.items() if holds}
 
 
@@ -263,10 +288,8 @@ def answer_look(c):
 
 
 def answer_keep(c):
-    w = model.logged_walk(c.settings, c.state, c.octets, c.marks, c.place, c.log)
-    hits = {f"keep: {f'refused {w.refusal}' if w.refusal else f'ends {w.end}'}"}
-    tests = [(1, model.bad_settings(c.settings)), (2, model.bad_buffers(c.octets, c.marks)), (3, c.place > len(c.octets)), (11, model.bad_log(c.log))]
-    hits |= {x for x in refusal_hits("keep", tests) if "before" in x}
+    w = model.logged_walk(c.settings, c.state, c.octets, c.marks, c.place, c.log, *heard(c))
+    hits = {f"keep: {f'refused {w.refusal}' if w.refusal else f'ends {w.end}'}"} | pairs("keep", read_tests(c) + [(11, model.bad_log(c.log))])
     if not w.refusal:
         hits.add(f"keep: {min(w.appended, 2)}{'+' if w.appended > 1 else ''} kept, ends {w.end}")
         hits.add(f"keep: ends {w.end}, {'a record' if model.unused_numbers(w.log) else 'no record'} left")
@@ -301,14 +324,67 @@ def answer_before(c):
     return [refusal, starts or 0], hits
 
 
+def change_hits(name, c, answer, tests):
+    hits = refusal_hits(name, tests, "fine") | {f"{name}: {name} of job {c.job}: {f'refused {answer.refusal}' if answer.refusal else 'fine'}"}
+    if not answer.refusal:
+        hits.add(f"{name}: entry {answer.entry}")
+    return hits
+
+
+def changed_octets(c, answer, entry):
+    """The table after a call: one entry is written, and every other octet stays."""
+    after = list(c.table)
+    if not answer.refusal:
+        after[8 * answer.entry:8 * answer.entry + 8] = entry_octets(entry)
+    assert entries(after) == answer.table
+    return [answer.refusal, answer.entry or 0] + after
+
+
+def answer_add(c):
+    job, table = heard(c)
+    a = model.adding(table, job, c.asked)
+    tests = [(14, model.bad_job(job)), (20, model.bad_table(table)), (17, c.asked in [x for _, x in mine(c)]), (15, len(mine(c)) >= 12)]
+    hits = change_hits("add", c, a, tests + [(16, None not in table)])
+    if not a.refusal:
+        others = [x for _, x in model.own_entries(table, 1 - job)]
+        hits |= {f"add: {'listed' if c.asked in others else 'not listed'} by the other job", f"add: a free entry with octet {c.table[8 * a.entry]}"}
+    return changed_octets(c, a, (job, c.asked)), hits
+
+
+def answer_remove(c):
+    job, table = heard(c)
+    a = model.removing(table, job, c.asked)
+    hits = change_hits("remove", c, a, [(14, model.bad_job(job)), (20, model.bad_table(table)), (18, c.asked not in [x for _, x in mine(c)])])
+    if a.refusal == 18 and c.asked in [x for _, x in model.own_entries(table, 1 - job)]:
+        hits.add("remove: listed by the other job alone")
+    return changed_octets(c, a, None), hits
+
+
+def answer_bad(c):
+    bad, table = model.bad_table(entries(c.table)), entries(c.table)
+    most = max(len(model.own_entries(table, job)) for job in (0, 1))
+    return [int(bad)], {f"bad: {'20' if bad else 'no 20'}, {'13 or more' if most > 12 else '12' if most == 12 else 'fewer'} of a job"}
+
+
+def answer_screen(c):
+    captures = [(c.octets, c.marks), c.other] if c.job != 1 else [c.other, (c.octets, c.marks)]
+    refusal, (at, length) = model.showing(c.settings, captures, c.place, *heard(c))
+    hits = refusal_hits("screen", read_tests(c), "shown") | {f"screen: job {c.job}, {'refused' if refusal else 'data' if length else 'no data'}"}
+    if not refusal and model.bad_buffers(*c.other):
+        hits.add("screen: the other capture is one that is refused")
+    if not refusal and c.place > len(c.other[0]):
+        hits.add("screen: the place is beyond the other capture")
+    # an empty part has no place, here as in a reading
+    return [refusal, at if length else 0, length] + c.octets[at:at + length], hits
+
+
 def reading_hits(c, r):
-    s = c.settings
+    s, own = c.settings, mine(c)
     n = r.refusal or r.outcome
     hits = {"reading: " + {"refused": f"refused {n}", "counted": f"outcome {n}"}.get(r.kind, r.kind)}
     hits |= settings_hits("reading", s, model.bad_settings(s))
     if r.kind == "refused":
-        tests = [(1, model.bad_settings(s)), (2, model.bad_buffers(c.octets, c.marks)), (3, c.place > len(c.octets))]
-        hits |= refusal_hits("reading", tests)
+        hits |= refusal_hits("reading", read_tests(c))
         if n == 2:
             hits.add(f"reading: {'unequal' if len(c.octets) != len(c.marks) else 'too long'} buffers")
         return hits
@@ -326,7 +402,7 @@ def reading_hits(c, r):
     if mark > 1:
         hits.add("reading: a control mark above 1")
     run = c.octets[r.start + 1:r.next]
-    rows = model.rules_that_hold(s, run, by)
+    rows = model.rules_that_hold(s, run, by, own)
     hits |= {f"reading: outcome {a} before {b}" for i, a in enumerate(rows) for b in rows[i + 1:] if b != 11}
     if START in run[7:]:
         hits.add("reading: data 0xFB in the run")
@@ -353,12 +429,13 @@ def reading_hits(c, r):
             hits.add("reading: length field, checking off")
     if n >= 7:
         d = f.destination
+        listed, theirs = ([a for _, a in x] for x in (own, model.own_entries(entries(c.table), 1 - c.job)))
         kind = ("own" if d == s.own else "reserved group" if d == RESERVED_GROUP else "broadcast" if d == BROADCAST
-                else "listed" if d in s.listed[:s.count] else "listed past the count" if d in s.listed else "other")
-        if kind == "broadcast" and BROADCAST in s.listed[:s.count]:
+                else "listed" if d in listed else "listed by the other job" if d in theirs else "other")
+        if kind == "broadcast" and BROADCAST in listed:
             hits.add(f"reading: listed broadcast, setting {'on' if s.broadcast else 'off'}{', promiscuous' if s.promiscuous else ''}: {n}")
         hits.add(f"reading: {'control' if f.control else 'client'} frame to {kind}{', promiscuous' if s.promiscuous else ''}: {n}")
-        hits |= way_hits(f, s, r.address)
+        hits |= way_hits(f, s, r.address, c.job, own, theirs)
         if f.tags and f.field == CONTROL:
             hits.add(f"reading: 0x8808 behind {tagged}, an ordinary type")
         if n == 11:
@@ -378,13 +455,15 @@ def reading_hits(c, r):
     return hits
 
 
-def way_hits(f, s, way):
-    """What a frame that came to the address rule hits by item 7."""
-    at = [i for i, a in enumerate(s.listed[:s.count]) if a == f.destination]
+def way_hits(f, s, way, job, own, theirs):
+    """What a frame that came to the address rule hits by items 7 and 10."""
     sort = "control frame" if f.control else "client frame"
-    hits = {f"reading: {sort}, way {way}", f"reading: {'promiscuous' if s.promiscuous else 'not promiscuous'}, way {way}"}
-    if at:
-        hits.add(f"reading: {sort}, {'equal entries' if len(at) > 1 else 'an entry'} from {at[0]} on, way {way}")
+    said = way if way < 16 else "of an entry"
+    hits = {f"reading: {sort}, way {way}", f"reading: {'promiscuous' if s.promiscuous else 'not promiscuous'}, way {said}"}
+    if way > 15:
+        hits.add(f"reading: job {job}, way of an entry")
+    if f.destination in [a for _, a in own]:
+        hits.add(f"reading: {sort}, listed{' by both' if f.destination in theirs else ''}, way {said}")
     return hits
 
 
@@ -414,7 +493,8 @@ def tag_hits(f, status):
 
 
 ANSWERS = {"reading": answer_reading, "walk": answer_walk, "why": answer_why, "client": answer_client, "pause": answer_pause, "pfc": answer_pfc, "idle": answer_idle,
-           "fcs": answer_fcs, "append": answer_append, "look": answer_look, "keep": answer_keep, "fill": answer_fill, "before": answer_before}
+           "fcs": answer_fcs, "append": answer_append, "look": answer_look, "keep": answer_keep, "fill": answer_fill, "before": answer_before,
+           "add": answer_add, "remove": answer_remove, "bad": answer_bad, "screen": answer_screen}
 
 # ---- Drawing
 
@@ -437,11 +517,9 @@ def some_tags(r, tags):
 
 
 def some_settings(r, **given):
-    own, other = some_address(r), some_address(r)
-    listed = [some_address(r, True), other, BROADCAST, some_address(r)]
-    r.shuffle(listed)
-    s = Settings(own, listed, r.choice([0, 1, 2, 3, 4, 4]), r.random() < 0.5, r.random() < 0.15, r.random() < 0.8, r.choice([1518, 1518, 1519, 9618]),
-                 r.choice(["none", "pause", "PFC"]), r.random() < 0.4)
+    own = some_address(r)
+    s = Settings(own, r.random() < 0.5, r.random() < 0.15, r.random() < 0.8, r.choice([1518, 1518, 1519, 9618]), r.choice(["none", "pause", "PFC"]),
+                 r.random() < 0.4)
     if given.pop("group_bit", False):
         given["own"] = [own[0] | 1] + own[1:]
     return replace(s, **given)
@@ -455,17 +533,56 @@ def some_state(r, free=None):
     return State(counters, timers, r.choice([0, 1, 3, 4, 255]))
 
 
-def address_of(r, s, to):
+def shuffled(r, jobs):
+    """So many entries of each job, in any places; broadcast may be among them, and no job has an address twice."""
+    table = [(job, some_address(r, r.random() < 0.5)) for job, n in enumerate(jobs) for _ in range(n)]
+    if table and r.random() < 0.5:
+        table[0] = (table[0][0], BROADCAST)
+    table += [None] * (16 - len(table))
+    r.shuffle(table)
+    return table
+
+
+def again(r, table, job, by):
+    """An address of a job once more, in an entry that was free or another's."""
+    table = list(table)
+    at = [n for n, entry in enumerate(table) if entry is not None and entry[0] == job]
+    table[r.choice([n for n in range(16) if n not in at])] = (by, table[r.choice(at)][1])
+    return table
+
+
+def some_table(r, sort=None):
+    """The octets of a table: of so many entries for each job, of given ones, or broken. Nobody holds an entry with a first octet other than 1 and 2,
+    whatever else stands there."""
+    if isinstance(sort, list):
+        table = sort
+    elif sort in ("twice of 0", "twice of 1", "of both"):
+        job = int(sort == "twice of 1")
+        table = again(r, shuffled(r, (3, 2)), job, 1 - job if sort == "of both" else job)
+    else:
+        table = shuffled(r, sort or r.choice([(0, 0), (1, 0), (1, 1), (2, 1), (1, 2), (3, 3)]))
+    listed = [entry[1] for entry in table if entry is not None] or [[1] * 6]
+    spare, octet = r.choice([0, 0, 255]), r.choice([0, 0, 0, 3, 255])
+    free = [octet] + r.choice(listed) + [spare] if octet or spare else [0] * 8
+    return [octet for entry in table for octet in (free if entry is None else entry_octets(entry, spare))]
+
+
+def listener(r, given):
+    """Takes a job and a table out of what is given, or draws them: a job of 0 or 1, a table that is not broken."""
+    return {"job": given.pop("job", r.choice([0, 1])), "table": some_table(r, given.pop("table", None))}
+
+
+def address_of(r, s, to, job=0, table=(0,) * 128):
     if isinstance(to, list):
         return to
-    past = next((a for a in s.listed[s.count:] if a != BROADCAST), s.listed[3])
-    return {"own": s.own, "reserved": RESERVED_GROUP, "broadcast": BROADCAST, "listed": s.listed[r.randrange(max(1, s.count)) % 4], "past": past,
+    lists = [[a for _, a in model.own_entries(entries(table), of) if a != BROADCAST] or [some_address(r)] for of in (job, 1 - job)]
+    return {"own": s.own, "reserved": RESERVED_GROUP, "broadcast": BROADCAST, "listed": r.choice(lists[0]), "theirs": r.choice(lists[1]),
             "near": s.own[:5] + [s.own[5] ^ 1], "group": some_address(r, True), "other": some_address(r)}[to]
 
 
-def frame(r, s, to=None, tags=0, field=None, data=None, control=None, quanta=None, named=None, size=None, fcs=True):
-    """A frame from destination to FCS. `size` cuts or stretches it before its FCS is made; `fcs=False` spoils that."""
-    d = address_of(r, s, to or r.choice(["own", "own", "listed", "reserved", "broadcast", "other", "group", "near", "past"]))
+def frame(r, s, to=None, tags=0, field=None, data=None, control=None, quanta=None, named=None, size=None, fcs=True, **by):
+    """A frame from destination to FCS, for a job and its table. `size` cuts or stretches it before its FCS is made; `fcs=False` spoils that."""
+    d = address_of(r, s, to or r.choice(["own", "own", "listed", "reserved", "broadcast", "other", "group", "near", "theirs"]), **by)
     if control is not None:
         eight = [o for _ in range(8) for o in high_first(r.choice([0, 1, 65535, r.randrange(65536)]))]
         pause = high_first(r.randrange(65536) if quanta is None else quanta) + some(r, 42)
@@ -508,6 +625,7 @@ def make_reading(r, given):
     """One capture with one Start worth reading, noise around it, and a place."""
     given = dict(given)
     s = some_settings(r, **given.pop("settings", {}))
+    by = listener(r, given)
     state = some_state(r)
     line = {k: given.pop(k) for k in ("preamble", "ending", "strict") if k in given}
     lead = given.pop("lead", r.choice([0, 0, 1, 3]))
@@ -520,7 +638,7 @@ def make_reading(r, given):
     if shape == "long":  # buffers of 65,537 Idles, or of 65,536
         octets, marks = [IDLE] * given["n"], [1] * given["n"]
     elif shape != "none":
-        o, m = on_line(r, frame(r, s, tags=tags, **given), **line)
+        o, m = on_line(r, frame(r, s, tags=tags, **by, **given), **line)
         octets, marks = octets + o, marks + m
     if line.get("ending", 0) is not None and shape != "long":
         o, m = noise(r, r.choice([0, 1, 2]))
@@ -535,16 +653,17 @@ def make_reading(r, given):
         octets, marks = (octets[:-1], marks) if unequal < 0 else (octets, marks[:-1])
         if given.get("short", False):
             octets, marks = octets[:2], marks[:1]
-    return Case("reading", s, state, octets, marks, place)
+    return Case("reading", s, state, octets, marks, place, **by)
 
 
 def some_walk(r, given):
-    """Settings, state and a capture of several short stretches, at most one or two of them whole frames."""
-    s = some_settings(r, **given.get("settings", {}))
+    """Settings, state, a capture of several short stretches, at most one or two of them whole frames, and a job and its table."""
+    s, by = some_settings(r, **given.get("settings", {})), listener(r, dict(given))
     octets, marks = noise(r, r.randrange(3))
     for part in given["parts"]:
         if part == "frame":
-            o, m = on_line(r, frame(r, s, to=r.choice(["own", "own", "listed", "reserved"]), tags=r.choice([0, 0, "few"]), field=r.choice([0, 20, 46, 0x0800])))
+            to = r.choice(["own", "listed", "listed", "reserved"])
+            o, m = on_line(r, frame(r, s, to=to, tags=r.choice([0, 0, "few"]), field=r.choice([0, 20, 46, 0x0800]), **by))
         elif part == "pause":
             o, m = on_line(r, frame(r, s, to="reserved", control=r.choice([1, 0x0101]), quanta=r.choice([0, 1, 65535])))
         elif part == "wrong":
@@ -564,11 +683,12 @@ def some_walk(r, given):
         octets, marks = octets + o, marks + m
     if given.get("unequal"):
         marks = marks[:-1]
-    return s, some_state(r) if r.random() < 0.6 else State(), octets, marks
+    return (s, some_state(r) if r.random() < 0.6 else State(), octets, marks), by
 
 
 def make_walk(r, given):
-    return Case("walk", *some_walk(r, given))
+    walk, by = some_walk(r, given)
+    return Case("walk", *walk, **by)
 
 
 def buffers(r, n):
@@ -660,9 +780,9 @@ def make_look(r, given):
 
 
 def make_keep(r, given):
-    s, state, octets, marks = some_walk(r, given)
+    (s, state, octets, marks), by = some_walk(r, given)
     place = {"end": len(octets), "beyond": len(octets) + 1}.get(given.get("place"), r.choice([0, 0, min(1, len(octets))]))
-    return Case("keep", s, state, octets, marks, place, log=some_log(r, given["log"], given.get("more", 0)))
+    return Case("keep", s, state, octets, marks, place, log=some_log(r, given["log"], given.get("more", 0)), **by)
 
 
 def starts_among(r, n):
@@ -706,9 +826,31 @@ def make_totals(r, given):
     return Case(given["call"], octets=octets, marks=marks, place=n + 1 if place == "beyond" else place, totals=some_totals(r, octets, marks, given))
 
 
+def make_change(r, given):
+    """An addition or a removal of an address that the job lists, that the other lists, or that neither does."""
+    by = listener(r, dict(given))
+    address = address_of(r, some_settings(r), given["to"], **{**by, "job": min(by["job"], 1)})
+    return Case(given["call"], asked=address, **by)
+
+
+def make_bad(r, given):
+    return Case("bad", table=some_table(r, given["table"]))
+
+
+def make_screen(r, given):
+    """The reading of that recipe, and beside it another capture: a few symbols, or one that would be refused."""
+    c = make_reading(r, {k: v for k, v in given.items() if k != "other"})
+    other = {"refused": ([START], []), "empty": ([], []), None: on_line(r, frame(r, c.settings, to="own"))}[given.get("other")]
+    return replace(c, call="screen", state=None, other=other)
+
+
 # ---- The recipes
 
-BAD_SETTINGS = [{"group_bit": True}, {"count": 5}, {"count": 255}, {"limit": 1517}, {"limit": 9619}, {"limit": 0}, {"limit": 65535}]
+BAD_SETTINGS = [{"group_bit": True}, {"limit": 1517}, {"limit": 9619}, {"limit": 0}, {"limit": 65535}]
+# what gives 20, by either job, and what just does not
+BROKEN = [(13, 0), (0, 13), (13, 3), (3, 13), (16, 0), "twice of 0", "twice of 1"]
+WHOLE = [(0, 0), (12, 0), (0, 12), (12, 4), (4, 12), (8, 8), "of both"]
+BAD_JOBS = [{"job": n} for n in (2, 255)]
 ON, OFF = {"checking": True}, {"checking": False}
 
 
@@ -735,7 +877,10 @@ PAIRS += [{"to": "near", "control": 2, "tags": 0, "settings": {"promiscuous": Fa
 READINGS = (
     [{"settings": x} for x in BAD_SETTINGS]
     + [{"unequal": 1}, {"unequal": -1}, {"place": "beyond"}, {"place": "end"}, {"shape": "none", "lead": 3}, {"shape": "none", "lead": 0, "place": 0}]
-    + [{"unequal": 1, "settings": BAD_SETTINGS[0]}, {"unequal": 1, "place": "beyond"}, {"place": "beyond", "settings": BAD_SETTINGS[3]}]
+    + [{"unequal": 1, "settings": BAD_SETTINGS[0]}, {"unequal": 1, "place": "beyond"}, {"place": "beyond", "settings": BAD_SETTINGS[1]}]
+    + BAD_JOBS + [{"table": x, "to": "listed"} for x in BROKEN + WHOLE]
+    + [{"job": 2, "settings": BAD_SETTINGS[0]}, {"job": 2, "unequal": 1}, {"job": 2, "place": "beyond"}, {"job": 2, "table": (13, 0)},
+       {"table": (13, 0), "settings": BAD_SETTINGS[0]}, {"table": (13, 0), "unequal": 1}, {"table": (13, 0), "place": "beyond"}]
     + [{"ending": None}, {"ending": None, "size": 20}, {"shape": "after"}, {"shape": "after", "to": "own", "settings": to_own()}]
     + [{"ending": x} for x in (IDLE, START, ERROR, 0x9C, 0x00, 0x55)]
     + [{"preamble": x} for x in ("short", "wrong", "wrong", "late")]
@@ -761,12 +906,11 @@ READINGS = (
     + [{"to": "own", "tags": t, "size": 64, "settings": to_own()} for t in (2, 8, 12)]
     + [{"to": "own", "field": f, "data": d, "settings": to_own(**OFF)} for f, d in [(0, 46), (45, 47), (60, 61), (1520, 46), (0, 60)]]
     # the address rule
-    + [{"to": x, "control": c, "settings": {"promiscuous": p, "checking": True}} for x in ("own", "listed", "past", "near", "other", "group", "reserved")
+    + [{"to": x, "control": c, "settings": {"promiscuous": p, "checking": True}} for x in ("own", "listed", "theirs", "near", "other", "group", "reserved")
        for c in (None, 2) for p in (False,)]
-    + [{"to": "past", "settings": to_own(count=n)} for n in (0, 3)]
+    + [{"to": "theirs", "job": job, "table": (2, 2), "settings": to_own()} for job in (0, 1)]
     + [{"to": x, "control": c, "settings": {"promiscuous": True, "pass_control": True}} for x in ("other", "broadcast", "reserved") for c in (None, 2)]
-    + [{"to": "broadcast", "settings": to_own(broadcast=b, count=4)} for b in (False, True)]
-    + [{"to": "broadcast", "control": 2, "tags": 0, "settings": to_own(broadcast=b, count=4, pass_control=p)} for b, p in [(False, True), (True, True), (True, False)]]
+    + [{"to": "broadcast", "control": 2, "tags": 0, "settings": to_own(broadcast=b, pass_control=p)} for b, p in [(False, True), (True, True), (True, False)]]
     # control frames
     + [{"to": x, "control": c, "tags": 0, "settings": {"flow": m, "promiscuous": False}} for x in ("reserved", "own") for c in (1, 0x0101)
        for m in ("none", "pause", "PFC")]
@@ -774,26 +918,33 @@ READINGS = (
     + [{"to": "reserved", "control": 0x0101, "tags": 0, "named": k, "settings": {"flow": "PFC"}} for k in (0, 1, 128, 255, 0x5A)]
     + [{"to": "own", "control": c, "tags": t, "settings": to_own(flow="pause")} for c in (1, 0x0101) for t in (1, 2)]
     + [{"to": "reserved", "control": 1, "tags": t, "settings": to_own(flow="pause")} for t in (1, 2, 8)]
-    + [{"to": "listed", "control": 1, "tags": 0, "settings": to_own(flow="pause", count=4, pass_control=p)} for p in (False, True)]
+    + [{"to": "listed", "control": 1, "tags": 0, "table": (2, 2), "settings": to_own(flow="pause", pass_control=p)} for p in (False, True)]
     + [{"to": "group", "control": 0x0101, "tags": 0, "settings": to_own(flow="PFC", pass_control=True)}]
     + [{}] * 12
 )
-# which address let it in (item 7): each entry, equal ones, the own address, broadcast and the reserved group among them
+# which address let it in (items 7 and 10): each entry, and the own address, broadcast and the reserved group among them
 GROUPS = [[1, 0, 0x5E, 0, 0, n] for n in range(4)]
 STATION = [2, 0, 0, 0, 0, 1]
 
 
-def to_list(to, listed, control=None, **settings):
-    given = {"own": STATION, "listed": listed, "count": 4, "checking": True, **settings}
-    return {"to": to, "control": control, "field": 0x0800, "tags": 0, "settings": given}
+def at(entry, address, job=0, others=()):
+    """A table in which a job lists one address, at that entry, and the other job others."""
+    table = list(EMPTY)
+    table[:len(others)] = [(1 - job, a) for a in others]
+    table[entry] = (job, address)
+    return table
 
 
-EQUAL = [[GROUPS[1]] * 4, [GROUPS[0]] + [GROUPS[1]] * 3, GROUPS[:2] + [GROUPS[2]] * 2, GROUPS[:2] * 2]
-WAYS = [to_list(to, GROUPS, promiscuous=p) for to in GROUPS for p in (False, True)]
-WAYS += [to_list(to, listed, promiscuous=p) for listed in EQUAL for to in (GROUPS[1], listed[3]) for p in (False, True)]
-WAYS += [to_list(STATION, [GROUPS[0], STATION, STATION, GROUPS[1]], c, promiscuous=p, flow="pause") for c in (None, 1) for p in (False, True)]
-WAYS += [to_list(BROADCAST, GROUPS[:3] + [BROADCAST], c, broadcast=b, promiscuous=p) for c in (None, 2) for b in (False, True) for p in (False, True)]
-WAYS += [to_list(RESERVED_GROUP, GROUPS[:2] + [RESERVED_GROUP] * 2, c, promiscuous=p, flow=m, pass_control=k) for c in (None, 1, 0x0101) for p in (False, True)
+def to_table(to, table, job=0, control=None, **settings):
+    given = {"own": STATION, "checking": True, **settings}
+    return {"to": to, "control": control, "field": 0x0800, "tags": 0, "job": job, "table": table, "settings": given}
+
+
+WAYS = [to_table(GROUPS[1], at(n, GROUPS[1], n % 2, GROUPS), n % 2, promiscuous=n % 3 == 0) for n in range(16)]
+WAYS += [to_table(GROUPS[1], at(n, GROUPS[1], 1 - job, GROUPS[2:]), job, promiscuous=p) for n in (0, 15) for job in (0, 1) for p in (False, True)]
+WAYS += [to_table(STATION, at(3, STATION, job), job, c, promiscuous=p, flow="pause") for job in (0, 1) for c in (None, 1) for p in (False, True)]
+WAYS += [to_table(BROADCAST, at(3, BROADCAST, 1), 1, c, broadcast=b, promiscuous=p) for c in (None, 2) for b in (False, True) for p in (False, True)]
+WAYS += [to_table(RESERVED_GROUP, at(2, RESERVED_GROUP), 0, c, promiscuous=p, flow=m, pass_control=k) for c in (None, 1, 0x0101) for p in (False, True)
          for m, k in (("none", True), ("pause", False), ("PFC", False))]
 READINGS += WAYS
 # few of these: a thousand octets and more, whose check antt computes in seconds
@@ -817,7 +968,10 @@ WALKS = [{"parts": p} for p in (
     [], ["noise"], ["frame"], ["frame", "frame"], ["start", "start", "cut"], ["start", "frame"], ["cut", "start", "frame", "open"], ["open"],
     ["preamble", "open"], ["small", "noise", "small", "preamble"], ["pause", "frame"], ["pause", "pause"], ["wrong", "cut"], ["wrong", "open"],
     ["frame", "start"], ["start", "pause", "start", "preamble"], ["frame", "noise", "wrong"], ["cut"] * 5)]
-WALKS += [{"parts": ["frame"], "settings": {"count": 5}}, {"parts": ["cut"], "unequal": True}, {"parts": ["cut"], "unequal": True, "settings": {"limit": 1517}}]
+WALKS += [{"parts": ["frame"], "settings": {"limit": 9619}}, {"parts": ["cut"], "unequal": True}, {"parts": ["cut"], "unequal": True, "settings": {"limit": 1517}}]
+WALKS += [{"parts": ["cut"], **x} for x in BAD_JOBS + [{"table": (13, 0)}, {"table": "twice of 1"}, {"job": 2, "table": (0, 13)},
+          {"unequal": True, "table": (0, 13)}, {"job": 2, "settings": {"limit": 0}}, {"job": 2, "unequal": True}]]
+WALKS += [{"parts": ["frame", "frame"], "table": (12, 4), "job": job, "settings": {"promiscuous": False}} for job in (0, 1)]
 
 COMMON = [{"room": x} for x in ("exact", "short", "none")] + [{"unequal": True}, {"beyond": True}, {"unequal": True, "beyond": True},
           {"unequal": True, "room": "short"}]
@@ -861,9 +1015,13 @@ KEEPS = [{"parts": p, "log": log} for p in ([], ["frame"], ["cut", "preamble"], 
          for log in ([], [0], [0, 0], [1, 0], [1, 0, 1, 0, 0])]
 KEEPS += [{"parts": ["open"], "log": [0] * n} for n in (0, 1)] + [{"parts": ["cut"] * 3, "log": [0] * n} for n in (2, 3, 4)]
 KEEPS += [{"parts": ["cut", "cut"], "log": [0], "place": "end"}]
-KEEPS += [{"parts": ["cut"], "log": [0], **x} for x in ({"settings": {"count": 5}}, {"unequal": True}, {"place": "beyond"}, {"more": 1}, {"more": -1},
+KEEPS += [{"parts": ["cut"], "log": [0], **x} for x in ({"settings": {"limit": 0}}, {"unequal": True}, {"place": "beyond"}, {"more": 1}, {"more": -1},
           {"settings": {"limit": 1517}, "unequal": True}, {"unequal": True, "place": "beyond"}, {"place": "beyond", "more": 1},
           {"settings": {"limit": 9619}, "more": 1})]
+KEEPS += [{"parts": ["cut"], "log": [0], **x} for x in BAD_JOBS + [{"table": (13, 0)}, {"table": "twice of 0"}, {"job": 2, "table": (13, 0)},
+          {"table": (0, 13), "more": 1}, {"job": 2, "settings": {"limit": 0}}, {"job": 2, "unequal": True},
+          {"table": (13, 0), "place": "beyond"}, {"job": 2, "more": 1}]]
+KEEPS += [{"parts": ["frame"], "log": [0], "table": (12, 4), "job": job, "settings": {"promiscuous": False}} for job in (0, 1)]
 LOG_RECIPES = [(make_append, x) for x in APPENDS] + [(make_look, x) for x in LOOKS] + [(make_keep, x) for x in KEEPS]
 
 STRETCHES = (0, 1, 255, 256, 257, 511, 512, 513)
@@ -895,6 +1053,22 @@ TOTALS_RECIPES = (
     + [(make_counted, {"of": make, **x}) for make in (make_pause, make_pfc) for x in KEEPING + LANED + FOR_CONTROL]
     + [(make_counted, {"of": make_idle, **x}) for x in KEEPING + FOR_IDLE])
 
+CHANGES = [{"to": to, "job": job, "table": x} for x in WHOLE + [(11, 0), (12, 3), (3, 12), (7, 8), (1, 1)] for job in (0, 1)
+           for to in ("listed", "theirs", "other")]
+CHANGES += [{"to": to, "job": job, "table": x} for x in BROKEN for job, to in ((0, "listed"), (1, "other"))]
+CHANGES += [{"to": to, "job": job, "table": x} for x in ((0, 0), (13, 0), (12, 4), "twice of 1") for job, to in ((2, "listed"), (255, "other"))]
+CHANGES += [{"to": to, "job": 1, "table": (2, 2)} for to in ("own", "reserved", "broadcast")]
+CHANGES += [{"to": "other", "job": n % 2, "table": [None if n == k else (k % 2, [1, 0, 0x5E, 0, 0, k]) for k in range(16)]} for n in (0, 9, 15)]
+HANDED = {"settings": to_own(), "field": 0x0800, "tags": 0}
+SCREENS = [{"to": to, "job": job, "table": (2, 2), "other": x, **HANDED} for to in ("own", "listed", "theirs") for job in (0, 1)
+           for x in (None, "refused", "empty")]
+SCREENS += [{"job": job, **x} for job in (0, 1) for x in ({"ending": None}, {"fcs": False}, {"shape": "none"}, {"unequal": 1}, {"place": "beyond"},
+            {"table": (13, 0)}, {"settings": BAD_SETTINGS[0], "job": 2}, {"job": 2, "unequal": 1}, {"unequal": 1, "place": "beyond"},
+            {"place": "beyond", "table": "twice of 0"})]
+SCREENS += [{"shape": "after", "job": job, "to": "own", "lead": 3, "other": "empty", **HANDED} for job in (0, 1)]
+JOB_RECIPES = [(make_change, {"call": call, **x}) for call in ("add", "remove") for x in CHANGES] + [(make_bad, {"table": x}) for x in WHOLE + BROKEN]
+JOB_RECIPES += [(make_screen, x) for x in SCREENS]
+
 READING_RECIPES = [(make_reading, x) for x in READINGS] + [(make_walk, x) for x in WALKS]
 SENDING_RECIPES = (
     [(make_client, x) for x in CLIENTS] + [(make_pause, x) for x in CONTROLS + FLOWS + [{"quanta": q} for q in (0, 255, 256, 65535)]]
@@ -914,7 +1088,7 @@ def drawn(r, recipes, n):
 
 def generate(n, seed) -> List[Case]:
     """n drawn cases, three readings or walks to two sendings, one in twenty large; beside them the published values of the check, a call on a log for
-    each four of them and a call with totals for each two, each recipe once at most, and of some readings why they have their outcomes."""
+    each four of them, a call with totals and a call of two jobs for each two, each recipe once at most, and of some readings why they have their outcomes."""
     r = random.Random(seed)
     large = min(n // 20, len(LARGE))
     readings = (n - large) * 3 // 5
@@ -922,12 +1096,13 @@ def generate(n, seed) -> List[Case]:
     cases = [make(r, given) for make, given in chosen] + [Case("fcs", asked=(list(text), value)) for text, value in PUBLISHED]
     cases += [make(r, given) for make, given in drawn(r, LOG_RECIPES, min(n // 4, len(LOG_RECIPES)))]
     cases += [make(r, given) for make, given in drawn(r, TOTALS_RECIPES, min(n // 2, len(TOTALS_RECIPES)))]
+    cases += [make(r, given) for make, given in drawn(r, JOB_RECIPES, min(n // 2, len(JOB_RECIPES)))]
     return cases + why_cases(cases)
 
 
 def why_cases(cases):
     """Why the readings among them have their outcomes: of one in three, and of each that hits something new."""
-    whys = [Case("why", c.settings, None, c.octets, c.marks, c.place) for c in cases if c.call == "reading"]
+    whys = [Case("why", c.settings, None, c.octets, c.marks, c.place, job=c.job, table=c.table) for c in cases if c.call == "reading"]
     hit, out = set(), []
     for n, c in enumerate(whys):
         if n % 3 == 0 or c.hits - hit:
@@ -939,14 +1114,16 @@ def why_cases(cases):
 # ---- Coverage: what must be hit (every outcome, every refusal of every call, both sides of each limit), and what else was
 
 MUST = (
-    ["reading: none", "reading: open"] + [f"reading: outcome {n}" for n in range(1, 12)] + [f"reading: refused {n}" for n in (1, 2, 3)]
-    + ["walk: ends none", "walk: ends open", "walk: refused 1", "walk: refused 2", "walk: a Start that ended the run before it"]
-    + ["why: none", "why: open"] + [f"why: outcome {n}" for n in range(1, 12)] + [f"why: refused {n}" for n in (1, 2, 3)]
+    ["reading: none", "reading: open"] + [f"reading: outcome {n}" for n in range(1, 12)] + [f"reading: refused {n}" for n in (1, 2, 3, 14, 20)]
+    + ["walk: ends none", "walk: ends open", "walk: a Start that ended the run before it"] + [f"walk: refused {n}" for n in (1, 2, 14, 20)]
+    + ["why: none", "why: open"] + [f"why: outcome {n}" for n in range(1, 12)] + [f"why: refused {n}" for n in (1, 2, 3, 14, 20)]
+    + [f"{c}: refusal {a} before {b}" for c in ("reading", "why", "keep") for a, b in [(1, 14), (14, 2), (14, 20), (3, 20)]] + ["reading: refusal 2 before 20"]
+    + [f"walk: refusal {a} before {b}" for a, b in [(1, 14), (14, 2), (14, 20), (2, 20)]]
     + ["why: bad preamble, length", "why: bad preamble, octet 7", "why: handed out, data", "why: handed out, no data"]
     + ["why: limit M+0", "why: limit M+4"] + [f"why: {t}, length broken" for t in ("untagged", "1 tag", "2 tags", "8 tags")]
     + [f"client: refused {n}" for n in (1, 2, 3, 5, 6, 7, 8, 9, 10)] + [f"{c}: refused {n}" for c in ("pause", "pfc") for n in (1, 2, 3, 4, 8)]
     + [f"idle: refused {n}" for n in (2, 3, 8)] + [f"{c}: written" for c in ("client", "pause", "pfc", "idle")]
-    + [f"{c}: {x} refused" for c in ("reading", "client", "pause", "pfc") for x in ("group bit", "count 5", "M 1517", "M 9619")]
+    + [f"{c}: {x} refused" for c in ("reading", "client", "pause", "pfc") for x in ("group bit", "M 1517", "M 9619")]
     + [f"{c}: M {x} taken" for c in ("reading", "client") for x in (1518, 9618)]
     + [f"{c}: room {x}" for c in ("client", "pause", "pfc", "idle") for x in ("exact", "one short")]
     + [f"{c}: place beyond the length" for c in ("client", "pause", "pfc", "idle")] + ["reading: place at the length", "idle: place at the length"]
@@ -966,17 +1143,16 @@ MUST = (
        "1501 broken", "1535 broken")] + ["reading: field 1500 kept, untagged", "reading: field 1500 broken, untagged", "reading: field 1536, a type"]
     + ["reading: length field, checking off", "reading: data 0xFB in the run", "reading: a counter rolls over", "reading: a counter passes 2^32"]
     + ["reading: PFC class named", "reading: PFC class not named"] + [f"reading: pause of {n} quanta" for n in (0, 1, 65535)]
-    + [f"reading: client frame, way {n}" for n in range(8)] + [f"reading: control frame, way {n}" for n in (0, 1, 6, 7, 8)]
-    + [f"reading: {p}, way {n}" for p in ("promiscuous", "not promiscuous") for n in (1, 2, 3, 4, 5, 6, 8)]
-    + [f"reading: client frame, an entry from {i} on, way {2 + i}" for i in range(4)]
-    + [f"reading: client frame, equal entries from {i} on, way {2 + i}" for i in range(3)]
-    + ["reading: client frame, equal entries from 1 on, way 1", "reading: control frame, equal entries from 1 on, way 1"]
-    + [f"reading: client frame, an entry from 3 on, way {n}" for n in (0, 6, 7)]
-    + ["reading: control frame, equal entries from 2 on, way 8"] + [f"keep: way {n} kept" for n in (0, 1, 8)]
+    + [f"reading: client frame, way {n}" for n in (0, 1, 6, 7, *range(16, 32))] + [f"reading: control frame, way {n}" for n in (0, 1, 6, 7, 8)]
+    + [f"reading: {p}, way {n}" for p in ("promiscuous", "not promiscuous") for n in (1, 6, 8, "of an entry")]
+    + [f"reading: job {n}, way of an entry" for n in (0, 1)]
+    + [f"reading: client frame, listed{x}, way of an entry" for x in ("", " by both")]
+    + [f"reading: {x} frame, listed, way {n}" for x, n in [("client", 0), ("client", 1), ("client", 6), ("client", 7), ("control", 1), ("control", 8)]]
+    + [f"keep: way {n} kept" for n in (0, 1, 8)]
     + [f"reading: ended by {x}" for x in ("Idle", "Start", "Error", "Sequence", "another control octet")]
     + [f"reading: outcome {a} before {b}" for a, b in [(1, 2), (2, 3), (3, 5), (4, 5), (5, 6), (6, 7), (7, 10), (8, 10), (9, 10)]]
     + ["reading: listed broadcast, setting on: 11", "reading: listed broadcast, setting off: 7", "reading: client frame to listed: 11",
-       "reading: client frame to listed past the count: 7", "reading: control frame to own: 8", "reading: control frame to reserved group: 8"]
+       "reading: client frame to listed by the other job: 7", "reading: control frame to own: 8", "reading: control frame to reserved group: 8"]
     + [f"client: {f} form, {t}" for f in ("length", "type") for t in ("untagged", "1 tag", "2 tags", "8 tags")]
     + [f"client: {n}, {x:#06x} outermost" for n in ("1 tag", "2 tags", "8 tags") for x in TAG_KINDS] + [f"client: {n} tags refused" for n in (9, 255)] + [f"client: data {n} written" for n in (0, 45, 46, 47, 1500)]
     + [f"client: {f} form, data {x}" for f in ("length", "type") for x in ("at the limit", "one over")]
@@ -989,7 +1165,7 @@ MUST = (
        "a record, 0 unused of 0", "outcome 0, 0 unused of 0", "a record, 0 unused of 2", "outcome 0, 0 unused of 2", "into a hole")]
     + [f"look: {x}" for x in ("record read", "record refused 11", "record refused 13", "an unused record", "beyond the log", "first unused found",
        "first unused refused 11", "first unused refused 12", "a used record behind an unused one")]
-    + [f"keep: refused {n}" for n in (1, 2, 3, 11)] + [f"keep: refusal {a} before {b}" for a, b in [(1, 2), (2, 3), (3, 11)]]
+    + [f"keep: refused {n}" for n in (1, 2, 3, 11, 14, 20)] + [f"keep: refusal {a} before {b}" for a, b in [(1, 2), (2, 3), (3, 11), (14, 11), (20, 11)]]
     + [f"keep: {x}" for x in ("0 kept, ends none", "0 kept, ends open", "0 kept, ends full", "2+ kept, ends none", "2+ kept, ends full", "used records stay")]
     + [f"keep: ends {x} left" for x in ("none, a record", "none, no record", "open, a record", "full, no record")]
     + [f"keep: outcome {n} kept" for n in (1, 2, 3, 11)]
@@ -1007,6 +1183,17 @@ MUST = (
     + [f"{c}: totals, {x}" for c in ("client", "pause", "pfc", "idle") for x in ("into 1 block", "into 2 blocks", "begins at an edge", "ends at an edge",
        "into a short block", "others stay", "all anew", "true", "untrue")]
     + ["client: totals, into 3 blocks", "idle: totals, into 3 blocks", "idle: totals, into 0 blocks"]
+    + [f"add: {x}" for x in ("fine", "refusal 14 before 20", "refusal 20 before 17", "refusal 17 before 15", "refusal 17 before 16", "refusal 15 before 16",
+       "listed by the other job", "not listed by the other job", "entry 0", "entry 15", "a free entry with octet 0", "a free entry with octet 3")]
+    + [f"add: add of job {job}: refused {n}" for job in (0, 1) for n in (15, 16, 17, 20)]
+    + [f"{c}: {c} of job {job}: fine" for c in ("add", "remove") for job in (0, 1)]
+    + [f"{c}: {c} of job {job}: refused 14" for c in ("add", "remove") for job in (2, 255)]
+    + [f"remove: remove of job {job}: refused {n}" for job in (0, 1) for n in (18, 20)]
+    + ["remove: listed by the other job alone", "remove: refusal 14 before 20", "remove: refusal 20 before 18"]
+    + [f"bad: {x} of a job" for x in ("20, 13 or more", "20, fewer", "no 20, 12", "no 20, fewer")]
+    + [f"screen: job {job}, {x}" for job in (0, 1) for x in ("refused", "data", "no data")] + [f"screen: refused {n}" for n in (1, 2, 3, 14, 20)]
+    + [f"screen: refusal {a} before {b}" for a, b in [(1, 14), (14, 2), (2, 3), (3, 20)]]
+    + ["screen: the other capture is one that is refused", "screen: the place is beyond the other capture"]
 )
 
 
@@ -1017,7 +1204,8 @@ def coverage(cases) -> str:
         for hit in c.hits:
             counts[hit] = counts.get(hit, 0) + 1
     lines = []
-    for call in ("reading", "walk", "why", "client", "pause", "pfc", "idle", "fcs", "append", "look", "keep", "fill", "before"):
+    for call in ("reading", "walk", "why", "client", "pause", "pfc", "idle", "fcs", "append", "look", "keep", "fill", "before", "add", "remove",
+                 "bad", "screen"):
         mine = {k.split(": ", 1)[1]: v for k, v in counts.items() if k.startswith(call + ": ")}
         lines.append(f"{call} ({sum(c.call == call for c in cases)} cases)")
         key = lambda k: [int(w) if w.isdigit() else w for w in k.split()]

@@ -1,9 +1,9 @@
 """The calls on a log on the tape of crates/cases (tape.py): each refusal, each pair of them in its order, and both sides of each limit; walks that keep their
 readings with logs too short for them, just long enough and longer, and gone on with. What must come of each is the model's answer."""
-from model import (BROADCAST, ERROR, IDLE, RESERVED_GROUP, START, TERMINATE, LogReader, Reading, Record, appending, handing_out, logged_walk, pause_symbols,
+from model import (BROADCAST, EMPTY, ERROR, IDLE, RESERVED_GROUP, START, TERMINATE, LogReader, Reading, Record, appending, handing_out, logged_walk, pause_symbols,
                    reading, reading_appending, record_at, used_in_front, walks_on)
-from read_cases import FRESH, USED as WORN, frame, line, settings
-from tape import APPEND, APPEND_READING, KEEP, LOOK, ONES, TAPE, checksum
+from read_cases import FRESH, USED as WORN, frame, line, listing, settings
+from tape import APPEND, APPEND_READING, KEEP, LOOK, ONES, TAPE, checksum, table_octets
 
 ENDS = {"none": 1, "open": 2, "full": 3}
 NUMBERED = Record(0x04030201, 5, 6, 0x0807, 0x100F0E0D0C0B0A09)  # in the log the octets 1 to 16
@@ -60,11 +60,11 @@ def look(name, of, number):
          f"used {number if used_refusal else used}", of)
 
 
-def keep(name, line, place, before, s=None, state=FRESH, worn=False, more_marks=0):
+def keep(name, line, place, before, s=None, state=FRESH, worn=False, more_marks=0, job=0, table=EMPTY):
     s = s or settings()
     octets, marks = [octet for octet, _ in line], [mark for _, mark in line] + [0] * more_marks
-    TAPE.call(KEEP, name, s, state, place, 0, octets, marks, worn=worn, log=before)
-    w = logged_walk(s, state, octets, marks, place, before)
+    TAPE.call(KEEP, name, s, state, place, 0, octets, marks, worn=worn, log=before, job=job, table=table_octets(table))
+    w = logged_walk(s, state, octets, marks, place, before, job, table)
     answer = f"refused {w.refusal} next {w.next}" if w.refusal else f"kept {w.appended} end {ENDS[w.end]} next {w.next}"
     TAPE.tell(name, f"{answer} log {len(w.log)} {checksum(w.log)}", w.refusal, state, w.state, worn)
     return w
@@ -108,12 +108,13 @@ def reading_cases():
         append_reading(f"reading, {name}, length 31", log(1, 1)[:31], r)
     most = Reading("counted", 2**32 - 1, 0, FRESH, outcome=255, status=2**64 - 1, part=(9, 65535), data=[0] * 65535, address=255)
     append_reading("reading, most of each", [0] * 16, most)
-    # item 7: the octet behind the outcome, of each way into a station that lists three groups and the own address, and accepts every destination
-    s = settings(listed=[[1, 0, 0x5E, 0, 0, n] for n in range(3)] + [[2, 0, 0, 0, 0, 1]], count=4, promiscuous=True)
-    ways = [frame(), *(frame(to=to) for to in s.listed[:3]), frame(to=BROADCAST), frame(to=[2, 0, 0, 0, 0, 2]), frame(RESERVED_GROUP, 0x8808, 44, [0, 2])]
-    for n, f in zip((1, 2, 3, 4, 6, 7, 8), ways):
+    # items 7 and 10: the octet behind the outcome, of each way into a station that lists groups and the own address, and accepts every destination
+    groups, s = [[1, 0, 0x5E, 0, 0, n] for n in range(3)], settings(promiscuous=True)
+    table = listing(groups[0], groups[1], [2, 0, 0, 0, 0, 1])[:15] + [(0, groups[2])]
+    ways = [frame(), *(frame(to=to) for to in groups), frame(to=BROADCAST), frame(to=[2, 0, 0, 0, 0, 2]), frame(RESERVED_GROUP, 0x8808, 44, [0, 2])]
+    for n, f in zip((1, 16, 17, 31, 6, 7, 8), ways):
         octets, marks = map(list, zip(*line(f)))
-        r = reading(s, FRESH, octets, marks, 0)
+        r = reading(s, FRESH, octets, marks, 0, 0, table)
         assert r.address == n
         append_reading(f"reading, way {n}", log(1, 0), r)
         append_reading(f"reading, way {n}, bits above", log(1, 0), r, above=3)
@@ -165,10 +166,11 @@ def frame_cases():
              + line(frame(field=10)) + line(frame(RESERVED_GROUP, 0x8808, 44, [0, 2])))
     for size in (12, 13, 11):
         keep(f"each outcome, {size} records", every, 0, [0] * (16 * size), s=pausing)
-    # item 7: each way in a walk's record
+    # items 7 and 10: each way in a walk's record, of either job
     groups = [[1, 0, 0x5E, 0, 0, n] for n in range(4)]
-    by_each = [frame(), *(frame(to=to) for to in groups), frame(to=BROADCAST), frame(to=[2, 0, 0, 0, 0, 2]), pause]
-    keep("each way", [symbol for f in by_each for symbol in line(f)], 0, [0] * 128, s=settings(listed=groups, count=4, promiscuous=True))
+    by_each = [symbol for f in [frame(), *(frame(to=to) for to in groups), frame(to=BROADCAST), frame(to=[2, 0, 0, 0, 0, 2]), pause] for symbol in line(f)]
+    for job in (0, 1):
+        keep(f"each way, job {job}", by_each, 0, [0] * 128, s=settings(promiscuous=True), job=job, table=listing(*groups[:2], job=0, others=groups[2:]))
     pfc = frame(RESERVED_GROUP, 0x8808, 26, [1, 1, 0, 0x81] + [0, 9] * 8)
     keep("PFC taken, control dropped", line(pfc) + line(pause), 0, [0] * 32, s=settings(flow="PFC"))
     keep("9,600 octets handed out", line(frame(n=9600)), 0, [0] * 16, s=settings(limit=9618))

@@ -15,8 +15,7 @@ def station(n):
 
 
 def settings(n):
-    return Settings(own=station(n), listed=[station(0x11 + i) for i in range(4)], count=0, broadcast=True, promiscuous=False, checking=True, limit=1518,
-                    flow="none", pass_control=False)
+    return Settings(own=station(n), broadcast=True, promiscuous=False, checking=True, limit=1518, flow="none", pass_control=False)
 
 
 class Capture:

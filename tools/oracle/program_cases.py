@@ -1,12 +1,13 @@
 #!/usr/bin/env python3
-"""Writes crates/cases/stdin, the tape of all readings, sendings, calls on a log, reasons and calls with totals, and crates/cases/stdout, what the model
-says must be printed of them.
+"""Writes crates/cases/stdin, the tape of all readings, sendings, calls on a log, reasons, calls with totals and calls of two jobs, and crates/cases/stdout,
+what the model says must be printed of them.
 
 With --check it writes nothing, and exits 1 if a file is not as it would be written.
 """
 import pathlib
 import sys
 
+import job_cases
 import log_cases
 import read_cases
 import reason_cases
@@ -20,6 +21,7 @@ send_cases.cases()
 log_cases.cases()
 reason_cases.cases()
 totals_cases.cases()
+job_cases.cases()
 wrong = 0
 for name, octets in [("stdin", TAPE.octets()), ("stdout", TAPE.text())]:
     path = crate / name

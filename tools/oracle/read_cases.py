@@ -1,8 +1,9 @@
 """The readings on the tape of crates/cases (tape.py): captures of each outcome and of both sides of each limit, built by this file's own code."""
 from dataclasses import replace
 
-from model import START, TERMINATE, IDLE, ERROR, PREAMBLE, RESERVED_GROUP, BROADCAST, Settings, State, fcs, high_first, reading, screen, walk
-from tape import MOST_READINGS, READINGS, TAPE, changed, checksum
+from model import (START, TERMINATE, IDLE, ERROR, PREAMBLE, RESERVED_GROUP, BROADCAST, EMPTY, Settings, State, fcs, high_first, reading, screen,
+                   walk)
+from tape import MOST_READINGS, READINGS, TAPE, changed, checksum, entries, table_octets
 
 FRESH = State()
 USED = State(counters=[2**64 - 1] * 11, timers=[1000] * 8)
@@ -20,12 +21,21 @@ def multicast(n):
 
 
 OWN = station(1)
+STATIONS = [station(0x11 + i) for i in range(4)]
 
 
 def settings(**changes):
-    base = Settings(own=OWN, listed=[station(0x11 + i) for i in range(4)], count=0, broadcast=True, promiscuous=False, checking=True, limit=1518,
-                    flow="none", pass_control=False)
+    base = Settings(own=OWN, broadcast=True, promiscuous=False, checking=True, limit=1518, flow="none", pass_control=False)
     return replace(base, **changes)
+
+
+def listing(*addresses, job=0, at=0, others=()):
+    """A table in which a job lists these addresses, from an entry on, and the other job others, up to the last entry."""
+    table = list(EMPTY)
+    table[at:at + len(addresses)] = [(job, address) for address in addresses]
+    table[16 - len(others):] = [(1 - job, address) for address in others]
+    assert len(table) == 16
+    return table
 
 
 def line(frame, by=TERMINATE):
@@ -47,14 +57,15 @@ def reading_line(name, before, r, worn=False):
     TAPE.tell(name, f"{answer} start {r.start} next {r.next}", r.refusal, before, r.state, worn)
 
 
-def one(name, s, octets, marks, place):
-    TAPE.call(READINGS, name, s, FRESH, place, 1, octets, marks)
-    reading_line(name, FRESH, reading(s, FRESH, octets, marks, place))
+def one(name, s, octets, marks, place, job=0, table=EMPTY):
+    TAPE.call(READINGS, name, s, FRESH, place, 1, octets, marks, job=job, table=table_octets(table))
+    reading_line(name, FRESH, reading(s, FRESH, octets, marks, place, job, table))
 
 
-def every(name, s, octets, marks, state=FRESH, worn=False):
-    TAPE.call(READINGS, name, s, state, 0, MOST_READINGS, octets, marks, worn=worn)
-    readings = walk(s, state, octets, marks)
+def every(name, s, octets, marks, state=FRESH, worn=False, job=0, table=table_octets(EMPTY), spare=0):
+    """The table as its octets, which say more than its entries."""
+    TAPE.call(READINGS, name, s, state, 0, MOST_READINGS, octets, marks, worn=worn, job=job, table=table, spare=spare)
+    readings = walk(s, state, octets, marks, 0, job, entries(table))
     before = state
     for i, r in enumerate(readings[:MOST_READINGS]):
         reading_line(name, before, r, worn and i == 0)
@@ -69,12 +80,12 @@ def symbols(name, octets, marks):
     every(name, settings(), octets, marks)
 
 
-def capture(name, s, syms, state=FRESH):
-    every(name, s, [o for o, _ in syms], [m for _, m in syms], state)
+def capture(name, s, syms, state=FRESH, job=0, table=EMPTY):
+    every(name, s, [o for o, _ in syms], [m for _, m in syms], state, job=job, table=table_octets(table))
 
 
-def case(name, s, f, state=FRESH, by=TERMINATE):
-    capture(name, s, line(f, by) + [(IDLE, 1)], state)
+def case(name, s, f, state=FRESH, by=TERMINATE, job=0, table=EMPTY):
+    capture(name, s, line(f, by) + [(IDLE, 1)], state, job, table)
 
 
 def line_cases():
@@ -100,9 +111,10 @@ def line_cases():
 
 
 def refusal_cases():
-    for name, s in [("own with group bit", settings(own=[3, 0, 0, 0, 0, 1])), ("five listed", settings(count=5)), ("four listed", settings(count=4)),
-                    ("M 1517", settings(limit=1517)), ("M 9619", settings(limit=9619)), ("M 9618", settings(limit=9618))]:
+    for name, s in [("own with group bit", settings(own=[3, 0, 0, 0, 0, 1])), ("M 1517", settings(limit=1517)), ("M 9619", settings(limit=9619)),
+                    ("M 9618", settings(limit=9618))]:
         every(name, s, [0xFB, 0xFD], [1, 1])
+        every(name + ", spare octets", s, [0xFB, 0xFD], [1, 1], spare=255)
     symbols("fewer marks", [0xFB, 0xFD], [1])
     symbols("fewer octets", [0xFB], [1, 1])
     o, m = [0] * 65534 + [0xFB, 0xFD, 0], [0] * 65534 + [1, 1, 0]
@@ -181,58 +193,51 @@ def address_cases():
         ("broadcast on", settings(), BROADCAST),
         ("broadcast off", settings(broadcast=False), BROADCAST),
         ("promiscuous, broadcast off", settings(broadcast=False, promiscuous=True), BROADCAST),
-        ("first, none counts", settings(), station(0x11)),
-        ("first of 1", settings(count=1), station(0x11)),
-        ("second of 1", settings(count=1), station(0x12)),
-        ("fourth of 3", settings(count=3), station(0x14)),
-        ("fourth of 4", settings(count=4), station(0x14)),
     ]:
         case(name, s, frame(to=to))
-    groups = settings(listed=[BROADCAST, multicast(5), station(0x13), station(0x14)], count=2, broadcast=False)
-    case("listed broadcast", groups, frame(to=BROADCAST))
-    case("listed group", groups, frame(to=multicast(5)))
-    case("group not listed", groups, frame(to=multicast(6)))
+    for name, n, to in [("first of none", 0, 0x11), ("first of 1", 1, 0x11), ("second of 1", 1, 0x12), ("fourth of 3", 3, 0x14), ("fourth of 4", 4, 0x14)]:
+        case(name, settings(), frame(to=station(to)), table=listing(*STATIONS[:n]))
+    groups, s = listing(BROADCAST, multicast(5)), settings(broadcast=False)
+    case("listed broadcast", s, frame(to=BROADCAST), table=groups)
+    case("listed group", s, frame(to=multicast(5)), table=groups)
+    case("group not listed", s, frame(to=multicast(6)), table=groups)
 
 
 def way_cases():
-    """Which address let a frame in (item 7): each number, equal entries, and what is tried before what."""
-    entries = [station(0x11 + i) for i in range(4)]
-    four, everything = settings(count=4), settings(count=4, promiscuous=True)
-    for i, to in enumerate(entries):
-        case(f"entry {i} of 4", four, frame(to=to))
-        case(f"entry {i} of 4, promiscuous", everything, frame(to=to))
-        # equal entries from this one on, and those before it others
-        equal = entries[:i] + [multicast(7)] * (4 - i)
-        case(f"equal entries from {i} on", replace(four, listed=equal), frame(to=multicast(7)))
-        case(f"own address at entry {i}", replace(four, listed=entries[:i] + [OWN] + entries[i + 1:]), frame())
-        case(f"broadcast at entry {i}", replace(four, listed=entries[:i] + [BROADCAST] + entries[i + 1:]), frame(to=BROADCAST))
-    case("own address, promiscuous", everything, frame())
-    case("equal entries beyond the count", settings(listed=[station(0x11)] + [multicast(7)] * 3, count=1), frame(to=multicast(7)))
-    case("entries 1 and 3 equal", replace(four, listed=[station(0x11), multicast(7)] * 2), frame(to=multicast(7)))
-    listed = replace(four, listed=entries[:2] + [BROADCAST, RESERVED_GROUP])
-    for name, s in [("", listed), (", promiscuous", replace(listed, promiscuous=True))]:
-        case("listed broadcast, setting on" + name, s, frame(to=BROADCAST))
-        case("listed broadcast, setting off" + name, replace(s, broadcast=False), frame(to=BROADCAST))
-        case("listed reserved group, no control" + name, s, frame(to=RESERVED_GROUP))
-        case("listed reserved group, behind a tag" + name, s, frame(RESERVED_GROUP, 0x8808, 42, [0, 1, 0, 1], tagged=True))
+    """Which address let a frame in (items 7 and 10): each number, and what is tried before what. A table on both sides of each limit: job_cases.py."""
+    s, everything = settings(), settings(promiscuous=True)
+    four = listing(*STATIONS)
+    for i, to in enumerate(STATIONS):
+        case(f"entry {i} of 4", s, frame(to=to), table=four)
+        case(f"entry {i} of 4, promiscuous", everything, frame(to=to), table=four)
+        case(f"own address at entry {i}", s, frame(), table=listing(*STATIONS[:i], OWN, *STATIONS[i + 1:]))
+        case(f"broadcast at entry {i}", s, frame(to=BROADCAST), table=listing(*STATIONS[:i], BROADCAST, *STATIONS[i + 1:]))
+    case("own address, promiscuous", everything, frame(), table=four)
+    listed = listing(*STATIONS[:2], BROADCAST, RESERVED_GROUP)
+    for name, s in [("", settings()), (", promiscuous", everything)]:
+        case("listed broadcast, setting on" + name, s, frame(to=BROADCAST), table=listed)
+        case("listed broadcast, setting off" + name, replace(s, broadcast=False), frame(to=BROADCAST), table=listed)
+        case("listed reserved group, no control" + name, s, frame(to=RESERVED_GROUP), table=listed)
+        case("listed reserved group, behind a tag" + name, s, frame(RESERVED_GROUP, 0x8808, 42, [0, 1, 0, 1], tagged=True), table=listed)
         for flow in ("none", "pause", "PFC"):
-            pause(f"listed reserved group, pause in {flow}" + name, replace(s, flow=flow), RESERVED_GROUP)
-            pfc(f"listed reserved group, PFC in {flow}" + name, replace(s, flow=flow, pass_control=True), RESERVED_GROUP, 1)
-    case("promiscuous, reserved group, no control", settings(promiscuous=True), frame(to=RESERVED_GROUP))
-    pause("promiscuous, pause to the group", settings(promiscuous=True), RESERVED_GROUP)
-    pause("pause to entry 1", four, station(0x12))
-    pause("pause to the own address at entry 0", replace(four, listed=[OWN] * 4), OWN)
-    case("entry 3, wrong FCS", four, frame(to=station(0x14), bad=1))
-    case("entry 3, cut", four, frame(to=station(0x14)), by=ERROR)
+            pause(f"listed reserved group, pause in {flow}" + name, replace(s, flow=flow), RESERVED_GROUP, table=listed)
+            pfc(f"listed reserved group, PFC in {flow}" + name, replace(s, flow=flow, pass_control=True), RESERVED_GROUP, 1, table=listed)
+    case("promiscuous, reserved group, no control", everything, frame(to=RESERVED_GROUP))
+    pause("promiscuous, pause to the group", everything, RESERVED_GROUP)
+    s = settings()
+    pause("pause to entry 1", s, station(0x12), table=four)
+    pause("pause to the own address at entry 0", s, OWN, table=listing(OWN))
+    case("entry 3, wrong FCS", s, frame(to=station(0x14), bad=1), table=four)
+    case("entry 3, cut", s, frame(to=station(0x14)), by=ERROR, table=four)
 
 
-def pause(name, s, to, quanta=1, state=FRESH):
-    case(name, s, frame(to=to, field=0x8808, n=42, body=[0, 1] + high_first(quanta)), state)
+def pause(name, s, to, quanta=1, state=FRESH, table=EMPTY):
+    case(name, s, frame(to=to, field=0x8808, n=42, body=[0, 1] + high_first(quanta)), state, table=table)
 
 
-def pfc(name, s, to, named, state=FRESH):
+def pfc(name, s, to, named, state=FRESH, table=EMPTY):
     quanta = [octet for n in range(8) for octet in high_first(0x0101 * (n + 1))]
-    case(name, s, frame(to=to, field=0x8808, n=26, body=[1, 1, 0xFF, named] + quanta), state)
+    case(name, s, frame(to=to, field=0x8808, n=26, body=[1, 1, 0xFF, named] + quanta), state, table=table)
 
 
 def control_cases():
@@ -243,15 +248,15 @@ def control_cases():
     pause("pause to another station", s, station(2))
     pause("pause to all", s, BROADCAST)
     pfc("PFC in pause mode", s, RESERVED_GROUP, 255)
-    s = replace(s, count=1)
-    pause("pause to a listed address", s, station(0x11))
+    first = listing(station(0x11))
+    pause("pause to a listed address", s, station(0x11), table=first)
     s = replace(s, broadcast=False)
-    pause("pause to all, broadcast off", s, BROADCAST)
+    pause("pause to all, broadcast off", s, BROADCAST, table=first)
     s = replace(s, promiscuous=True)
-    pause("promiscuous, pause to another station", s, station(2))
+    pause("promiscuous, pause to another station", s, station(2), table=first)
     s = replace(s, pass_control=True)
-    pause("passing, pause to another station", s, station(2))
-    pause("passing, pause to the group", s, RESERVED_GROUP)
+    pause("passing, pause to another station", s, station(2), table=first)
+    pause("passing, pause to the group", s, RESERVED_GROUP, table=first)
     s = settings(flow="PFC")
     pfc("PFC, all classes", s, RESERVED_GROUP, 255)
     pfc("PFC, classes 0, 2 and 7", s, RESERVED_GROUP, 0b10000101)

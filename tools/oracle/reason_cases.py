@@ -1,8 +1,8 @@
 """The reasons on the tape of crates/cases (tape.py): why a Start has its outcome (item 8), each evidence at both sides of its limit; `none`, `open` and each
 refusal. What must come of each is the model's answer."""
-from model import BROADCAST, ERROR, IDLE, PREAMBLE, RESERVED_GROUP, START, TERMINATE, why
+from model import BROADCAST, EMPTY, ERROR, IDLE, PREAMBLE, RESERVED_GROUP, START, TERMINATE, why
 from read_cases import FRESH, OWN, frame, line, multicast, settings, station
-from tape import EXPLAIN, TAPE
+from tape import EXPLAIN, TAPE, table_octets
 
 KINDS = {"counted": 0, "refused": 0, "none": 1, "open": 2}
 # the header's number of a reason; of bad preamble there are two, by what the evidence is
@@ -24,10 +24,10 @@ def numbers(answer):
     return REASONS[answer.outcome], first, second
 
 
-def explain(name, s, octets, marks, place=0):
+def explain(name, s, octets, marks, place=0, job=0, table=EMPTY):
     name = "why, " + name
-    TAPE.call(EXPLAIN, name, s, FRESH, place, 0, octets, marks)
-    a = why(s, octets, marks, place)
+    TAPE.call(EXPLAIN, name, s, FRESH, place, 0, octets, marks, job=job, table=table_octets(table))
+    a = why(s, octets, marks, place, job, table)
     reason, first, second = numbers(a)
     told = f"refused {a.refusal} kind {KINDS[a.kind]} outcome {a.outcome} start {a.start} next {a.next} reason {reason} of {first} and {second}"
     TAPE.lines.append(f"{name}: {told}")
@@ -141,7 +141,6 @@ def place_cases():
     explain("65,536 symbols", s, o[:-1], m[:-1])
     for name, of, octets, marks, place in [
         ("own with group bit", settings(own=[3, 0, 0, 0, 0, 1]), [START, TERMINATE], [1, 1], 0),
-        ("five listed", settings(count=5), [START, TERMINATE], [1, 1], 0),
         ("M 1517", settings(limit=1517), [START, TERMINATE], [1, 1], 0),
         ("M 9619", settings(limit=9619), [START, TERMINATE], [1, 1], 0),
         ("fewer marks", s, [START, TERMINATE], [1], 0),

@@ -1,7 +1,7 @@
 #!/usr/bin/env python3
 """tools/oracle/run.py N SEED: compare the definitions of crates/*/specs with model.py on N drawn cases.
 
-The definitions are copied to a temporary folder (nothing is written into the repository), where a crate `oracle` sees receive, reason, send, logging
+The definitions are copied to a temporary folder (nothing is written into the repository), where a crate `oracle` sees receive, reason, jobs, send, logging
 and counting and all that they list. Each case is a theorem there, which antt admits only if the definition computes to the model's answer.
 """
 import os
@@ -22,7 +22,7 @@ import model  # noqa: E402
 REPOSITORY = HERE.parent.parent
 BATCH, MOST = 50, 30000  # cases to a run of antt, and numbers in their buffers and answers, so that memory stays low
 EXPLAINED = 5  # of how many cases that do not agree the fields are told
-WANTED = ["receive", "reason", "send", "logging", "counting"]
+WANTED = ["receive", "reason", "jobs", "send", "logging", "counting"]
 
 
 # ---- The copy
@@ -129,10 +129,8 @@ def flag(b):
 
 
 def settings(s):
-    listed = "".join(f"{numbers(a)} ∷ " for a in s.listed) + "[]"
     flow = {"none": "Off", "pause": "Pause", "PFC": "Pfc"}[s.flow]
-    return (f"(settings {numbers(s.own)} ({listed}) {s.count} {flag(s.broadcast)} {flag(s.promiscuous)} {flag(s.checking)} {s.limit} {flow} "
-            f"{flag(s.pass_control)})")
+    return f"(settings {numbers(s.own)} {flag(s.broadcast)} {flag(s.promiscuous)} {flag(s.checking)} {s.limit} {flow} {flag(s.pass_control)})"
 
 
 def state(st):
@@ -157,8 +155,17 @@ def call(c):
         return f"giveAppend {numbers(c.log)} (recordMade {' '.join(map(str, c.asked))})"
     if c.call == "look":
         return f"giveLook {numbers(c.log)} {c.asked}"
+    if c.call == "bad":
+        return f"giveBad {numbers(c.table)}"
+    if c.call in ("add", "remove"):
+        return f"give{c.call.title()} {c.job} {numbers(c.table)} {numbers(c.asked)}"
+    if c.table:
+        reader = f"{settings(c.settings)}\n    {c.job} {numbers(c.table)}\n    "
     if c.call == "why":
-        return f"giveWhy {settings(c.settings)}\n    {numbers(c.octets)}\n    {numbers(c.marks)}\n    {c.place}"
+        return f"giveWhy {reader}{numbers(c.octets)}\n    {numbers(c.marks)}\n    {c.place}"
+    if c.call == "screen":
+        captures = [(c.octets, c.marks), c.other][::-1 if c.job == 1 else 1]
+        return f"giveScreen {reader}" + "\n    ".join(numbers(buffer) for capture in captures for buffer in capture) + f"\n    {c.place}"
     if c.call == "fill":
         return f"giveFill {numbers(c.octets)}\n    {numbers(c.marks)}\n    {numbers(c.totals)}"
     if c.call == "before":
@@ -167,13 +174,13 @@ def call(c):
     keeps = c.totals is not None
     if c.call == "idle":
         return f"keepIdle {line}\n    {numbers(c.totals)} {c.place} {c.asked}" if keeps else f"giveIdle {line}\n    {c.place} {c.asked}"
-    line = f"{settings(c.settings)} {line}"
     if c.call == "reading":
-        return f"giveReading {line}\n    {c.place}"
+        return f"giveReading {reader}{line}\n    {c.place}"
     if c.call == "walk":
-        return f"giveWalk {line}"
+        return f"giveWalk {reader}{line}"
     if c.call == "keep":
-        return f"giveKeep {line}\n    {c.place} {numbers(c.log)}"
+        return f"giveKeep {reader}{line}\n    {c.place} {numbers(c.log)}"
+    line = f"{settings(c.settings)} {line}"
     # a call that keeps totals has a port
     give, line = ("keep", f"{PORTS[c.port]} {line}\n    {numbers(c.totals)}") if keeps else ("give", line)
     if c.call == "pause":
@@ -193,6 +200,7 @@ WALK = [("kind", 1), ("refusal", 1), ("Starts counted", 1), ("open", 1)] + STATE
 WHY = [("kind", 1), ("outcome or refusal", 1), ("start", 1), ("next", 1), ("evidence", None)]
 LOOK = [("record's refusal", 1), ("record", 5), ("reader's place", 1), ("its refusal", 1), ("its record", 5), ("used records", 2), ("first unused", None)]
 KEEP = [("end", 1), ("refusal", 1), ("next", 1), ("kept", 1)] + STATE + [("log", None)]
+CHANGE = [("refusal", 1), ("entry", 1), ("table", None)]
 
 
 def fields(c):
@@ -200,7 +208,8 @@ def fields(c):
     sent = [("kind", 1), ("refusal", 1), ("place", 1)] + STATE + [("octets", len(c.octets or [])), ("marks", len(c.marks or [])), ("totals", None)]
     place = 0
     known = {"reading": READING, "walk": WALK, "why": WHY, "fcs": [("check", 1), ("its octets", None)], "append": [("refusal", 1), ("log", None)], "look": LOOK,
-             "keep": KEEP, "fill": [("refusal", 1), ("totals", None)], "before": [("refusal", 1), ("Starts", None)]}
+             "keep": KEEP, "fill": [("refusal", 1), ("totals", None)], "before": [("refusal", 1), ("Starts", None)], "add": CHANGE, "remove": CHANGE,
+             "bad": [("20", None)], "screen": [("refusal", 1), ("part", 2), ("octets of the part", None)]}
     for name, n in known.get(c.call, sent):
         n = len(c.answer) - place if n is None else n
         yield name, place, n

@@ -15,8 +15,7 @@ def station(n):
 
 
 def settings(flow, **changes):
-    base = Settings(own=station(1), listed=[station(0x11 + i) for i in range(4)], count=0, broadcast=True, promiscuous=False, checking=True,
-                    limit=1518, flow=flow, pass_control=False)
+    base = Settings(own=station(1), broadcast=True, promiscuous=False, checking=True, limit=1518, flow=flow, pass_control=False)
     return replace(base, **changes)
 
 
@@ -201,15 +200,13 @@ def place_cases():
 
 
 def buffer_cases():
-    group, five = (("own", [3, 0, 0, 0, 0, 1]),), (("count", 5),)
+    group = (("own", [3, 0, 0, 0, 0, 1]),)
     client("client, own with group bit", Call(3, changes=group), 46)
-    client("client, five listed", Call(3, changes=five), 46)
     client("client, M 1517", wide(1517), 46)
     client("client, M 9619", wide(9619), 46)
     for word, send, flow in [("pause", pause, "pause"), ("PFC", pfc, "PFC")]:
         send(f"{word}, own with group bit", Call(3, flow, changes=group))
-        send(f"{word}, five listed", Call(3, flow, changes=five))
-    idle("Idle, five listed", Call(3, changes=five), 9)
+    idle("Idle, own with group bit", Call(3, changes=group), 9)
     for word, send, flow in [("client", lambda name, call: client(name, call, 46), "none"), ("pause", pause, "pause"), ("PFC", pfc, "PFC"),
                              ("Idle", lambda name, call: idle(name, call, 9), "none")]:
         send(f"{word}, fewer marks", Call(3, flow, 500, 499))

@@ -116,8 +116,8 @@ impl fmt::Display for Outcome {
     }
 }
 
-/// Why a call was refused. A refused call leaves the state, every symbol, every total and the log as
-/// they were.
+/// Why a call was refused. A refused call leaves the state, every symbol, every total, the log and the
+/// table as they were.
 ///
 /// ```
 /// use fenhamper::{Capture, Refusal, Settings, State};
@@ -137,7 +137,7 @@ impl fmt::Display for Outcome {
 #[derive(Clone, Copy, Debug, PartialEq, Eq, PartialOrd, Ord, Hash)]
 #[non_exhaustive]
 pub enum Refusal {
-    /// 1: own address is a group, listed count above 4, or M outside 1518 to 9618.
+    /// 1: own address is a group, or M outside 1518 to 9618.
     BadSettings,
     /// 2: octets and marks differ in length, or exceed [`SYMBOLS`](crate::SYMBOLS).
     BadBuffers,
@@ -164,9 +164,22 @@ pub enum Refusal {
     LogFull,
     /// 13: record number not used.
     NotUsed,
+    /// 14: job above 1, which a [`Job`](crate::Job) never is. It is tested right after 1.
+    BadJob,
+    /// 15: an address to add, and the job holds 12 entries.
+    HoldsTwelve,
+    /// 16: an address to add, and all 16 entries are in use.
+    AllInUse,
+    /// 17: an address to add, and this job lists it already. It is tested before 15 and 16.
+    AlreadyListed,
+    /// 18: an address to remove, and this job does not list it.
+    NotListed,
     /// 19: a frame on the four-lane port, and the deficit count is above 3. It is tested right after
     /// 3.
     HighDeficit,
+    /// 20: in the table a job, whichever, holds more than 12 entries or has an address twice. It is
+    /// tested right after 3, and in the calls on a table first.
+    BadTable,
     /// 21: the number of totals is not that of the blocks, a last short one included. It is tested
     /// after 3 and 19.
     WrongTotals,
@@ -195,7 +208,13 @@ impl Refusal {
             Refusal::BadLog => 11,
             Refusal::LogFull => 12,
             Refusal::NotUsed => 13,
+            Refusal::BadJob => 14,
+            Refusal::HoldsTwelve => 15,
+            Refusal::AllInUse => 16,
+            Refusal::AlreadyListed => 17,
+            Refusal::NotListed => 18,
             Refusal::HighDeficit => 19,
+            Refusal::BadTable => 20,
             Refusal::WrongTotals => 21,
             Refusal::HighTotal => 22,
             Refusal::Unknown(number) => number,
@@ -219,7 +238,13 @@ impl Refusal {
             Refusal::BadLog => "bad log",
             Refusal::LogFull => "log full",
             Refusal::NotUsed => "not used",
+            Refusal::BadJob => "bad job",
+            Refusal::HoldsTwelve => "holds twelve",
+            Refusal::AllInUse => "all in use",
+            Refusal::AlreadyListed => "already listed",
+            Refusal::NotListed => "not listed",
             Refusal::HighDeficit => "high deficit",
+            Refusal::BadTable => "bad table",
             Refusal::WrongTotals => "wrong totals",
             Refusal::HighTotal => "high total",
             Refusal::Unknown(_) => "unknown",
@@ -228,9 +253,7 @@ impl Refusal {
 
     const fn reason(self) -> &'static str {
         match self {
-            Refusal::BadSettings => {
-                "own address is a group, listed count above 4, or M outside 1518 to 9618"
-            }
+            Refusal::BadSettings => "own address is a group, or M outside 1518 to 9618",
             Refusal::BadBuffers => "octets and marks differ in length, or exceed 65536",
             Refusal::BadPlace => {
                 "place beyond the buffers' length, or not divisible by four on the four-lane port"
@@ -247,7 +270,13 @@ impl Refusal {
             Refusal::BadLog => "length of the log no multiple of 16",
             Refusal::LogFull => "no unused record",
             Refusal::NotUsed => "record number not used",
+            Refusal::BadJob => "job above 1",
+            Refusal::HoldsTwelve => "the job holds 12 entries",
+            Refusal::AllInUse => "all 16 entries are in use",
+            Refusal::AlreadyListed => "the job lists the address already",
+            Refusal::NotListed => "the job does not list the address",
             Refusal::HighDeficit => "deficit count above 3",
+            Refusal::BadTable => "a job holds more than 12 entries or has an address twice",
             Refusal::WrongTotals => "number of totals is not the number of blocks",
             Refusal::HighTotal => "a total above 256",
             Refusal::Unknown(_) => "the archive is of another version",
@@ -271,7 +300,13 @@ impl Refusal {
             11 => Refusal::BadLog,
             12 => Refusal::LogFull,
             13 => Refusal::NotUsed,
+            14 => Refusal::BadJob,
+            15 => Refusal::HoldsTwelve,
+            16 => Refusal::AllInUse,
+            17 => Refusal::AlreadyListed,
+            18 => Refusal::NotListed,
             19 => Refusal::HighDeficit,
+            20 => Refusal::BadTable,
             21 => Refusal::WrongTotals,
             22 => Refusal::HighTotal,
             other => Refusal::Unknown(u8::try_from(other).unwrap_or(u8::MAX)),
@@ -297,15 +332,19 @@ impl Error for Refusal {}
 /// control frame to the reserved group it is [`Reserved`](Way::Reserved).
 ///
 /// ```
-/// use fenhamper::{Address, Frame, Sender, Settings, Station, Way};
+/// use fenhamper::{Address, Frame, Job, Sender, Station, Table, Way};
 ///
 /// let groups = [1, 2].map(|n| Address([0x01, 0, 0x5E, 0, 0, n]));
-/// let mut station = Station::new(Settings::default().listed(&groups));
+/// let mut table = Table::new();
+/// for group in groups {
+///     table.add(Job::Zero, group)?;
+/// }
+/// let mut station = Station::default();
 /// let (mut octets, mut marks) = ([0; 84], [0; 84]);
 /// let mut sender = Sender::new(&mut octets, &mut marks);
 /// station.send_client(&mut sender, &Frame::to(groups[1]), b"to the second group")?;
-/// for counted in station.readings(sender.written()) {
-///     assert_eq!(counted?.way, Some(Way::Listed(1)));
+/// for counted in station.listing(&table).readings(sender.written()) {
+///     assert_eq!(counted?.way, Some(Way::Entry(1)));
 /// }
 /// # Ok::<(), fenhamper::Refusal>(())
 /// ```
@@ -314,54 +353,61 @@ impl Error for Refusal {}
 pub enum Way {
     /// 1: the own address, also where it is listed.
     Own,
-    /// 2 to 5: a listed address, by its entry from 0 to 3. Of equal ones it is the first.
-    Listed(u8),
     /// 6: broadcast by its setting, also where it is listed.
     Broadcast,
-    /// 7: none of these, and every destination is accepted.
+    /// 7: none of the others, and every destination is accepted.
     Promiscuous,
     /// 8: a control frame to the reserved group, also where that is listed.
     Reserved,
+    /// 16 to 31: an address that the job lists, by its entry of the [`Table`](crate::Table), 0 to 15.
+    Entry(u8),
 }
 
 impl Way {
-    /// Document 02's number, 1 to 8; 0 for an entry above 3, which settings do not have.
+    /// Document 02's number, 1, 6 to 8 or 16 to 31; 0 for an entry above 15, which no table has.
     ///
     /// ```
     /// use fenhamper::Way;
     ///
-    /// assert_eq!([Way::Own, Way::Listed(0), Way::Listed(3)].map(Way::number), [1, 2, 5]);
-    /// assert_eq!(Way::Listed(4).number(), 0);
+    /// assert_eq!([Way::Own, Way::Entry(0), Way::Entry(15)].map(Way::number), [1, 16, 31]);
+    /// assert_eq!(Way::Entry(16).number(), 0);
     /// ```
     #[must_use]
     pub const fn number(self) -> u8 {
         match self {
             Way::Own => sys::WAY_OWN,
-            Way::Listed(entry) if (entry as usize) < sys::MOST_LISTED => sys::WAY_LISTED + entry,
-            Way::Listed(_) => sys::WAY_NONE,
             Way::Broadcast => sys::WAY_BROADCAST,
             Way::Promiscuous => sys::WAY_PROMISCUOUS,
             Way::Reserved => sys::WAY_RESERVED,
+            Way::Entry(entry) if (entry as usize) < sys::ENTRIES => sys::WAY_ENTRY + entry,
+            Way::Entry(_) => sys::WAY_NONE,
         }
     }
 
-    /// The way of a number, if there is one; none for 0, which stands for a frame not let in.
+    /// The way of a number, if there is one; none for 0, which stands for a frame not let in, and for
+    /// 2 to 5, which stand in logs kept before there was a table, for listed addresses.
     ///
     /// ```
     /// use fenhamper::Way;
     ///
-    /// assert_eq!(Way::from_number(5), Some(Way::Listed(3)));
+    /// assert_eq!(Way::from_number(19), Some(Way::Entry(3)));
     /// assert_eq!(Way::from_number(6), Some(Way::Broadcast));
-    /// assert_eq!([0, 9].map(Way::from_number), [None, None]);
+    /// assert_eq!([0, 2, 9, 32].map(Way::from_number), [None; 4]);
     /// ```
     #[must_use]
     pub const fn from_number(number: u8) -> Option<Way> {
         Some(match number {
             sys::WAY_OWN => Way::Own,
-            sys::WAY_LISTED..sys::WAY_BROADCAST => Way::Listed(number - sys::WAY_LISTED),
             sys::WAY_BROADCAST => Way::Broadcast,
             sys::WAY_PROMISCUOUS => Way::Promiscuous,
             sys::WAY_RESERVED => Way::Reserved,
+            sys::WAY_ENTRY.. => {
+                let entry = number - sys::WAY_ENTRY;
+                if entry as usize >= sys::ENTRIES {
+                    return None;
+                }
+                Way::Entry(entry)
+            }
             _ => return None,
         })
     }
@@ -384,17 +430,17 @@ impl Way {
 /// use fenhamper::Way;
 ///
 /// assert_eq!(Way::Own.to_string(), "own address");
-/// assert_eq!(Way::Listed(2).to_string(), "listed entry 2");
+/// assert_eq!(Way::Entry(2).to_string(), "listed entry 2");
 /// assert_eq!(Way::Reserved.to_string(), "reserved group");
 /// ```
 impl fmt::Display for Way {
     fn fmt(&self, f: &mut fmt::Formatter<'_>) -> fmt::Result {
         f.pad(match self {
             Way::Own => "own address",
-            Way::Listed(entry) => return write!(f, "listed entry {entry}"),
             Way::Broadcast => "broadcast",
             Way::Promiscuous => "promiscuous",
             Way::Reserved => "reserved group",
+            Way::Entry(entry) => return write!(f, "listed entry {entry}"),
         })
     }
 }

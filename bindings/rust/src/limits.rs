@@ -34,8 +34,17 @@ pub const LEAST_TYPE: u16 = 1536;
 /// A quantum in slots: 64. A slot is one symbol written.
 pub const QUANTUM: u64 = 64;
 
-/// The most addresses that can be listed beside the own one: 4.
-pub const MOST_LISTED: usize = sys::MOST_LISTED;
+/// How many jobs share a table of addresses: 2.
+pub const JOBS: usize = sys::JOBS;
+
+/// Entries of that table: 16.
+pub const ENTRIES: usize = sys::ENTRIES;
+
+/// The most entries that a job can hold: 12.
+pub const MOST_HELD: usize = 12;
+
+/// The entries that a job always gets, whatever the other one holds: 4.
+pub const LEAST_HELD: usize = 4;
 
 /// The most tags of a frame: 8. A ninth is an ordinary type.
 pub const MOST_TAGS: usize = sys::MOST_TAGS;
@@ -55,8 +64,11 @@ pub const BLOCK: usize = sys::BLOCK;
 /// The most blocks of a capture or of line buffers: 256.
 pub const MOST_BLOCKS: usize = 256;
 
-/// Octets of stack that a reading or its reason takes at most: 1280.
+/// Octets of stack that a reading or its reason takes at most, and a call on a log or a table: 1280.
 pub const STACK_READ: usize = 1280;
+
+/// Octets of stack that the [screen's data](crate::Listener::screen_data) takes at most: 1536.
+pub const STACK_SCREEN: usize = 1536;
 
 /// Octets of stack that a sending call or an Idle fill into a [`Sender`](crate::Sender) takes at
 /// most, and filling totals or asking for Starts: 640.

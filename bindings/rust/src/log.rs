@@ -1,7 +1,7 @@
 //! Keeping the readings of a run in a log.
 use crate::answers::{Outcome, Refusal, Status, Way};
+use crate::listener::Listener;
 use crate::receive::{Capture, Counted, Reading};
-use crate::settings::Settings;
 use crate::state::State;
 use crate::sys;
 use core::iter::FusedIterator;
@@ -38,7 +38,8 @@ pub struct Record {
     /// counted no Start: such a record is not appended, and where it stands in a log it is unused.
     pub outcome_number: u8,
     /// The number of the address that let the frame in, which [`way`](Record::way) names. 0 stands
-    /// for a frame that was not let in, or for a log that was kept before records told it.
+    /// for a frame that was not let in, or for a log that was kept before records told it; 2 to 5
+    /// stand for listed addresses in a log that was kept before there was a table.
     pub way_number: u8,
     /// How many octets were handed out.
     pub data_length: u16,
@@ -64,16 +65,16 @@ impl Record {
         Outcome::from_number(self.outcome_number)
     }
 
-    /// Which address let the frame in, if its number is 1 to 8.
+    /// Which address let the frame in, if its number has a name here.
     ///
     /// ```
     /// use fenhamper::{Record, Way};
     ///
-    /// let numbers = [0, 1, 3, 9].map(|way_number| Record {
+    /// let numbers = [0, 1, 17, 32].map(|way_number| Record {
     ///     way_number,
     ///     ..Record::default()
     /// });
-    /// let ways = [None, Some(Way::Own), Some(Way::Listed(1)), None];
+    /// let ways = [None, Some(Way::Own), Some(Way::Entry(1)), None];
     /// assert_eq!(numbers.map(|record| record.way()), ways);
     /// ```
     #[must_use]
@@ -491,16 +492,25 @@ impl Capture<'_> {
     ///
     /// # Errors
     ///
-    /// Refusals 1 to 3, as a reading at that place has them. A full log is no refusal.
-    pub fn walk_log(
+    /// Refusals 1, 2, 3 and 20, as a reading at that place has them. A full log is no refusal.
+    pub fn walk_log<'t>(
         &self,
-        settings: &Settings,
+        listener: impl Into<Listener<'t>>,
         state: &mut State,
         place: usize,
         log: &mut Log<'_>,
     ) -> Result<Kept, Refusal> {
-        let (settings, state) = (settings.record(), state.record());
-        let k = sys::walk_log(settings, state, self.octets, self.marks, place, log.octets);
+        let who = listener.into();
+        let k = sys::walk_log(
+            who.settings.record(),
+            who.job.number(),
+            who.table.record(),
+            state.record(),
+            self.octets,
+            self.marks,
+            place,
+            log.octets,
+        );
         Refusal::check(k.refusal)?;
         Ok(Kept {
             end: match k.end {

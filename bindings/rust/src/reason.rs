@@ -1,8 +1,8 @@
 //! Why a Start has its outcome.
 use crate::address::Address;
 use crate::answers::{Outcome, Refusal};
+use crate::listener::Listener;
 use crate::receive::Capture;
-use crate::settings::Settings;
 use crate::sys;
 use core::fmt;
 
@@ -342,9 +342,21 @@ impl Capture<'_> {
     ///
     /// # Errors
     ///
-    /// Refusals 1 to 3, as [`Capture::read`] has them.
-    pub fn explain(&self, settings: &Settings, place: usize) -> Result<Explained, Refusal> {
-        let e = sys::explain(settings.record(), self.octets, self.marks, place);
+    /// Refusals 1, 2, 3 and 20, as [`Capture::read`] has them.
+    pub fn explain<'t>(
+        &self,
+        listener: impl Into<Listener<'t>>,
+        place: usize,
+    ) -> Result<Explained, Refusal> {
+        let who = listener.into();
+        let e = sys::explain(
+            who.settings.record(),
+            who.job.number(),
+            who.table.record(),
+            self.octets,
+            self.marks,
+            place,
+        );
         Refusal::check(e.refusal)?;
         let start = e.start as usize;
         match e.kind {

@@ -1,6 +1,6 @@
 //! Reading captures.
 use crate::answers::{Outcome, Refusal, Status, Way};
-use crate::settings::Settings;
+use crate::listener::Listener;
 use crate::state::State;
 use crate::sys;
 use core::fmt;
@@ -51,18 +51,47 @@ impl<'a> Capture<'a> {
     /// # Ok::<(), fenhamper::Refusal>(())
     /// ```
     ///
+    /// Settings alone list nothing. A job that lists addresses is a [`Listener`]:
+    ///
+    /// ```
+    /// use fenhamper::{Address, Capture, Frame, Job, Reading, Sender, Settings, State, Table, Way};
+    ///
+    /// let group = Address([0x01, 0, 0x5E, 0, 0, 1]);
+    /// let mut table = Table::new();
+    /// table.add(Job::One, group)?;
+    /// let (settings, mut state) = (Settings::default(), State::default());
+    /// let (mut octets, mut marks) = ([0; 84], [0; 84]);
+    /// let mut sender = Sender::new(&mut octets, &mut marks);
+    /// sender.client(&settings, &mut state, &Frame::to(group), b"to the group")?;
+    /// let capture = Capture::new(&octets, &marks);
+    /// let listener = settings.listing(Job::One, &table);
+    /// let Reading::Counted(r) = capture.read(listener, &mut state, 0)? else {
+    ///     panic!("no frame")
+    /// };
+    /// assert_eq!((r.way, r.data), (Some(Way::Entry(0)), &b"to the group"[..]));
+    /// # Ok::<(), fenhamper::Refusal>(())
+    /// ```
+    ///
     /// # Errors
     ///
-    /// Refusals 1 to 3, the lowest number first: bad settings, bad buffers, a place beyond the
-    /// capture.
-    pub fn read(
+    /// The first of refusals 1, 2, 3 and 20 that holds: bad settings, bad buffers, a place beyond the
+    /// capture, a bad table.
+    pub fn read<'t>(
         &self,
-        settings: &Settings,
+        listener: impl Into<Listener<'t>>,
         state: &mut State,
         place: usize,
     ) -> Result<Reading<'a>, Refusal> {
-        let (settings, state) = (settings.record(), state.record());
-        let r = sys::read(settings, state, self.octets, self.marks, place);
+        let who = listener.into();
+        let r = sys::read(
+            who.settings.record(),
+            who.job.number(),
+            who.table.record(),
+            state.record(),
+            self.octets,
+            self.marks,
+            place,
+        );
         Refusal::check(r.refusal)?;
         let start = r.start as usize;
         match r.kind {
@@ -86,7 +115,7 @@ impl<'a> Capture<'a> {
     }
 
     // The octets of a part; none where it does not lie inside.
-    fn part(&self, at: usize, length: usize) -> &'a [u8] {
+    pub(crate) fn part(&self, at: usize, length: usize) -> &'a [u8] {
         let part = sys::client_data(self.octets.len(), at, length);
         let from = self.octets.get(part.place as usize..);
         let inside = from.and_then(|from| from.get(..part.length as usize));
@@ -107,9 +136,21 @@ impl<'a> Capture<'a> {
     ///
     /// # Errors
     ///
-    /// Refusals 1 and 2, as a reading at place 0 has them.
-    pub fn walk(&self, settings: &Settings, state: &mut State) -> Result<Walk, Refusal> {
-        let w = sys::walk(settings.record(), state.record(), self.octets, self.marks);
+    /// Refusals 1, 2 and 20, as a reading at place 0 has them.
+    pub fn walk<'t>(
+        &self,
+        listener: impl Into<Listener<'t>>,
+        state: &mut State,
+    ) -> Result<Walk, Refusal> {
+        let who = listener.into();
+        let w = sys::walk(
+            who.settings.record(),
+            who.job.number(),
+            who.table.record(),
+            state.record(),
+            self.octets,
+            self.marks,
+        );
         Refusal::check(w.refusal)?;
         Ok(Walk {
             starts: w.starts as usize,
@@ -135,10 +176,14 @@ impl<'a> Capture<'a> {
     /// assert_eq!(state.counter(Outcome::Cut), 1);
     /// # Ok::<(), fenhamper::Refusal>(())
     /// ```
-    pub fn readings<'s>(&self, settings: &Settings, state: &'s mut State) -> Readings<'a, 's> {
+    pub fn readings<'s>(
+        &self,
+        listener: impl Into<Listener<'s>>,
+        state: &'s mut State,
+    ) -> Readings<'a, 's> {
         Readings {
             capture: *self,
-            settings: *settings,
+            listener: listener.into(),
             state,
             place: 0,
             stage: Stage::Going,
@@ -350,7 +395,7 @@ enum Stage {
 #[must_use]
 pub struct Readings<'a, 's> {
     capture: Capture<'a>,
-    settings: Settings,
+    listener: Listener<'s>,
     state: &'s mut State,
     place: usize,
     stage: Stage,
@@ -391,7 +436,7 @@ impl<'a> Iterator for Readings<'a, '_> {
         if self.stage != Stage::Going {
             return None;
         }
-        let reading = self.capture.read(&self.settings, self.state, self.place);
+        let reading = self.capture.read(self.listener, self.state, self.place);
         match reading {
             Ok(Reading::Counted(counted)) => {
                 self.place = counted.next;

@@ -484,6 +484,7 @@ impl Lends for Sender<'_> {
 #[cfg(test)]
 mod tests {
     use super::*;
+    use crate::table::NOTHING_LISTED;
 
     // Of a port only whether it is 0.
     #[test]
@@ -532,6 +533,7 @@ mod tests {
         assert_eq!(expected.0, written);
         let mut settings = *Settings::default().record();
         settings.spare = [0xFF; 10];
+        settings.unused = 0xFF;
         assert_eq!(sent_by(client, settings), expected);
         // the type in the length form, what is spare, the tags beyond the count
         assert_eq!(sent(with(client, |c| c.r#type = 0xFFFF)), expected);
@@ -569,12 +571,15 @@ mod tests {
         let (settings, client) = (*Settings::default().record(), Frame::to(Address::BROADCAST));
         let mut state = worn();
         let (o, m, s) = (&mut octets, &mut marks, &mut state);
-        assert_eq!(sys::read(&settings, s, o, m, 9).refusal, 3);
-        assert_eq!(sys::walk(&settings, s, o, &m[1..]).refusal, 2);
+        let table = NOTHING_LISTED.record();
+        assert_eq!(sys::read(&settings, 0, table, s, o, m, 9).refusal, 3);
+        assert_eq!(sys::walk(&settings, 0, table, s, o, &m[1..]).refusal, 2);
         // 3 comes before 11, which no log of this face gives
         let mut log = [0xFF; 17];
-        assert_eq!(sys::walk_log(&settings, s, o, m, 9, &mut log).refusal, 3);
-        assert_eq!(sys::walk_log(&settings, s, o, m, 8, &mut log).refusal, 11);
+        for (place, refusal) in [(9, 3), (8, 11)] {
+            let kept = sys::walk_log(&settings, 0, table, s, o, m, place, &mut log);
+            assert_eq!(kept.refusal, refusal);
+        }
         assert_eq!(log, [0xFF; 17]);
         // on each port: 19 is told before 4 and 8, and the plain one does not look at the count
         for (port, of_client, of_control) in [(0, 8, 4), (1, 19, 19), (255, 19, 19)] {

@@ -1,6 +1,8 @@
 //! What a station is set to.
 use crate::address::Address;
+use crate::listener::Listener;
 use crate::sys;
+use crate::table::{Job, Table};
 use core::fmt;
 
 /// The flow mode: which control frames can be sent, and which are taken and set timers.
@@ -39,7 +41,6 @@ impl Flow {
 /// use fenhamper::{Address, Flow, Settings};
 ///
 /// let settings = Settings::new(Address([0x02, 0, 0, 0, 0, 1]))
-///     .listed(&[Address([0x01, 0, 0x5E, 0, 0, 1])])
 ///     .limit(9618)
 ///     .flow(Flow::Pause);
 /// assert_ne!(settings, settings.promiscuous(true));
@@ -53,52 +54,22 @@ pub struct Settings {
 }
 
 impl Settings {
-    /// The printing program's settings with this own address: none listed, broadcast on,
-    /// promiscuous off, lengths checked, control frames not passed, flow mode none, M 1518.
+    /// The printing program's settings with this own address: broadcast on, promiscuous off, lengths
+    /// checked, control frames not passed, flow mode none, M 1518.
     pub const fn new(own: Address) -> Settings {
         Settings {
             record: sys::Settings {
                 own: own.record(),
-                listed: [Address([0; 6]).record(); sys::MOST_LISTED],
-                listed_count: 0,
                 broadcast: 1,
                 promiscuous: 0,
                 checking: 1,
                 pass_control: 0,
                 flow: sys::FLOW_NONE,
+                unused: 0,
                 limit: sys::LEAST_LIMIT,
                 spare: [0; 10],
             },
         }
-    }
-
-    /// Accepts these addresses too, in place of those listed before. There is room for four; with
-    /// more, the settings are refused (1).
-    ///
-    /// ```
-    /// use fenhamper::{Address, Capture, Refusal, Settings, State};
-    ///
-    /// let groups = [1, 2, 3, 4, 5].map(|n| Address([0x01, 0, 0x5E, 0, 0, n]));
-    /// let walk = |s: Settings| Capture::new(&[], &[]).walk(&s, &mut State::default());
-    /// assert!(walk(Settings::default().listed(&groups[..4])).is_ok());
-    /// assert_eq!(
-    ///     walk(Settings::default().listed(&groups)),
-    ///     Err(Refusal::BadSettings)
-    /// );
-    /// ```
-    pub fn listed(mut self, addresses: &[Address]) -> Settings {
-        self.record.listed = [Address([0; 6]).record(); sys::MOST_LISTED];
-        for (entry, address) in self.record.listed.iter_mut().zip(addresses) {
-            *entry = address.record();
-        }
-        self.listed_count(u8::try_from(addresses.len()).unwrap_or(u8::MAX))
-    }
-
-    /// How many of the four listed addresses count, from the front; above 4 the settings are
-    /// refused (1). [`listed`](Settings::listed) sets it already: this one is for tests.
-    pub const fn listed_count(mut self, count: u8) -> Settings {
-        self.record.listed_count = count;
-        self
     }
 
     /// Whether broadcast is accepted.
@@ -147,10 +118,8 @@ impl Settings {
     /// ```
     /// use fenhamper::{Address, Flow, Settings};
     ///
-    /// let group = Address([0x01, 0, 0x5E, 0, 0, 1]);
-    /// let settings = Settings::default().listed(&[group]);
+    /// let settings = Settings::default();
     /// assert_eq!(settings.own(), Address([0x02, 0, 0, 0, 0, 1]));
-    /// assert!(settings.listed_addresses().eq([group]));
     /// assert!(settings.accepts_broadcast() && !settings.is_promiscuous());
     /// assert!(settings.checks_lengths() && !settings.passes_control());
     /// assert_eq!((settings.frame_limit(), settings.flow_mode()), (1518, Flow::Off));
@@ -158,15 +127,6 @@ impl Settings {
     #[must_use]
     pub const fn own(&self) -> Address {
         Address::of(self.record.own)
-    }
-
-    /// The listed addresses that count: none beyond the fourth, though a count above 4 is refused.
-    #[must_use]
-    pub fn listed_addresses(&self) -> impl ExactSizeIterator<Item = Address> + Clone + '_ {
-        let listed = self.record.listed.iter();
-        listed
-            .take(self.record.listed_count.into())
-            .map(|record| Address::of(*record))
     }
 
     /// Whether broadcast is accepted.
@@ -205,6 +165,28 @@ impl Settings {
         self.record.limit
     }
 
+    /// A job that is set to this, and lists addresses in a table: who listens, where a capture is
+    /// read.
+    ///
+    /// ```
+    /// use fenhamper::{Address, Capture, Job, Listener, Settings, State, Table};
+    ///
+    /// let settings = Settings::new(Address([0x02, 0, 0, 0, 0, 1]));
+    /// let table = Table::new();
+    /// let listener = settings.listing(Job::One, &table);
+    /// assert_eq!(listener, Listener { settings, job: Job::One, table: &table });
+    /// Capture::new(&[], &[]).walk(listener, &mut State::default())?;
+    /// # Ok::<(), fenhamper::Refusal>(())
+    /// ```
+    #[must_use]
+    pub const fn listing(self, job: Job, table: &Table) -> Listener<'_> {
+        Listener {
+            settings: self,
+            job,
+            table,
+        }
+    }
+
     // As the header lays them out.
     pub(crate) const fn record(&self) -> &sys::Settings {
         &self.record
@@ -215,8 +197,6 @@ impl fmt::Debug for Settings {
     fn fmt(&self, f: &mut fmt::Formatter<'_>) -> fmt::Result {
         f.debug_struct("Settings")
             .field("own", &self.own())
-            .field("listed", &self.record.listed.map(Address::of))
-            .field("listed_count", &self.record.listed_count)
             .field("broadcast", &self.accepts_broadcast())
             .field("promiscuous", &self.is_promiscuous())
             .field("checking", &self.checks_lengths())

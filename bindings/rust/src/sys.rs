@@ -14,7 +14,8 @@ use core::mem::size_of;
 // declarations below, to it.
 pub const MOST_SYMBOLS: usize = 65536;
 pub const LEAST_LIMIT: u16 = 1518;
-pub const MOST_LISTED: usize = 4;
+pub const JOBS: usize = 2;
+pub const ENTRIES: usize = 16;
 pub const MOST_TAGS: usize = 8;
 pub const CLASSES: usize = 8;
 pub const OUTCOMES: usize = 11;
@@ -25,16 +26,23 @@ pub const FLOW_NONE: u8 = 0;
 pub const FLOW_PAUSE: u8 = 1;
 pub const FLOW_PFC: u8 = 2;
 
+pub const JOB_0: u8 = 0;
+pub const JOB_1: u8 = 1;
+
+pub const FREE: u8 = 0;
+pub const HOLDER_0: u8 = 1;
+pub const HOLDER_1: u8 = 2;
+
 pub const COUNTED: u64 = 0;
 pub const NONE: u64 = 1;
 pub const OPEN: u64 = 2;
 
 pub const WAY_NONE: u8 = 0;
 pub const WAY_OWN: u8 = 1;
-pub const WAY_LISTED: u8 = 2;
 pub const WAY_BROADCAST: u8 = 6;
 pub const WAY_PROMISCUOUS: u8 = 7;
 pub const WAY_RESERVED: u8 = 8;
+pub const WAY_ENTRY: u8 = 16;
 
 #[cfg(test)]
 pub const REASON_NONE: u64 = 0;
@@ -83,15 +91,28 @@ pub struct Address {
 #[derive(Clone, Copy, PartialEq, Eq, Hash)]
 pub struct Settings {
     pub own: Address,
-    pub listed: [Address; MOST_LISTED],
-    pub listed_count: u8,
     pub broadcast: u8,
     pub promiscuous: u8,
     pub checking: u8,
     pub pass_control: u8,
     pub flow: u8,
+    pub unused: u8,
     pub limit: u16,
     pub spare: [u8; 10],
+}
+
+#[repr(C)]
+#[derive(Clone, Copy, PartialEq, Eq, Hash)]
+pub struct Entry {
+    pub holder: u8,
+    pub address: Address,
+    pub spare: u8,
+}
+
+#[repr(C)]
+#[derive(Clone, PartialEq, Eq, Hash)]
+pub struct Table {
+    pub entries: [Entry; ENTRIES],
 }
 
 #[repr(C)]
@@ -194,7 +215,8 @@ pub struct Client {
 }
 
 // Members of the same names, order and numbers in the layout of C: with the sizes, all is the same.
-const _: () = assert!(size_of::<Settings>() == 48 && size_of::<State>() == 192);
+const _: () = assert!(size_of::<Settings>() == 24 && size_of::<State>() == 192);
+const _: () = assert!(size_of::<Entry>() == 8 && size_of::<Table>() == 128);
 const _: () = assert!(size_of::<Reading>() == 96 && size_of::<Walked>() == 32);
 const _: () = assert!(size_of::<Explained>() == 64);
 const _: () = assert!(size_of::<Kept>() == 32 && size_of::<Record>() == RECORD_SIZE);
@@ -202,9 +224,11 @@ const _: () = assert!(size_of::<Sent>() == 16 && size_of::<Part>() == 16);
 const _: () = assert!(size_of::<Tag>() == 4 && size_of::<Client>() == 44);
 
 extern "C" {
-    fn fenhamper_layout_3() -> u32;
+    fn fenhamper_layout_4() -> u32;
     fn fenhamper_read(
         settings: &Settings,
+        job: u8,
+        table: &Table,
         state: &mut State,
         octets: *const u8,
         octets_length: usize,
@@ -215,6 +239,8 @@ extern "C" {
     );
     fn fenhamper_explain(
         settings: &Settings,
+        job: u8,
+        table: &Table,
         octets: *const u8,
         octets_length: usize,
         marks: *const u8,
@@ -224,6 +250,8 @@ extern "C" {
     );
     fn fenhamper_walk(
         settings: &Settings,
+        job: u8,
+        table: &Table,
         state: &mut State,
         octets: *const u8,
         octets_length: usize,
@@ -233,6 +261,8 @@ extern "C" {
     );
     fn fenhamper_walk_log(
         settings: &Settings,
+        job: u8,
+        table: &Table,
         state: &mut State,
         octets: *const u8,
         octets_length: usize,
@@ -243,6 +273,30 @@ extern "C" {
         log_length: usize,
         kept: &mut Kept,
     );
+    fn fenhamper_table_empty(table: &mut Table);
+    fn fenhamper_table_add(table: &mut Table, job: u8, address: &Address, entry: &mut usize)
+        -> u32;
+    fn fenhamper_table_remove(
+        table: &mut Table,
+        job: u8,
+        address: &Address,
+        entry: &mut usize,
+    ) -> u32;
+    fn fenhamper_screen_data(
+        settings: &Settings,
+        job: u8,
+        table: &Table,
+        octets_0: *const u8,
+        octets_0_length: usize,
+        marks_0: *const u8,
+        marks_0_length: usize,
+        octets_1: *const u8,
+        octets_1_length: usize,
+        marks_1: *const u8,
+        marks_1_length: usize,
+        place: usize,
+        part: &mut Part,
+    ) -> u32;
     fn fenhamper_log_append(log: *mut u8, log_length: usize, record: &Record) -> u32;
     fn fenhamper_log_append_reading(log: *mut u8, log_length: usize, reading: &Reading) -> u32;
     fn fenhamper_log_record(
@@ -391,16 +445,18 @@ extern "C" {
 
 // An archive of another layout has no such symbol, and does not link.
 #[used]
-static THE_LAYOUT: unsafe extern "C" fn() -> u32 = fenhamper_layout_3;
+static THE_LAYOUT: unsafe extern "C" fn() -> u32 = fenhamper_layout_4;
 
 #[cfg(test)]
 pub fn layout() -> u32 {
     // SAFETY: nothing passes.
-    unsafe { fenhamper_layout_3() }
+    unsafe { fenhamper_layout_4() }
 }
 
 pub fn read(
     settings: &Settings,
+    job: u8,
+    table: &Table,
     state: &mut State,
     octets: &[u8],
     marks: &[u8],
@@ -411,6 +467,8 @@ pub fn read(
     unsafe {
         fenhamper_read(
             settings,
+            job,
+            table,
             state,
             octets.as_ptr(),
             octets.len(),
@@ -423,12 +481,21 @@ pub fn read(
     reading
 }
 
-pub fn explain(settings: &Settings, octets: &[u8], marks: &[u8], place: usize) -> Explained {
+pub fn explain(
+    settings: &Settings,
+    job: u8,
+    table: &Table,
+    octets: &[u8],
+    marks: &[u8],
+    place: usize,
+) -> Explained {
     let mut explained = Explained::default();
     // SAFETY: each pointer and length is one slice's.
     unsafe {
         fenhamper_explain(
             settings,
+            job,
+            table,
             octets.as_ptr(),
             octets.len(),
             marks.as_ptr(),
@@ -447,12 +514,21 @@ pub fn client_data(octets_length: usize, place: usize, length: usize) -> Part {
     part
 }
 
-pub fn walk(settings: &Settings, state: &mut State, octets: &[u8], marks: &[u8]) -> Walked {
+pub fn walk(
+    settings: &Settings,
+    job: u8,
+    table: &Table,
+    state: &mut State,
+    octets: &[u8],
+    marks: &[u8],
+) -> Walked {
     let mut walked = Walked::default();
     // SAFETY: each pointer and length is one slice's.
     unsafe {
         fenhamper_walk(
             settings,
+            job,
+            table,
             state,
             octets.as_ptr(),
             octets.len(),
@@ -466,6 +542,8 @@ pub fn walk(settings: &Settings, state: &mut State, octets: &[u8], marks: &[u8])
 
 pub fn walk_log(
     settings: &Settings,
+    job: u8,
+    table: &Table,
     state: &mut State,
     octets: &[u8],
     marks: &[u8],
@@ -477,6 +555,8 @@ pub fn walk_log(
     unsafe {
         fenhamper_walk_log(
             settings,
+            job,
+            table,
             state,
             octets.as_ptr(),
             octets.len(),
@@ -489,6 +569,59 @@ pub fn walk_log(
         );
     }
     kept
+}
+
+pub fn table_empty(table: &mut Table) {
+    // SAFETY: only the table passes, and it is lent alone.
+    unsafe { fenhamper_table_empty(table) };
+}
+
+// Of the table calls the answer is the refusal's number, and the entry, which is 0 for a refusal.
+pub fn table_add(table: &mut Table, job: u8, address: Address) -> (u64, usize) {
+    let mut entry = 0;
+    // SAFETY: the table, an address and the entry pass, and what is written is lent alone.
+    let refusal = unsafe { fenhamper_table_add(table, job, &address, &mut entry) };
+    (refusal.into(), entry)
+}
+
+pub fn table_remove(table: &mut Table, job: u8, address: Address) -> (u64, usize) {
+    let mut entry = 0;
+    // SAFETY: the table, an address and the entry pass, and what is written is lent alone.
+    let refusal = unsafe { fenhamper_table_remove(table, job, &address, &mut entry) };
+    (refusal.into(), entry)
+}
+
+// The refusal's number, and the part.
+pub fn screen_data(
+    settings: &Settings,
+    job: u8,
+    table: &Table,
+    octets_0: &[u8],
+    marks_0: &[u8],
+    octets_1: &[u8],
+    marks_1: &[u8],
+    place: usize,
+) -> (u64, Part) {
+    let mut part = Part::default();
+    // SAFETY: each pointer and length is one slice's.
+    let refusal = unsafe {
+        fenhamper_screen_data(
+            settings,
+            job,
+            table,
+            octets_0.as_ptr(),
+            octets_0.len(),
+            marks_0.as_ptr(),
+            marks_0.len(),
+            octets_1.as_ptr(),
+            octets_1.len(),
+            marks_1.as_ptr(),
+            marks_1.len(),
+            place,
+            &mut part,
+        )
+    };
+    (refusal.into(), part)
 }
 
 // Of the calls on a log the answer is the refusal's number; what they give beside it is 0 for a

@@ -1,7 +1,7 @@
 //! A first reading, a first sending, and every refusal, against the linked archive.
 use fenhamper::{
-    Address, Capture, Fcs, Flow, Frame, Outcome, Reading, Refusal, Sender, Settings, State, Status,
-    Tag, Walk, SYMBOLS,
+    Address, Capture, Fcs, Flow, Frame, Job, Outcome, Reading, Refusal, Sender, Settings, State,
+    Status, Table, Tag, Walk, SYMBOLS,
 };
 
 const OWN: Address = Address([0x02, 0, 0, 0, 0, 1]);
@@ -277,10 +277,15 @@ fn damage_costs_no_other_frame() {
         read.iter().map(|r| r.data).collect::<Vec<_>>(),
         [b"".as_slice(), b"two", b""]
     );
-    // the other station, and one with that address listed
-    for settings in [Settings::new(OTHER), Settings::new(OWN).listed(&[OTHER])] {
+    // the other station, and a job that lists its address
+    let mut table = Table::new();
+    table.add(Job::One, OTHER).unwrap();
+    for listener in [
+        (&Settings::new(OTHER)).into(),
+        settings.listing(Job::One, &table),
+    ] {
         let last = capture
-            .readings(&settings, &mut state)
+            .readings(listener, &mut state)
             .last()
             .unwrap()
             .unwrap();
@@ -354,14 +359,10 @@ fn pause_and_pfc_set_timers() {
 #[test]
 fn readings_are_refused() {
     let good = Settings::new(OWN);
-    let groups = [Address::PAUSE_GROUP; 300];
     let bad = [
         Settings::new(Address([0x03, 0, 0, 0, 0, 1])),
         good.limit(1517),
         good.limit(9619),
-        good.listed(&groups[..5]),
-        good.listed(&groups),
-        good.listed_count(5),
     ];
     let long = vec![0; SYMBOLS + 1];
     // the lowest number comes first

@@ -393,7 +393,8 @@ fn a_refused_walk_changes_nothing() {
             let mut state = old.clone();
             let kept = capture.walk_log(&settings, &mut state, place, &mut log);
             assert_eq!(kept, Err(why));
-            let mut station = Station { settings, state };
+            let mut station = Station::new(settings);
+            station.state = state;
             assert_eq!(station.walk_log(capture, place, &mut log), Err(why));
             assert_eq!((station.state, after), (old.clone(), before));
         }

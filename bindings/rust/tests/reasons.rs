@@ -1,8 +1,8 @@
 //! Why a Start has its outcome: each reason of document 02's item 8, at both sides of its limit, in
 //! numbers and in words.
 use fenhamper::{
-    fcs, Address, Capture, Explained, Flow, Outcome, Reading, Reason, Refusal, Settings, State,
-    Station, Tag, SYMBOLS,
+    fcs, Address, Capture, Explained, Flow, Job, Listener, Outcome, Reading, Reason, Refusal,
+    Settings, State, Station, Table, Tag, SYMBOLS,
 };
 
 const OWN: Address = Address([0x02, 0, 0, 0, 0, 1]);
@@ -28,9 +28,10 @@ fn run(run: &[u8], by: u8) -> (Vec<u8>, Vec<u8>) {
 
 // The reason of the Start behind three Idles. Its outcome and both places are the reading's, and so
 // is the part of a frame that is handed out.
-fn why(settings: &Settings, (octets, marks): &(Vec<u8>, Vec<u8>)) -> Reason {
+fn why<'t>(who: impl Into<Listener<'t>>, (octets, marks): &(Vec<u8>, Vec<u8>)) -> Reason {
+    let who = who.into();
     let capture = Capture::new(octets, marks);
-    let explained = capture.explain(settings, 0).unwrap();
+    let explained = capture.explain(who, 0).unwrap();
     let Explained::Because {
         start,
         next,
@@ -41,7 +42,7 @@ fn why(settings: &Settings, (octets, marks): &(Vec<u8>, Vec<u8>)) -> Reason {
     };
     assert_eq!((explained.start(), explained.next()), (start, next));
     assert_eq!(explained.reason(), Some(reason));
-    let read = capture.read(settings, &mut State::default(), 0);
+    let read = capture.read(who, &mut State::default(), 0);
     let Ok(Reading::Counted(counted)) = read else {
         panic!("{read:?}");
     };
@@ -53,8 +54,14 @@ fn why(settings: &Settings, (octets, marks): &(Vec<u8>, Vec<u8>)) -> Reason {
     // its words begin with the outcome's
     assert!(reason.to_string().starts_with(reason.outcome().name()));
     // a station's are the same
-    let station = Station::new(*settings);
-    assert_eq!(station.explain(capture, 0), Ok(explained));
+    let mut station = Station::of(who.job, who.settings);
+    assert_eq!(
+        station.listing(who.table).explain(capture, 0),
+        Ok(explained)
+    );
+    if *who.table == Table::new() {
+        assert_eq!(station.explain(capture, 0), Ok(explained));
+    }
     reason
 }
 
@@ -227,8 +234,12 @@ fn filtered_says_the_destination() {
         let reason = of_frame(plain, &to_it);
         assert_eq!(reason, Reason::NotForUs { destination });
         assert_eq!(reason.to_string(), format!("filtered: to {destination}"));
-        let handed = of_frame(plain.listed(&[destination]), &to_it);
-        assert_eq!(handed.outcome(), Outcome::HandedOut);
+        // the job that lists it, and the other one
+        let mut table = Table::new();
+        table.add(Job::One, destination).unwrap();
+        let to_it = run(&[&PREAMBLE, &to_it[..]].concat(), TERMINATE);
+        let [zero, one] = Job::BOTH.map(|job| why(plain.listing(job, &table), &to_it));
+        assert_eq!((zero, one.outcome()), (reason, Outcome::HandedOut));
     }
     let to_all = frame(64, Address::BROADCAST, &IPV4);
     let destination = Address::BROADCAST;

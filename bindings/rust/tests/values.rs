@@ -1,7 +1,7 @@
 //! Addresses, getters, words for a status, records, and a station's calls beside those below it.
 use fenhamper::records::{self, BadRecords};
 use fenhamper::{
-    limits, Address, Capture, Flow, Form, Frame, Outcome, ParseAddressError, Refusal, Sender,
+    limits, Address, Capture, Flow, Form, Frame, Job, Outcome, ParseAddressError, Refusal, Sender,
     Settings, State, Station, Status, Tag, Way,
 };
 
@@ -63,17 +63,8 @@ fn a_wrong_address_is_told_where() {
 
 #[test]
 fn settings_give_back_what_they_were_set_to() {
-    let listed = [1, 2, 3, 4, 5].map(|n| Address([0x01, 0, 0x5E, 0, 0, n]));
-    for n in 0..=5 {
-        let settings = Settings::new(OWN).listed(&listed[..n]);
-        assert_eq!(settings.own(), OWN);
-        assert_eq!(
-            settings.listed_addresses().len(),
-            n.min(limits::MOST_LISTED)
-        );
-        assert!(settings
-            .listed_addresses()
-            .eq(listed[..n.min(4)].iter().copied()));
+    for own in [OWN, Address::PAUSE_GROUP, Address([0, 1, 2, 3, 4, 5])] {
+        assert_eq!(Settings::new(own).own(), own);
     }
     for choice in 0..16 {
         let on = |bit: u8| choice >> bit & 1 == 1;
@@ -232,6 +223,7 @@ fn a_station_is_its_settings_and_state() {
         let state = State::with([3; 11], timers);
         let mut station = Station {
             settings,
+            job: Job::One,
             state: state.clone(),
         };
         let mut below = state;
@@ -285,6 +277,7 @@ fn a_station_is_its_settings_and_state() {
             station,
             Station {
                 settings,
+                job: Job::One,
                 state: below
             }
         );
@@ -311,15 +304,15 @@ fn outcomes_have_the_numbers_1_to_11() {
 }
 
 #[test]
-fn ways_have_the_numbers_1_to_8() {
+fn ways_have_their_numbers() {
     for number in 0..=u8::MAX {
         let way = Way::from_number(number);
-        assert_eq!(way.is_some(), (1..=8).contains(&number));
+        assert_eq!(way.is_some(), matches!(number, 1 | 6..=8 | 16..=31));
         assert_eq!(way.map_or(number, Way::number), number);
     }
     for entry in 0..=u8::MAX {
-        let way = Way::Listed(entry);
-        let number = if entry < 4 { 2 + entry } else { 0 };
+        let way = Way::Entry(entry);
+        let number = if entry < 16 { 16 + entry } else { 0 };
         assert_eq!(way.number(), number);
         assert_eq!(way.to_string(), format!("listed entry {entry}"));
     }

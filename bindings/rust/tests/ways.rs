@@ -1,6 +1,7 @@
 //! Which address let a frame in: each rule of document 02's item 7, in readings and in records.
 use fenhamper::{
-    fcs, Address, Capture, Flow, Log, Outcome, Reading, Record, Settings, Station, Way,
+    fcs, Address, Capture, Flow, Job, Listener, Log, Outcome, Reading, Record, Settings, State,
+    Station, Table, Way,
 };
 
 const OWN: Address = Address([0x02, 0, 0, 0, 0, 1]);
@@ -26,17 +27,32 @@ fn line(length: usize, to: Address, inside: &[u8]) -> (Vec<u8>, Vec<u8>) {
     (octets, marks)
 }
 
+// A table in which a job lists these. Before each stands an entry of the other job, so that their
+// entries are 1, 3 and so on.
+fn listed(job: Job, addresses: &[Address]) -> Table {
+    let mut table = Table::new();
+    for (n, &address) in (0..).zip(addresses) {
+        assert_eq!(
+            table.add(job.other(), group(100 + n)),
+            Ok(2 * usize::from(n))
+        );
+        assert_eq!(table.add(job, address), Ok(2 * usize::from(n) + 1));
+    }
+    table
+}
+
 // Reads that frame; its records, by a walk and from the reading, say what the reading says.
-fn read(settings: Settings, to: Address, inside: &[u8]) -> (Outcome, Option<Way>) {
+fn read<'t>(who: impl Into<Listener<'t>>, to: Address, inside: &[u8]) -> (Outcome, Option<Way>) {
+    let who = who.into();
     let (octets, marks) = line(64, to, inside);
     let capture = Capture::new(&octets, &marks);
-    let reading = Station::new(settings).read(capture, 0).unwrap();
+    let reading = capture.read(who, &mut State::default(), 0).unwrap();
     let Reading::Counted(counted) = reading else {
         panic!("{reading:?}");
     };
     let (mut by_walk, mut by_reading) = ([0; 16], [0; 16]);
     let mut log = Log::new(&mut by_walk).unwrap();
-    let kept = Station::new(settings).walk_log(capture, 0, &mut log);
+    let kept = capture.walk_log(who, &mut State::default(), 0, &mut log);
     assert_eq!(kept.unwrap().records, 1);
     let record: Record = log.record(0).unwrap();
     assert_eq!(record.way(), counted.way);
@@ -48,8 +64,8 @@ fn read(settings: Settings, to: Address, inside: &[u8]) -> (Outcome, Option<Way>
 }
 
 // A client frame: handed out by this address, or filtered.
-fn client(settings: Settings, to: Address) -> Option<Way> {
-    let (outcome, way) = read(settings, to, &IPV4);
+fn client<'t>(who: impl Into<Listener<'t>>, to: Address) -> Option<Way> {
+    let (outcome, way) = read(who, to, &IPV4);
     let let_in = match way {
         Some(_) => Outcome::HandedOut,
         None => Outcome::Filtered,
@@ -60,52 +76,62 @@ fn client(settings: Settings, to: Address) -> Option<Way> {
 
 #[test]
 fn own_comes_first() {
-    let plain = Settings::new(OWN);
-    for settings in [plain, plain.listed(&[group(1), OWN, OWN])] {
-        for promiscuous in [false, true] {
-            let settings = settings.promiscuous(promiscuous);
-            assert_eq!(client(settings, OWN), Some(Way::Own));
+    for job in Job::BOTH {
+        for addresses in [&[][..], &[group(1), OWN]] {
+            let table = listed(job, addresses);
+            for promiscuous in [false, true] {
+                let settings = Settings::new(OWN).promiscuous(promiscuous);
+                assert_eq!(client(&settings, OWN), Some(Way::Own));
+                assert_eq!(client(settings.listing(job, &table), OWN), Some(Way::Own));
+            }
         }
     }
 }
 
 #[test]
-fn the_first_listed_entry_that_matches_is_named() {
-    let groups = [1, 2, 3, 4].map(group);
-    for promiscuous in [false, true] {
-        let all = Settings::new(OWN).promiscuous(promiscuous).listed(&groups);
-        for (entry, to) in (0..).zip(groups) {
-            assert_eq!(client(all, to), Some(Way::Listed(entry)));
-            // entries beyond the count do not match
-            let fewer = all.listed_count(entry);
+fn the_jobs_entry_is_named() {
+    let groups = [1, 2, 3, 4, 5, 6, 7, 8].map(group);
+    for job in Job::BOTH {
+        let table = listed(job, &groups);
+        for promiscuous in [false, true] {
+            let settings = Settings::new(OWN).promiscuous(promiscuous);
             let by_none = promiscuous.then_some(Way::Promiscuous);
-            assert_eq!(client(fewer, to), by_none);
-        }
-        // every way to list two groups in four entries
-        for bits in 0_u8..16 {
-            let listed = [0, 1, 2, 3].map(|k| group(1 + (bits >> k & 1)));
-            let first = listed.iter().position(|&entry| entry == group(2));
-            let first = first.and_then(|k| u8::try_from(k).ok()).map(Way::Listed);
-            let by_none = promiscuous.then_some(Way::Promiscuous);
-            assert_eq!(client(all.listed(&listed), group(2)), first.or(by_none));
+            for (n, to) in (0..).zip(groups) {
+                let who = settings.listing(job, &table);
+                assert_eq!(client(who, to), Some(Way::Entry(2 * n + 1)));
+                // the other job's entries do not match, nor do this job's for the other one
+                assert_eq!(client(who, group(100 + n)), by_none);
+                let other = settings.listing(job.other(), &table);
+                assert_eq!(client(other, to), by_none);
+                assert_eq!(client(other, group(100 + n)), Some(Way::Entry(2 * n)));
+                // once it is removed, no entry does
+                let mut fewer = table.clone();
+                assert_eq!(fewer.remove(job, to), Ok(2 * usize::from(n) + 1));
+                assert_eq!(client(settings.listing(job, &fewer), to), by_none);
+                // and with nothing listed none
+                assert_eq!(client(&settings, to), by_none);
+            }
         }
     }
 }
 
 #[test]
 fn broadcast_goes_by_its_setting() {
-    for listed in [
-        &[][..],
-        &[Address::BROADCAST],
-        &[group(1), Address::BROADCAST],
-    ] {
-        let settings = Settings::new(OWN).listed(listed);
-        for promiscuous in [false, true] {
-            let on = settings.promiscuous(promiscuous);
-            assert_eq!(client(on, Address::BROADCAST), Some(Way::Broadcast));
-            let off = on.broadcast(false);
-            let by_none = promiscuous.then_some(Way::Promiscuous);
-            assert_eq!(client(off, Address::BROADCAST), by_none);
+    for job in Job::BOTH {
+        for addresses in [
+            &[][..],
+            &[Address::BROADCAST],
+            &[group(1), Address::BROADCAST],
+        ] {
+            let table = listed(job, addresses);
+            for promiscuous in [false, true] {
+                let on = Settings::new(OWN).promiscuous(promiscuous);
+                let way =
+                    |settings: Settings| client(settings.listing(job, &table), Address::BROADCAST);
+                assert_eq!(way(on), Some(Way::Broadcast));
+                let by_none = promiscuous.then_some(Way::Promiscuous);
+                assert_eq!(way(on.broadcast(false)), by_none);
+            }
         }
     }
 }
@@ -113,15 +139,16 @@ fn broadcast_goes_by_its_setting() {
 #[test]
 fn a_control_frame_to_the_reserved_group_says_so() {
     let plain = Settings::new(OWN);
-    for listed in [&[][..], &[RESERVED], &[group(1), RESERVED, RESERVED]] {
+    for addresses in [&[][..], &[RESERVED], &[group(1), RESERVED]] {
+        let table = listed(Job::One, addresses);
         for promiscuous in [false, true] {
             for flow in [Flow::Off, Flow::Pause, Flow::Pfc] {
                 for passing in [false, true] {
                     let settings = plain
-                        .listed(listed)
                         .promiscuous(promiscuous)
                         .flow(flow)
                         .pass_control(passing);
+                    let who = settings.listing(Job::One, &table);
                     let not_taken = if passing {
                         Outcome::HandedOut
                     } else {
@@ -135,7 +162,7 @@ fn a_control_frame_to_the_reserved_group_says_so() {
                     ] {
                         let inside = [CONTROL, opcode].concat();
                         let outcome = if by == Some(flow) { taken } else { not_taken };
-                        let read = read(settings, RESERVED, &inside);
+                        let read = read(who, RESERVED, &inside);
                         assert_eq!(read, (outcome, Some(Way::Reserved)));
                     }
                 }
@@ -146,16 +173,19 @@ fn a_control_frame_to_the_reserved_group_says_so() {
 
 #[test]
 fn other_control_frames_go_by_their_address() {
-    let listed = Settings::new(OWN).listed(&[group(1), RESERVED]);
+    let (plain, table) = (Settings::new(OWN), listed(Job::Zero, &[group(1), RESERVED]));
+    let read = |settings: Settings, to, inside: &[u8]| {
+        read(settings.listing(Job::Zero, &table), to, inside)
+    };
     let dropped = |way| (Outcome::ControlDropped, Some(way));
-    assert_eq!(read(listed, OWN, &CONTROL), dropped(Way::Own));
-    let paused = read(listed.flow(Flow::Pause), OWN, &[0x88, 0x08, 0, 1]);
+    assert_eq!(read(plain, OWN, &CONTROL), dropped(Way::Own));
+    let paused = read(plain.flow(Flow::Pause), OWN, &[0x88, 0x08, 0, 1]);
     assert_eq!(paused, (Outcome::PauseTaken, Some(Way::Own)));
-    assert_eq!(read(listed, group(1), &CONTROL), dropped(Way::Listed(0)));
-    let to_all = read(listed, Address::BROADCAST, &CONTROL);
+    assert_eq!(read(plain, group(1), &CONTROL), dropped(Way::Entry(1)));
+    let to_all = read(plain, Address::BROADCAST, &CONTROL);
     assert_eq!(to_all, dropped(Way::Broadcast));
-    assert_eq!(read(listed, OTHER, &CONTROL), (Outcome::Filtered, None));
-    let any = read(listed.promiscuous(true), OTHER, &CONTROL);
+    assert_eq!(read(plain, OTHER, &CONTROL), (Outcome::Filtered, None));
+    let any = read(plain.promiscuous(true), OTHER, &CONTROL);
     assert_eq!(any, dropped(Way::Promiscuous));
 }
 
@@ -165,12 +195,13 @@ fn another_frame_to_the_reserved_group_goes_by_its_address() {
     for inside in [&IPV4[..], &[0x81, 0x00, 0, 5, 0x88, 0x08, 0, 1]] {
         let plain = Settings::new(OWN).flow(Flow::Pause);
         let handed = |way| (Outcome::HandedOut, Some(way));
-        let read = |settings| read(settings, RESERVED, inside);
-        assert_eq!(read(plain), (Outcome::Filtered, None));
-        assert_eq!(read(plain.promiscuous(true)), handed(Way::Promiscuous));
-        let listed = plain.listed(&[group(1), group(2), RESERVED]);
-        assert_eq!(read(listed), handed(Way::Listed(2)));
-        assert_eq!(read(listed.promiscuous(true)), handed(Way::Listed(2)));
+        let table = listed(Job::One, &[group(1), group(2), RESERVED]);
+        let by = |settings: Settings, job| read(settings.listing(job, &table), RESERVED, inside);
+        let any = plain.promiscuous(true);
+        assert_eq!(by(plain, Job::Zero), (Outcome::Filtered, None));
+        assert_eq!(by(any, Job::Zero), handed(Way::Promiscuous));
+        assert_eq!(by(plain, Job::One), handed(Way::Entry(5)));
+        assert_eq!(by(any, Job::One), handed(Way::Entry(5)));
     }
 }
 
@@ -203,6 +234,6 @@ fn a_frame_not_let_in_says_none() {
     ] {
         assert_eq!(told(line(length, OWN, &field)), (outcome, None));
     }
-    let filtered = read(Settings::new(OWN), OTHER, &IPV4);
+    let filtered = read(&Settings::new(OWN), OTHER, &IPV4);
     assert_eq!(filtered, (Outcome::Filtered, None));
 }

@@ -1,2 +1,1 @@
 pub mod Address
-pub mod Ways

@@ -180,30 +180,36 @@ struct Call {
     place: usize,
     n: u64,
     port: u8,
-    settings: [u8; 48],
+    job: u8,
+    settings: [u8; 24],
     state: [u64; 24],
     client: [u8; 44],
     quanta: [u16; 8],
+    table: [u8; 128],
 }
 
 fn call_at(t: &[u8], r: usize) -> Call {
-    let mut settings = [0u8; 48];
+    let mut settings = [0u8; 24];
     let mut state = [0u64; 24];
     let mut client = [0u8; 44];
     let mut quanta = [0u16; 8];
+    let mut table = [0u8; 128];
     octets(t, number(t, r, 2) as usize, &mut settings);
     state_at(t, number(t, r, 3) as usize, &mut state);
     octets(t, number(t, r, 4) as usize, &mut client);
     shorts_at(t, number(t, r, 5) as usize, &mut quanta);
+    octets(t, number(t, r, 14) as usize, &mut table);
     Call {
         kind: number(t, r, 0),
         place: number(t, r, 6) as usize,
         n: number(t, r, 7),
         port: (number(t, r, 11) % 256) as u8,
+        job: (number(t, r, 13) % 256) as u8,
         settings,
         state,
         client,
         quanta,
+        table,
     }
 }
 
@@ -234,10 +240,12 @@ fn answer(a: &[u64; 12], o: &[u8]) -> Turn {
     Turn { which, next: a[4] }
 }
 
-fn read(s: &[u8; 48], state: &mut [u64; 24], o: &[u8], m: &[u8], at: u64) -> Turn {
+fn read(c: Call, state: &mut [u64; 24], o: &[u8], m: &[u8], at: u64) -> Turn {
+    let s = c.settings;
+    let table = c.table;
     let before = *state;
     let mut a = [0u64; 12];
-    fenhamper::fenhamper_read(s, state, o, m, at as usize, &mut a);
+    fenhamper::fenhamper_read(&s, c.job, &table, state, o, m, at as usize, &mut a);
     let r = answer(&a, o);
     changes(&before, state);
     r
@@ -272,30 +280,31 @@ fn walked(a: &[u64; 4]) {
     told(b" walk 1 open 2||| walk refused 0", which(a[0], 0), a);
 }
 
-fn walk(s: &[u8; 48], before: &[u64; 24], o: &[u8], m: &[u8]) {
-    let mut state = *before;
+fn walk(c: Call, o: &[u8], m: &[u8]) {
+    let s = c.settings;
+    let table = c.table;
+    let before = c.state;
+    let mut state = before;
     let mut a = [0u64; 4];
-    fenhamper::fenhamper_walk(s, &mut state, o, m, &mut a);
+    fenhamper::fenhamper_walk(&s, c.job, &table, &mut state, o, m, &mut a);
     walked(&a);
-    screens(before, &state);
-    changes(before, &state);
+    screens(&before, &state);
+    changes(&before, &state);
 }
 
 fn reading(name: &[u8], c: Call, o: &[u8], m: &[u8]) {
-    let s = c.settings;
-    let before = c.state;
-    let mut state = before;
+    let mut state = c.state;
     let mut at = c.place as u64;
     let mut turns = c.n;
     while 0 < turns {
         io::write_all(1, name);
-        let x = read(&s, &mut state, o, m, at);
+        let x = read(c, &mut state, o, m, at);
         at = x.next;
         turns = left(turns, x.which);
     }
     if 1 < c.n {
         io::write_all(1, name);
-        walk(&s, &before, o, m);
+        walk(c, o, m);
     }
 }
 
@@ -310,8 +319,9 @@ fn explained(a: &[u64; 8]) {
 // Why a Start has its outcome: all eight numbers, each of which is written.
 fn explain(c: Call, o: &[u8], m: &[u8]) {
     let s = c.settings;
+    let table = c.table;
     let mut a = [1u64; 8];
-    fenhamper::fenhamper_explain(&s, o, m, c.place, &mut a);
+    fenhamper::fenhamper_explain(&s, c.job, &table, o, m, c.place, &mut a);
     explained(&a);
 }
 
@@ -501,10 +511,11 @@ fn keep_told(a: &[u64; 4]) {
 fn keep(t: &[u8], at: usize, c: Call, o: &[u8], m: &[u8], log: &mut [u8]) {
     octets(t, at, log);
     let s = c.settings;
+    let table = c.table;
     let before = c.state;
     let mut state = before;
     let mut a = [0u64; 4];
-    fenhamper::fenhamper_walk_log(&s, &mut state, o, m, c.place, log, &mut a);
+    fenhamper::fenhamper_walk_log(&s, c.job, &table, &mut state, o, m, c.place, log, &mut a);
     keep_told(&a);
     log_told(log);
     changes(&before, &state);
@@ -665,6 +676,80 @@ fn with_totals(
     sending_counted(t, at, c, d, o, m, totals);
 }
 
+// ---- calls of two jobs
+
+fn table_told(table: &[u8; 128]) {
+    let sum = fenhamper::fenhamper_fcs(table) as u64;
+    told(b" table A\n", 0, &[sum]);
+}
+
+fn empty(c: Call) {
+    let mut table = c.table;
+    fenhamper::fenhamper_table_empty(&mut table);
+    table_told(&table);
+}
+
+// An addition or a removal, where the call's number was told before in place of the entry.
+fn change(c: Call, address: [u8; 6]) {
+    let mut table = c.table;
+    let mut entry = c.n as usize;
+    if c.kind == 17 {
+        refusal(fenhamper::fenhamper_table_add(&mut table, c.job, &address, &mut entry));
+    } else {
+        refusal(fenhamper::fenhamper_table_remove(&mut table, c.job, &address, &mut entry));
+    }
+    told(b" entry 0", 0, &[entry as u64]);
+    table_told(&table);
+}
+
+// The address stands in place of the client frame.
+fn changing(t: &[u8], r: usize, c: Call) {
+    let mut address = [0u8; 6];
+    octets(t, number(t, r, 4) as usize, &mut address);
+    change(c, address);
+}
+
+fn part_told(p: &[u64; 2], o: &[u8]) {
+    let sum = fenhamper::fenhamper_fcs(part(o, p[0] as usize, p[1] as usize)) as u64;
+    told(b" part 0 of 1 sum C\n", 0, &[p[0], p[1], sum]);
+}
+
+// What the screen shows of two captures.
+fn screen<'a>(c: Call, octets0: &'a [u8], marks0: &'a [u8], octets1: &'a [u8], marks1: &'a [u8]) {
+    let s = c.settings;
+    let table = c.table;
+    let mut p = [1u64; 2];
+    refusal(fenhamper::fenhamper_screen_data(
+        &s,
+        c.job,
+        &table,
+        octets0,
+        marks0,
+        octets1,
+        marks1,
+        c.place,
+        &mut p,
+    ));
+    if c.job == 0 {
+        part_told(&p, octets0);
+        return;
+    }
+    part_told(&p, octets1);
+}
+
+// The capture of job 1 stands in place of data and log.
+fn of_two_jobs<'a>(t: &'a [u8], r: usize, c: Call, o: &'a [u8], m: &'a [u8]) {
+    if c.kind == 16 {
+        empty(c);
+        return;
+    }
+    if c.kind < 19 {
+        changing(t, r, c);
+        return;
+    }
+    screen(c, o, m, field(t, r, 10), field(t, r, 11));
+}
+
 // ---- cases
 
 fn blank() -> [u8; 65537]
@@ -680,7 +765,7 @@ fn most(n: u64) -> usize
     if k < 65538 { k as usize } else { 65537 }
 }
 
-// The log of a walk is the last that the call names.
+// The log of a walk is the one that the call names as its log.
 fn kept(t: &[u8], r: usize, c: Call, o: &[u8], m: &[u8]) {
     let mut l = blank();
     let named = number(t, r, 11);
@@ -701,7 +786,6 @@ fn most_totals(n: u64) -> usize
     if k < 259 { k as usize } else { 258 }
 }
 
-// The totals are the last that the call names.
 fn counted(t: &[u8], r: usize, c: Call, o: &mut [u8], m: &mut [u8]) {
     let mut totals = blank_totals();
     let named = number(t, r, 12);
@@ -725,6 +809,10 @@ fn called(t: &[u8], r: usize, o: &mut [u8], m: &mut [u8]) {
         return;
     }
     io::write_all(1, name);
+    if 15 < c.kind {
+        of_two_jobs(t, r, c, o, m);
+        return;
+    }
     if 9 < c.kind {
         counted(t, r, c, o, m);
         return;
@@ -762,7 +850,7 @@ fn cases(t: &[u8]) {
     let mut r = number(t, 0, 0) as usize;
     while r < t.len() {
         case(t, r);
-        r += 104;
+        r += 120;
     }
 }
 

@@ -1,23 +1,27 @@
--- Document 02, item 7: of valid settings, the number of a frame is above 0 exactly where rule 7 lets it through; so outcomes 8 to 11 carry a number above
--- 0, and a filtered frame has none to carry. Assumes nothing.
+-- Document 02, items 7 and 10: of valid settings, the number of a frame is above 0 exactly where rule 7 lets it through; so outcomes 8 to 11 carry a
+-- number above 0, and a filtered frame has none to carry. Assumes nothing.
 use Prim.Native.Nat.{ℕ, _≤_}
 use native.Mathlib.Omega.{arith}
 use mathlib.Core.Path.{_≡_, refl, sym, ap, _∙_}
 use mathlib.Core.Bool.{Bool, true, false, not, _&&_, _||_, cond, false≢true}
 use mathlib.Core.List.{List, [], _∷_}
+use mathlib.Core.Option.{Option}
+use lib.ListN.{length}
 use denote.Enum.Declared.{tagOf}
 use types.Run.{OneOf, miss}
 use lib.Dec.{ltb}
 use Rattle.line.specs.Octets.{sameOctets}
 use Rattle.line.proofs.Octets.{sameOctets-eq, false-unless}
+use Rattle.station.specs.declared.Address.{Address}
 use Rattle.station.specs.declared.Settings.{Settings}
 use Rattle.station.specs.declared.Outcome.{Outcome}
 use Rattle.station.specs.declared.Outcome.the-variants.{Cut, BadPreamble, Undersized, Oversized, WrongFcs, WrongLength, Filtered, PauseTaken, PfcTaken, ControlDropped, HandedOut}
 use Rattle.station.proofs.Outcome.{the-type}
 use Rattle.station.specs.Station.{isGroup}
 use Rattle.fields.specs.Fields.{destination}
-use Rattle.address.specs.Address.{broadcastAddress, accepts, way}
-use Rattle.address.proofs.Ways.{way-accepts, way-own, way-le}
+use Rattle.address.specs.Address.{broadcastAddress}
+use Rattle.table.specs.Way.{accepts, way}
+use Rattle.table.proofs.Ways.{way-accepts, way-own, way-le}
 use Rattle.control.specs.Control.{isControlFrame, toReservedGroup, toOwn, filtered, frameWay, wayCarried}
 
 -- ---- the two arms of `way_carried`, by the places of their variants in the enum
@@ -28,8 +32,8 @@ eightToEleven = 7 ∷ 8 ∷ 9 ∷ 10 ∷ []
 abbrev oneToSeven : List ℕ
 oneToSeven = 0 ∷ 1 ∷ 2 ∷ 3 ∷ 4 ∷ 5 ∷ 6 ∷ []
 
-module _ (s : Settings) (f : List ℕ) where
-  pub no-way : (o : Outcome) → OneOf oneToSeven (tagOf the-type o) → 0 ≡ wayCarried s o f
+module _ (s : Settings) (own : List (Option Address)) (f : List ℕ) where
+  pub no-way : (o : Outcome) → OneOf oneToSeven (tagOf the-type o) → 0 ≡ wayCarried s own o f
   unfolding wayCarried
   no-way Cut h = refl
   no-way BadPreamble h = refl
@@ -43,7 +47,7 @@ module _ (s : Settings) (f : List ℕ) where
   no-way ControlDropped h = absurd (miss oneToSeven 9 tt h)
   no-way HandedOut h = absurd (miss oneToSeven 10 tt h)
 
-  pub some-way : (o : Outcome) → OneOf eightToEleven (tagOf the-type o) → frameWay s f ≡ wayCarried s o f
+  pub some-way : (o : Outcome) → OneOf eightToEleven (tagOf the-type o) → frameWay s own f ≡ wayCarried s own o f
   unfolding wayCarried
   some-way PauseTaken h = refl
   some-way PfcTaken h = refl
@@ -76,7 +80,7 @@ passed false g o true h = refl
 passed false g o false h = refl
 
 -- settings that refusal 1 lets through: the own address is no group address
-module _ (s : Settings) (f : List ℕ) (valid : isGroup (s .own .0) ≡ false) where
+module _ (s : Settings) (own : List (Option Address)) (f : List ℕ) (valid : isGroup (s .own .0) ≡ false) where
   own-unbroadcast : toOwn s f ≡ true → sameOctets (destination f) broadcastAddress ≡ false
   unfolding toOwn
   own-unbroadcast o =
@@ -85,30 +89,37 @@ module _ (s : Settings) (f : List ℕ) (valid : isGroup (s .own .0) ≡ false) w
       let g : true ≡ false = sym broadcast-group ∙ sym (ap isGroup e) ∙ valid in
       false≢true (sym g))
 
-  own-accepted : toOwn s f ≡ true → accepts s (destination f) ≡ true
+  own-accepted : toOwn s f ≡ true → accepts s own (destination f) ≡ true
   unfolding toOwn
-  own-accepted o = sym (way-accepts s (destination f)) ∙ ap (ltb 0) (way-own s (destination f) (own-unbroadcast o) o)
+  own-accepted o = sym (way-accepts s own (destination f)) ∙ ap (ltb 0) (way-own s own (destination f) (own-unbroadcast o) o)
 
-  pub let-in : ltb 0 (frameWay s f) ≡ not (filtered s f)
+  pub let-in : ltb 0 (frameWay s own f) ≡ not (filtered s own f)
   unfolding filtered frameWay
   let-in =
       let b = isControlFrame f && toReservedGroup f in
-      cond-above b (way s (destination f))
-      ∙ ap (cond b true) (way-accepts s (destination f))
-      ∙ passed (isControlFrame f) (toReservedGroup f) (toOwn s f) (accepts s (destination f)) own-accepted
+      cond-above b (way s own (destination f))
+      ∙ ap (cond b true) (way-accepts s own (destination f))
+      ∙ passed (isControlFrame f) (toReservedGroup f) (toOwn s f) (accepts s own (destination f)) own-accepted
 
--- ---- it is at most 8, since at most four are listed
+-- ---- of the entries, rule 7 asks only what the address rule accepts
 
-cond-le : (b : Bool) (w : ℕ) → w ≤ 7 → cond b 8 w ≤ 8
+pub filtered-alike : (s : Settings) (own own′ : List (Option Address)) → ((d : List ℕ) → accepts s own d ≡ accepts s own′ d) → (f : List ℕ)
+    → filtered s own f ≡ filtered s own′ f
+unfolding filtered
+filtered-alike s own own′ same f = ap (λ (b : Bool). not (isControlFrame f && (toReservedGroup f || toOwn s f)) && not b) (same (destination f))
+
+-- ---- it is at most 31, since the table has 16 entries
+
+cond-le : (b : Bool) (w : ℕ) → w ≤ 31 → cond b 8 w ≤ 31
 cond-le true w h = omega arith
 cond-le false w h = omega arith
 
-module _ (s : Settings) (f : List ℕ) (few : s .count ≤ 4) where
-  frame-way-le : frameWay s f ≤ 8
+module _ (s : Settings) (own : List (Option Address)) (f : List ℕ) (few : length own ≤ 16) where
+  frame-way-le : frameWay s own f ≤ 31
   unfolding frameWay
-  frame-way-le = cond-le (isControlFrame f && toReservedGroup f) (way s (destination f)) (way-le s (destination f) few)
+  frame-way-le = cond-le (isControlFrame f && toReservedGroup f) (way s own (destination f)) (way-le s own (destination f) few)
 
-  pub way-carried-le : (o : Outcome) → wayCarried s o f ≤ 8
+  pub way-carried-le : (o : Outcome) → wayCarried s own o f ≤ 31
   unfolding wayCarried
   way-carried-le Cut = omega arith
   way-carried-le BadPreamble = omega arith

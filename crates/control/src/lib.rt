@@ -1,10 +1,11 @@
-// Control frames, rules 7 to 10 (document 01, "Control frames"), and which address let a frame in (document 02, item 7). Meaning: specs/. `f` is always
-// a whole frame.
+// Control frames, rules 7 to 10 (document 01, "Control frames"), and which address let a frame in (document 02, items 7 and 10). Meaning: specs/. `f` is
+// always a whole frame, `table` the address table, of which a job sees its own entries.
 use station::Address;
 use station::Outcome;
 use station::Settings;
 ghost use mathlib.Core.Path.{_≡_};
 ghost use mathlib.Core.Bool.{_&&_, _||_};
+ghost use Rattle.table.specs.Entries.{ownEntries};
 ghost use Rattle.control.specs.Control.{isControlFrame, opcode, toReservedGroup, toOwn, filtered, takesPause, takesPfc, dropsControl, frameWay, wayCarried};
 
 // First field 0x8808. A tagged 0x8808 is an ordinary type.
@@ -43,13 +44,13 @@ fn controls_station(s: Settings, f: &[u8]) -> bool
 }
 
 // Rule 7. The address of a control frame to the reserved group or the own address is not tested further.
-pub fn filtered(s: Settings, f: &[u8]) -> bool
-    ensures { λ r. ⌜ r ≡ filtered s (now (f .entry)) ⌝ }
+pub fn filtered(s: Settings, job: u8, table: &[u8; 128], f: &[u8]) -> bool
+    ensures { λ r. ⌜ r ≡ filtered s (ownEntries job (now (table .entry))) (now (f .entry)) ⌝ }
 {
     if controls_station(s, f) {
         return false;
     }
-    !address::accepts(s, f)
+    !table::accepts(s, job, table, f)
 }
 
 // Rule 8.
@@ -104,22 +105,22 @@ fn controls_group(f: &[u8]) -> bool
 }
 
 // Which address lets a frame in, of any frame: 8 for a control frame to the reserved group.
-pub fn frame_way(s: Settings, f: &[u8]) -> u8
-    ensures { λ r. ⌜ r ≡ frameWay s (now (f .entry)) ⌝ }
+pub fn frame_way(s: Settings, job: u8, table: &[u8; 128], f: &[u8]) -> u8
+    ensures { λ r. ⌜ r ≡ frameWay s (ownEntries job (now (table .entry))) (now (f .entry)) ⌝ }
 {
     if controls_group(f) {
         return 8;
     }
-    address::way(s, f)
+    table::way(s, job, table, f)
 }
 
 // The number that a reading with this outcome carries: 0 for outcomes 1 to 7.
-pub fn way_carried(s: Settings, o: Outcome, f: &[u8]) -> u8
-    ensures { λ r. ⌜ r ≡ wayCarried s o (now (f .entry)) ⌝ }
+pub fn way_carried(s: Settings, job: u8, table: &[u8; 128], o: Outcome, f: &[u8]) -> u8
+    ensures { λ r. ⌜ r ≡ wayCarried s (ownEntries job (now (table .entry))) o (now (f .entry)) ⌝ }
 {
     match o {
         Outcome::PauseTaken | Outcome::PfcTaken | Outcome::ControlDropped | Outcome::HandedOut =>
-            frame_way(s, f),
+            frame_way(s, job, table, f),
         _ => 0,
     }
 }

@@ -1,7 +1,7 @@
 -- A call across the face: what came back encoded is what the module's call gave, encoded. Assume nothing.
-use Prim.Native.Nat.{ℕ}
+use Prim.Native.Nat.{ℕ, _%_}
 use native.Mathlib.Omega.{arith}
-use mathlib.Core.Path.{_≡_, sym, ap, ap₂, _∙_, subst}
+use mathlib.Core.Path.{_≡_, refl, sym, ap, ap₂, _∙_, subst}
 use mathlib.Core.Bool.{Bool, false, cond}
 use mathlib.Core.List.{List, [], _∷_}
 use lib.ListN.{getD}
@@ -9,7 +9,17 @@ use lib.Dec.{eqb}
 use borrow.Author.Tests.{ne-eqb}
 use Rattle.line.specs.Line.{capture}
 use Rattle.station.specs.declared.State.{State}
+use Rattle.station.specs.declared.Settings.{Settings}
+use Rattle.table.specs.declared.Entry.{Entry}
+use Rattle.table.specs.declared.Placed.{Placed}
+use Rattle.table.specs.Calls.{Change, change}
+use Rattle.receive.specs.declared.Answer.{Answer}
+use Rattle.receive.specs.declared.Answer.the-variants.{Counted}
 use Rattle.receive.specs.declared.Reading.{Reading}
+use Rattle.receive.specs.Reading.{reading}
+use Rattle.receive.specs.Values.{answerRefusal, answerPart}
+use Rattle.jobs.specs.Jobs.{ofJob, screenAnswer}
+use Rattle.jobs.proofs.Screen.{any-state}
 use Rattle.receive.specs.declared.WalkEnd.{WalkEnd}
 use Rattle.log.specs.declared.Logged.{Logged}
 use Rattle.log.specs.declared.Step.{Step}
@@ -20,6 +30,9 @@ use Rattle.logging.specs.Walks.{Keeping, keeping}
 use Rattle.send.specs.declared.Sent.{Sent}
 use Rattle.send.specs.Sending.{Sending, sending}
 use Rattle.station.specs.declared.Refusal.{Refusal}
+use Rattle.station.specs.declared.Refusal.the-variants.{BadSettings, BadBuffers, BadPlace, OtherFlow, BadClass, BadType, LongData, NoRoom, Held, ManyTags}
+use Rattle.station.specs.declared.Refusal.the-variants.{BadJob, HoldsTwelve, AllInUse, AlreadyListed, NotListed, HighDeficit, BadTable, WrongTotals, HighTotal}
+use Rattle.station.specs.Station.{fresh}
 use Rattle.station.specs.declared.Checked.{Checked}
 use Rattle.station.specs.declared.Checked.the-variants.{Fine, Refused}
 use Rattle.station.specs.Numbers.{refusalNumber, checkedNumber}
@@ -31,6 +44,7 @@ use Rattle.counting.proofs.Calls.{Leaves, Countable, countable}
 use Rattle.fenhamper.specs.Face.{stateNumbers, stateLeft, readingNumbers, walkNumbers, sentNumbers, told, readTold, walkTold, wrote, sendTold}
 use Rattle.fenhamper.specs.Face.{keepNumbers, kept, keepTold, lodged, appendTold, RecordGiven, recordGiven, recordTold, stepGiven, stepTold}
 use Rattle.fenhamper.specs.Face.{Wrote, totalsGiven, fillTold, withTotals, countTold}
+use Rattle.fenhamper.specs.Face.{Told, NumberGiven, numberGiven, entryTold, TableGiven, tableGiven, tableTold, partGiven, partTold}
 
 -- an answer's first number is its refusal
 pub read-crosses : {a st : List ℕ} (before : List ℕ) {r x : Reading} → a ≡ readingNumbers r → st ≡ stateLeft (getD a 0 0) before (r .state) → r ≡ x → told a st ≡ readTold before x
@@ -102,3 +116,53 @@ countable-crossed {a} {st′} {os} {ms} {ts} {os′} {ms′} before base k l e =
     let m : ms′ ≡ base .marks = ap (λ (w : Wrote). w .marks) e in
     let p : getD a 1 0 ≡ base .given .place = ap (λ (w : Wrote). getD (w .answer) 1 0) e in
     subst (λ (n : ℕ). Countable os′ ms′ n ts) (sym p) (countable base k l (ap₂ (sending (base .given)) o m))
+
+-- ---- calls of two jobs
+
+pub table-crosses : {n k : ℕ} {t : List ℕ} (before : ℕ) {a : Placed} {x : Change} → numberGiven n k ≡ entryTold before a → change a t ≡ x
+    → tableGiven n k t ≡ tableTold before x
+unfolding tableTold
+table-crosses {n} {k} {t} before f e = ap (λ (g : NumberGiven). record { placed = g; table = t }) f ∙ ap (tableTold before) e
+
+-- a refusal's number crosses whole as one of 32 bits
+number-low : (x : Refusal) → refusalNumber x % 4294967296 ≡ refusalNumber x
+number-low BadSettings = refl
+number-low BadBuffers = refl
+number-low BadPlace = refl
+number-low OtherFlow = refl
+number-low BadClass = refl
+number-low BadType = refl
+number-low LongData = refl
+number-low NoRoom = refl
+number-low Held = refl
+number-low ManyTags = refl
+number-low BadJob = refl
+number-low HoldsTwelve = refl
+number-low AllInUse = refl
+number-low AlreadyListed = refl
+number-low NotListed = refl
+number-low HighDeficit = refl
+number-low BadTable = refl
+number-low WrongTotals = refl
+number-low HighTotal = refl
+
+refusal-low : (a : Answer) → answerRefusal a % 4294967296 ≡ answerRefusal a
+refusal-low (Answer.Refused x) = number-low x
+refusal-low Answer.Nothing = refl
+refusal-low Answer.Open = refl
+refusal-low (Counted o w p v) = refl
+
+-- the screen's answer is that of the exported reading, with whatever state
+module _ (s : Settings) (job : ℕ) (es : List Entry) (os₀ ms₀ os₁ ms₁ : List ℕ) (p : ℕ) where
+  pub screen-crosses : {a st os ms : List ℕ} (before : List ℕ) (x : State) → os ≡ ofJob job os₀ os₁ → ms ≡ ofJob job ms₀ ms₁
+      → told a st ≡ readTold before (reading s job es x os ms p)
+      → partGiven (getD a 0 0 % 4294967296) (getD a 6 0 ∷ getD a 7 0 ∷ []) ≡ partTold (screenAnswer s job es os₀ ms₀ os₁ ms₁ p)
+  unfolding readTold readingNumbers partTold screenAnswer
+  screen-crosses {a} {st} {os} {ms} before x o m e =
+      let r : Reading = reading s job es x os ms p in
+      let shown : r .answer ≡ screenAnswer s job es os₀ ms₀ os₁ ms₁ p =
+      any-state s job es x fresh os ms p ∙ ap₂ (λ (l k : List ℕ). reading s job es fresh l k p .answer) o m
+      in
+      ap (λ (q : Told). partGiven (getD (q .answer) 0 0 % 4294967296) (getD (q .answer) 6 0 ∷ getD (q .answer) 7 0 ∷ [])) e
+      ∙ ap (λ (n : ℕ). partGiven n (answerPart (r .answer) .at ∷ answerPart (r .answer) .len ∷ [])) (refusal-low (r .answer))
+      ∙ ap partTold shown

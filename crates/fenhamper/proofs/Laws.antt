@@ -1,8 +1,9 @@
 -- What the arrays' meanings keep: a part handed over as place and length is the module's own client data; a state that crossed back is the
 -- same state; the record of a reading is the same by its numbers; a record of a log is given out as it stands there; what why tells of a Start beside its
 -- reason is what a reading tells. Assume nothing.
-use Prim.Native.Nat.{ℕ, zero, suc, _+_, _-_, _%_, _^_, _<_}
+use Prim.Native.Nat.{ℕ, zero, suc, _+_, _-_, _%_, _^_, _<_, _≤_}
 use native.Mathlib.Nat.{mod-eq-of-lt}
+use native.Mathlib.Omega.{arith}
 use native.Mathlib.Numerals.{add-one}
 use mathlib.Core.Path.{_≡_, refl, sym, ap, ap₂, _∙_, subst}
 use mathlib.Core.List.{List, [], _∷_}
@@ -24,6 +25,9 @@ use Rattle.station.specs.declared.Outcome.the-variants.{Cut, BadPreamble, Under
 use Rattle.station.specs.declared.Outcome.the-variants.{PauseTaken, PfcTaken, ControlDropped, HandedOut}
 use Rattle.station.specs.Numbers.{outcomeNumber}
 use Rattle.flow.specs.Timers.{timer}
+use Rattle.table.specs.declared.Entry.{Entry}
+use Rattle.table.specs.Entries.{mine, entriesOf}
+use Rattle.table.proofs.Entries.{sixteen}
 use Rattle.receive.specs.declared.Answer.{Answer}
 use Rattle.receive.specs.declared.Answer.the-variants.{Counted}
 use Rattle.receive.specs.declared.Reading.{Reading}
@@ -118,14 +122,19 @@ unfolding recordNamed readingNumbers recordOfReading lowAt
 same-record r h =
     ap₂ (λ (n v : ℕ). recordAt (r .start) n v (answerPart (r .answer) .len) (answerStatus (r .answer))) (outcome-low (r .answer)) (mod-eq-of-lt h)
 
--- which it is of every reading
-pub reading-record : (s : Settings) (st : State) (os ms : List ℕ) (p : ℕ)
-    → recordNamed (readingNumbers (reading s st os ms p)) ≡ recordOfReading (reading s st os ms p)
-reading-record s st os ms p = same-record (reading s st os ms p) (by-checked (first (readRefusals s os ms p)) refl)
+-- which it is of every reading by a table of 16 entries
+way-small : (s : Settings) (job : ℕ) (es : List Entry) (st : State) (os ms : List ℕ) (p : ℕ) → length (mine job es) ≤ 16
+    → answerWay (reading s job es st os ms p .answer) < 2 ^ 8
+way-small s job es st os ms p few = by-checked (first (readRefusals s job es os ms p)) refl
   where
-    by-checked : (k : Checked) → first (readRefusals s os ms p) ≡ k → answerWay (reading s st os ms p .answer) < 2 ^ 8
-    by-checked (Checked.Refused x) e = subst (λ (r : Reading). answerWay (r .answer) < 2 ^ 8) (sym (read-refused s st os ms p x e)) (lit< tt)
-    by-checked Fine e = reading-sound s st os ms p e .way
+    by-checked : (k : Checked) → first (readRefusals s job es os ms p) ≡ k → answerWay (reading s job es st os ms p .answer) < 2 ^ 8
+    by-checked (Checked.Refused x) e = subst (λ (r : Reading). answerWay (r .answer) < 2 ^ 8) (sym (read-refused s job es st os ms p x e)) (lit< tt)
+    by-checked Fine e = reading-sound s job es st os ms p e .way few
+
+pub reading-record : (s : Settings) (job : ℕ) (t : List ℕ) (st : State) (os ms : List ℕ) (p : ℕ)
+    → recordNamed (readingNumbers (reading s job (entriesOf t) st os ms p)) ≡ recordOfReading (reading s job (entriesOf t) st os ms p)
+reading-record s job t st os ms p =
+    same-record (reading s job (entriesOf t) st os ms p) (way-small s job (entriesOf t) st os ms p (omega (arith, sixteen job t)))
 
 -- a record that is read is given out as its octets stand in the log, and is the same where these cross to the module again
 module _ (l before : List ℕ) (k : ℕ) (octets : OfOctets l) (good : IsMultiple l) (used : Used l k) where
@@ -138,31 +147,31 @@ module _ (l before : List ℕ) (k : ℕ) (octets : OfOctets l) (good : IsMultipl
 
 -- ---- why a Start has its outcome: refusal, kind, outcome and both places are a reading's from there, whatever its state
 
-module _ (s : Settings) (st : State) (os ms : List ℕ) (p : ℕ) where
+module _ (s : Settings) (job : ℕ) (es : List Entry) (st : State) (os ms : List ℕ) (p : ℕ) where
   abbrev SameKind : Type 0
-  SameKind = whyKind (explained s os ms p .answer) ≡ answerKind (reading s st os ms p .answer)
+  SameKind = whyKind (explained s job es os ms p .answer) ≡ answerKind (reading s job es st os ms p .answer)
 
-  kind-of : (e : Explained) (r : Reading) → explained s os ms p ≡ e → reading s st os ms p ≡ r → whyKind (e .answer) ≡ answerKind (r .answer) → SameKind
+  kind-of : (e : Explained) (r : Reading) → explained s job es os ms p ≡ e → reading s job es st os ms p ≡ r → whyKind (e .answer) ≡ answerKind (r .answer) → SameKind
   kind-of e r f g h = rw (f, g) h
 
-  module _ (fine : first (readRefusals s os ms p) ≡ Fine) where
+  module _ (fine : first (readRefusals s job es os ms p) ≡ Fine) where
     module _ (i : ℕ) (found : findStart (capture os ms) p ≡ At i) where
       kind-ended : (x : Found) → findControl (capture os ms) (i + 1) ≡ x → SameKind
       unfolding readRun
-      kind-ended Found.Nothing h = kind-of _ _ (explain-open s os ms p fine i found h) (read-open s st os ms p fine i found h) refl
-      kind-ended (At e) h = kind-of _ _ (explain-ended s os ms p fine i found e h) (read-ended s st os ms p fine i found e h) refl
+      kind-ended Found.Nothing h = kind-of _ _ (explain-open s job es os ms p fine i found h) (read-open s job es st os ms p fine i found h) refl
+      kind-ended (At e) h = kind-of _ _ (explain-ended s job es os ms p fine i found e h) (read-ended s job es st os ms p fine i found e h) refl
 
     kind-found : (x : Found) → findStart (capture os ms) p ≡ x → SameKind
-    kind-found Found.Nothing h = kind-of _ _ (explain-none s os ms p fine h) (read-none s st os ms p fine h) refl
+    kind-found Found.Nothing h = kind-of _ _ (explain-none s job es os ms p fine h) (read-none s job es st os ms p fine h) refl
     kind-found (At i) h = kind-ended i h (findControl (capture os ms) (i + 1)) refl
 
-  kind-checked : (k : Checked) → first (readRefusals s os ms p) ≡ k → SameKind
+  kind-checked : (k : Checked) → first (readRefusals s job es os ms p) ≡ k → SameKind
   kind-checked Fine h = kind-found h (findStart (capture os ms) p) refl
-  kind-checked (Checked.Refused x) h = kind-of _ _ (explain-refused s os ms p x h) (read-refused s st os ms p x h) refl
+  kind-checked (Checked.Refused x) h = kind-of _ _ (explain-refused s job es os ms p x h) (read-refused s job es st os ms p x h) refl
 
-  pub explain-crosses : take 5 (explainNumbers (explained s os ms p)) ≡ take 5 (readingNumbers (reading s st os ms p))
+  pub explain-crosses : take 5 (explainNumbers (explained s job es os ms p)) ≡ take 5 (readingNumbers (reading s job es st os ms p))
   unfolding explainNumbers readingNumbers
   explain-crosses =
-      let w = explain-reads s st os ms p in
-      let k = kind-checked (first (readRefusals s os ms p)) refl in
+      let w = explain-reads s job es st os ms p in
+      let k = kind-checked (first (readRefusals s job es os ms p)) refl in
       cc (w .refusal, k, w .outcome, w .start, w .next)

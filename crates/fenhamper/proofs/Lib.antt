@@ -1,3 +1,2 @@
 pub mod Crossing
 pub mod Laws
-pub mod Six

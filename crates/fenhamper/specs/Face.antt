@@ -6,7 +6,6 @@ use mathlib.Core.List.{List, [], _∷_, _++_}
 use lib.ListN.{length, getD, replicate}
 use lib.Dec.{eqb, leb, ltb}
 use Rattle.line.specs.Octets.{lowFirst}
-use Rattle.station.specs.declared.Address.{Address}
 use Rattle.station.specs.declared.Flow.{Flow}
 use Rattle.station.specs.declared.Flow.the-variants.{Off, Pause, Pfc}
 use Rattle.station.specs.declared.Port.{Port}
@@ -15,8 +14,12 @@ use Rattle.station.specs.declared.Settings.{Settings}
 use Rattle.station.specs.declared.Slots.{Slots}
 use Rattle.station.specs.declared.Quanta.{Quanta}
 use Rattle.station.specs.declared.State.{State}
-use Rattle.station.specs.Numbers.{checkedNumber}
+use Rattle.station.specs.Numbers.{refusalNumber, checkedNumber}
 use Rattle.flow.specs.Timers.{timer}
+use Rattle.table.specs.declared.Placed.{Placed}
+use Rattle.table.specs.Entries.{addressAt}
+use Rattle.table.specs.Calls.{Change}
+use Rattle.table.specs.Claims.{placedRefusal}
 use Rattle.receive.specs.declared.Answer.{Answer}
 use Rattle.receive.specs.declared.Answer.the-variants.{Nothing, Open, Counted}
 use Rattle.receive.specs.declared.Reading.{Reading}
@@ -65,7 +68,7 @@ each f at (suc n) = f at ∷ each f (at + 1) n
 
 -- the layout of the records, by its number: the name of an exported symbol has it, and it is what that function gives
 abbrev pub layout : ℕ
-layout = 3
+layout = 4
 
 -- ---- what crosses to the module
 
@@ -73,26 +76,21 @@ layout = 3
 unfoldable pub isOn : List ℕ → ℕ → Bool
 isOn o i = not (eqb (getD o i 0) 0)
 
-unfoldable pub addressAt : List ℕ → ℕ → Address
-addressAt o at = record { 0 = each (λ (i : ℕ). getD o i 0) at 6 }
-
 -- 1 pause, 2 PFC; "anything else is NONE"
 unfoldable pub flowOf : ℕ → Flow
 flowOf n = cond (eqb n 1) Pause (cond (eqb n 2) Pfc Off)
 
--- settings, of 48 octets; here and below a number of 16 bits stands "low octet first, as x86-64 does"
+-- settings, of 24 octets; here and below a number of 16 bits stands "low octet first, as x86-64 does"
 unfoldable pub settingsOf : List ℕ → Settings
 settingsOf o =
     record {
       own = addressAt o 0;
-      listed = addressAt o 6 ∷ addressAt o 12 ∷ addressAt o 18 ∷ addressAt o 24 ∷ [];
-      count = getD o 30 0;
-      broadcast = isOn o 31;
-      promiscuous = isOn o 32;
-      checking = isOn o 33;
-      limit = lowFirst o 36 2;
-      flow = flowOf (getD o 35 0);
-      passing = isOn o 34;
+      broadcast = isOn o 6;
+      promiscuous = isOn o 7;
+      checking = isOn o 8;
+      limit = lowFirst o 12 2;
+      flow = flowOf (getD o 10 0);
+      passing = isOn o 9;
     }
 
 -- "Of each timer the low 32 bits are read"
@@ -371,3 +369,34 @@ withTotals a st os ms ts = record { sent = wrote a st os ms; totals = ts }
 -- of a sending call: all that the call without totals leaves, and the totals
 unfoldable pub countTold : List ℕ → Counting → WithTotals
 countTold before x = record { sent = sendTold before (x .sent); totals = x .totals }
+
+-- ---- what a call of two jobs leaves (document 02, item 10)
+
+-- of a table call: the entry that it took or freed; a refusal leaves the number that stood there before
+unfoldable pub entryLeft : ℕ → Placed → ℕ
+entryLeft before (Placed.Refused x) = before
+entryLeft before (Placed.At k) = k
+
+unfoldable pub entryTold : ℕ → Placed → NumberGiven
+entryTold before x = numberGiven (placedRefusal x) (entryLeft before x)
+
+pub record TableGiven : Type 0 where
+  pub placed : NumberGiven
+  pub table : List ℕ
+
+abbrev pub tableGiven : ℕ → ℕ → List ℕ → TableGiven
+tableGiven n k t = record { placed = numberGiven n k; table = t }
+
+unfoldable pub tableTold : ℕ → Change → TableGiven
+tableTold before x = record { placed = entryTold before (x .answer); table = x .table }
+
+pub record PartGiven : Type 0 where
+  pub refusal : ℕ
+  pub part : List ℕ
+
+abbrev pub partGiven : ℕ → List ℕ → PartGiven
+partGiven n p = record { refusal = n; part = p }
+
+-- of the screen call: place and length of the part that a reading's answer hands out
+unfoldable pub partTold : Answer → PartGiven
+partTold a = partGiven (answerRefusal a) (answerPart a .at ∷ answerPart a .len ∷ [])

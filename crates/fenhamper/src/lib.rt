@@ -26,6 +26,7 @@ use station::Refusal;
 use station::Settings;
 use station::Slots;
 use station::State;
+use table::Placed;
 use totals::Count;
 use writing::Classes;
 use writing::Client;
@@ -44,8 +45,11 @@ ghost use Rattle.crc.specs.Crc.{crcOver};
 ghost use Rattle.station.specs.Numbers.{refusalNumber, checkedNumber};
 ghost use Rattle.station.specs.Station.{fresh, screenOf};
 ghost use Rattle.flow.specs.Timers.{timer};
+ghost use Rattle.table.specs.Entries.{entriesOf, addressAt};
+ghost use Rattle.table.specs.Calls.{emptyTable, added, removed};
 ghost use Rattle.receive.specs.Reading.{reading};
 ghost use Rattle.receive.specs.Walk.{walked};
+ghost use Rattle.jobs.specs.Jobs.{screenAnswer};
 ghost use Rattle.reason.specs.Reasons.{explained};
 ghost use Rattle.reason.specs.Values.{reasonNumber};
 ghost use Rattle.log.specs.Numbers.{loggedRefusal};
@@ -55,13 +59,14 @@ ghost use Rattle.logging.specs.Walks.{walkLogged};
 ghost use Rattle.send.specs.Sending.{clientSending, pauseSending, pfcSending, idleSending};
 ghost use Rattle.totals.specs.Totals.{beforePlace, filled};
 ghost use Rattle.counting.specs.Counting.{clientCounting, pauseCounting, pfcCounting, idleCounting};
-ghost use Rattle.fenhamper.specs.Face.{layout, flowOf, addressAt, settingsOf, countersOf, timersOf, stateOf};
+ghost use Rattle.fenhamper.specs.Face.{layout, flowOf, settingsOf, countersOf, timersOf, stateOf};
 ghost use Rattle.fenhamper.specs.Face.{portOf, kindOf, tagAt, countedTag, tagsOf, formOf, clientOf, quantaOf, classesOf};
 ghost use Rattle.fenhamper.specs.Face.{recordNamed, stateNumbers, readingNumbers, walkNumbers, sentNumbers, keepRefusalNumber, keepNumbers, partWithin};
 ghost use Rattle.fenhamper.specs.Face.{sixNumber, reasonNumbers, explainNumbers};
 ghost use Rattle.fenhamper.specs.Face.{stateLeft, told, readTold, walkTold, wrote, sendTold};
 ghost use Rattle.fenhamper.specs.Face.{kept, keepTold, lodged, appendTold, recordGiven, recordTold, stepGiven, stepTold, numberGiven, numberTold};
 ghost use Rattle.fenhamper.specs.Face.{totalsGiven, fillTold, startsTold, withTotals, countTold};
+ghost use Rattle.fenhamper.specs.Face.{entryTold, tableGiven, tableTold, partGiven, partTold};
 
 // ---- what crosses to the module
 
@@ -107,28 +112,20 @@ fn address(o: &[u8], at: usize) -> Address
     Address([o[at], o[at + 1], o[at + 2], o[at + 3], o[at + 4], o[at + 5]])
 }
 
-fn settings(o: &[u8; 48]) -> Settings
+fn settings(o: &[u8; 24]) -> Settings
     ensures { λ r. ⌜ r ≡ settingsOf (now (o .entry)) ⌝ }
 {
     let own = address(o, 0);
-    let listed = [
-        address(o, 6),
-        address(o, 12),
-        address(o, 18),
-        address(o, 24),
-    ];
-    let flow = flow_mode(o[35]);
-    let limit = low_pair(o, 36);
+    let flow = flow_mode(o[10]);
+    let limit = low_pair(o, 12);
     Settings {
         own,
-        listed,
-        count: o[30],
-        broadcast: is_on(o[31]),
-        promiscuous: is_on(o[32]),
-        checking: is_on(o[33]),
+        broadcast: is_on(o[6]),
+        promiscuous: is_on(o[7]),
+        checking: is_on(o[8]),
         limit,
         flow,
-        passing: is_on(o[34]),
+        passing: is_on(o[9]),
     }
 }
 
@@ -545,6 +542,19 @@ fn part_within(n: usize, at: usize, len: usize) -> [u64; 2]
     [at as u64, len as u64]
 }
 
+// The entry that a table call took or freed goes out, and 0; a refusal leaves what is there.
+fn give_entry(at: &mut usize, placed: Placed) -> u32
+    ensures { λ n. ⌜ numberGiven n (now (at .exit)) ≡ entryTold (now (at .entry)) placed ⌝ }
+{
+    match placed {
+        Placed::Refused(x) => station::refusal_number(x) as u32,
+        Placed::At(k) => {
+            *at = k;
+            0
+        }
+    }
+}
+
 // A refused call leaves the state's numbers as they were, to the bit.
 fn leave(state: &mut [u64; 24], refusal: u64, after: State)
     ensures { λ _. ⌜ now (state .exit) ≡ stateLeft refusal (now (state .entry)) after ⌝ }
@@ -557,10 +567,10 @@ fn leave(state: &mut [u64; 24], refusal: u64, after: State)
 // ---- the exported functions
 
 // FENHAMPER_LAYOUT of the header. The symbol's name has it too, so that what was compiled for another layout does not link.
-const LAYOUT: u32 = 3;
+const LAYOUT: u32 = 4;
 
 #[no_mangle]
-pub extern "C" fn fenhamper_layout_3() -> u32
+pub extern "C" fn fenhamper_layout_4() -> u32
     ensures { λ r. ⌜ r ≡ layout ⌝ }
 {
     LAYOUT
@@ -596,7 +606,9 @@ pub extern "C" fn fenhamper_fcs_update(from: u32, octets: &[u8]) -> u32
 
 #[no_mangle]
 pub extern "C" fn fenhamper_read(
-    s: &[u8; 48],
+    s: &[u8; 24],
+    job: u8,
+    table: &[u8; 128],
     state: &mut [u64; 24],
     octets: &[u8],
     marks: &[u8],
@@ -604,25 +616,36 @@ pub extern "C" fn fenhamper_read(
     answer: &mut [u64; 12],
 )
     ensures { λ _. ⌜ told (now (answer .exit)) (now (state .exit))
-        ≡ readTold (now (state .entry)) (reading (settingsOf (now (s .entry))) (stateOf (now (state .entry))) (now (octets .entry)) (now (marks .entry)) place) ⌝ }
+        ≡ readTold (now (state .entry)) (reading (settingsOf (now (s .entry))) job (entriesOf (now (table .entry))) (stateOf (now (state .entry)))
+        (now (octets .entry)) (now (marks .entry)) place) ⌝ }
 {
-    let r = receive::read(settings(s), state_of(state), octets, marks, place);
+    let r = receive::read(
+        settings(s),
+        job,
+        table,
+        state_of(state),
+        octets,
+        marks,
+        place,
+    );
     *answer = reading_numbers(r);
     leave(state, answer[0], r.state);
 }
 
 #[no_mangle]
 pub extern "C" fn fenhamper_explain(
-    s: &[u8; 48],
+    s: &[u8; 24],
+    job: u8,
+    table: &[u8; 128],
     octets: &[u8],
     marks: &[u8],
     place: usize,
     answer: &mut [u64; 8],
 )
     ensures { λ _. ⌜ now (answer .exit)
-        ≡ explainNumbers (explained (settingsOf (now (s .entry))) (now (octets .entry)) (now (marks .entry)) place) ⌝ }
+        ≡ explainNumbers (explained (settingsOf (now (s .entry))) job (entriesOf (now (table .entry))) (now (octets .entry)) (now (marks .entry)) place) ⌝ }
 {
-    *answer = explain_numbers(reason::explain(settings(s), octets, marks, place));
+    *answer = explain_numbers(reason::explain(settings(s), job, table, octets, marks, place));
 }
 
 #[no_mangle]
@@ -639,23 +662,26 @@ pub extern "C" fn fenhamper_client_data(
 
 #[no_mangle]
 pub extern "C" fn fenhamper_walk(
-    s: &[u8; 48],
+    s: &[u8; 24],
+    job: u8,
+    table: &[u8; 128],
     state: &mut [u64; 24],
     octets: &[u8],
     marks: &[u8],
     answer: &mut [u64; 4],
 )
     ensures { λ _. ⌜ told (now (answer .exit)) (now (state .exit))
-        ≡ walkTold (now (state .entry)) (walked (settingsOf (now (s .entry))) (stateOf (now (state .entry))) (now (octets .entry)) (now (marks .entry))) ⌝ }
+        ≡ walkTold (now (state .entry)) (walked (settingsOf (now (s .entry))) job (entriesOf (now (table .entry))) (stateOf (now (state .entry)))
+        (now (octets .entry)) (now (marks .entry))) ⌝ }
 {
-    let w = receive::walk(settings(s), state_of(state), octets, marks);
+    let w = receive::walk(settings(s), job, table, state_of(state), octets, marks);
     *answer = walk_numbers(w);
     leave(state, answer[0], w.state);
 }
 
 #[no_mangle]
 pub extern "C" fn fenhamper_send_client(
-    s: &[u8; 48],
+    s: &[u8; 24],
     state: &mut [u64; 24],
     port: u8,
     octets: &mut [u8],
@@ -684,7 +710,7 @@ pub extern "C" fn fenhamper_send_client(
 
 #[no_mangle]
 pub extern "C" fn fenhamper_send_pause(
-    s: &[u8; 48],
+    s: &[u8; 24],
     state: &mut [u64; 24],
     port: u8,
     octets: &mut [u8],
@@ -711,7 +737,7 @@ pub extern "C" fn fenhamper_send_pause(
 
 #[no_mangle]
 pub extern "C" fn fenhamper_send_pfc(
-    s: &[u8; 48],
+    s: &[u8; 24],
     state: &mut [u64; 24],
     port: u8,
     octets: &mut [u8],
@@ -756,7 +782,9 @@ pub extern "C" fn fenhamper_fill_idle(
 
 #[no_mangle]
 pub extern "C" fn fenhamper_walk_log(
-    s: &[u8; 48],
+    s: &[u8; 24],
+    job: u8,
+    table: &[u8; 128],
     state: &mut [u64; 24],
     octets: &[u8],
     marks: &[u8],
@@ -765,10 +793,19 @@ pub extern "C" fn fenhamper_walk_log(
     answer: &mut [u64; 4],
 )
     ensures { λ _. ⌜ kept (now (answer .exit)) (now (state .exit)) (now (log .exit))
-        ≡ keepTold (now (state .entry)) (walkLogged (settingsOf (now (s .entry))) (stateOf (now (state .entry)))
+        ≡ keepTold (now (state .entry)) (walkLogged (settingsOf (now (s .entry))) job (entriesOf (now (table .entry))) (stateOf (now (state .entry)))
         (now (octets .entry)) (now (marks .entry)) place (now (log .entry))) ⌝ }
 {
-    let k = logging::walk_log(settings(s), state_of(state), octets, marks, place, log);
+    let k = logging::walk_log(
+        settings(s),
+        job,
+        table,
+        state_of(state),
+        octets,
+        marks,
+        place,
+        log,
+    );
     *answer = keep_numbers(k);
     leave(state, answer[0], k.state);
 }
@@ -849,7 +886,7 @@ pub extern "C" fn fenhamper_starts_before(
 
 #[no_mangle]
 pub extern "C" fn fenhamper_send_client_counted(
-    s: &[u8; 48],
+    s: &[u8; 24],
     state: &mut [u64; 24],
     port: u8,
     octets: &mut [u8],
@@ -883,7 +920,7 @@ pub extern "C" fn fenhamper_send_client_counted(
 
 #[no_mangle]
 pub extern "C" fn fenhamper_send_pause_counted(
-    s: &[u8; 48],
+    s: &[u8; 24],
     state: &mut [u64; 24],
     port: u8,
     octets: &mut [u8],
@@ -916,7 +953,7 @@ pub extern "C" fn fenhamper_send_pause_counted(
 
 #[no_mangle]
 pub extern "C" fn fenhamper_send_pfc_counted(
-    s: &[u8; 48],
+    s: &[u8; 24],
     state: &mut [u64; 24],
     port: u8,
     octets: &mut [u8],
@@ -969,4 +1006,67 @@ pub extern "C" fn fenhamper_fill_idle_counted(
     }
     fenhamper_fill_idle(state, octets, marks, place, idles, answer);
     totals::recount(octets, marks, totals, place, answer[1] as usize);
+}
+
+// ---- the exported functions of two jobs: the table that they share, and the screen
+
+#[no_mangle]
+pub extern "C" fn fenhamper_table_empty(table: &mut [u8; 128])
+    ensures { λ _. ⌜ now (table .exit) ≡ emptyTable ⌝ }
+{
+    *table = table::empty();
+}
+
+#[no_mangle]
+pub extern "C" fn fenhamper_table_add(
+    table: &mut [u8; 128],
+    job: u8,
+    listed: &[u8; 6],
+    at: &mut usize,
+) -> u32
+    ensures { λ n. ⌜ tableGiven n (now (at .exit)) (now (table .exit))
+        ≡ tableTold (now (at .entry)) (added job (now (table .entry)) (addressAt (now (listed .entry)) 0)) ⌝ }
+{
+    let placed = table::add(job, table, address(listed, 0));
+    give_entry(at, placed)
+}
+
+#[no_mangle]
+pub extern "C" fn fenhamper_table_remove(
+    table: &mut [u8; 128],
+    job: u8,
+    listed: &[u8; 6],
+    at: &mut usize,
+) -> u32
+    ensures { λ n. ⌜ tableGiven n (now (at .exit)) (now (table .exit))
+        ≡ tableTold (now (at .entry)) (removed job (now (table .entry)) (addressAt (now (listed .entry)) 0)) ⌝ }
+{
+    let placed = table::remove(job, table, address(listed, 0));
+    give_entry(at, placed)
+}
+
+// By the exported reading, so that the compiler goes on putting `receive::read` into that one. No state has a part in what it answers.
+#[no_mangle]
+pub extern "C" fn fenhamper_screen_data<'a>(
+    s: &[u8; 24],
+    job: u8,
+    table: &[u8; 128],
+    octets0: &'a [u8],
+    marks0: &'a [u8],
+    octets1: &'a [u8],
+    marks1: &'a [u8],
+    place: usize,
+    part: &mut [u64; 2],
+) -> u32
+    ensures { λ n. ⌜ partGiven n (now (part .exit))
+        ≡ partTold (screenAnswer (settingsOf (now (s .entry))) job (entriesOf (now (table .entry)))
+        (now (octets0 .entry)) (now (marks0 .entry)) (now (octets1 .entry)) (now (marks1 .entry)) place) ⌝ }
+{
+    let octets = jobs::of_job(job, octets0, octets1);
+    let marks = jobs::of_job(job, marks0, marks1);
+    let mut state = [0u64; 24];
+    let mut read = [0u64; 12];
+    fenhamper_read(s, job, table, &mut state, octets, marks, place, &mut read);
+    *part = [read[6], read[7]];
+    (read[0] % 4294967296) as u32
 }

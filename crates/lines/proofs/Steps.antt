@@ -13,13 +13,16 @@ use Rattle.station.specs.declared.Refusal.{Refusal}
 use Rattle.station.specs.declared.Part.{Part}
 use Rattle.station.specs.Numbers.{outcomeNumber}
 use Rattle.station.specs.Station.{fresh}
+use Rattle.table.specs.declared.Entry.{Entry}
+use Rattle.table.specs.Entries.{entriesOf}
+use Rattle.table.specs.Calls.{emptyTable}
 use Rattle.receive.specs.declared.Answer.{Answer}
 use Rattle.receive.specs.declared.Answer.the-variants.{Refused, Nothing, Open, Counted}
 use Rattle.receive.specs.declared.Reading.{Reading}
 use Rattle.receive.specs.Reading.{reading}
 use Rattle.receive.specs.Values.{isCounted}
 use Rattle.receive.specs.Walk.{readingsFrom, walk}
-use Rattle.lines.specs.Lines.{programSettings, fourNumbers, lastLine, linesOf, captureLines}
+use Rattle.lines.specs.Lines.{programSettings, programTable, fourNumbers, lastLine, linesOf, captureLines}
 
 module _ (n : ℕ) (r : Reading) (rs : List Reading) where
   line-counted : (o : Outcome) (w : ℕ) (p : Part) (v : ℕ) → r .answer ≡ Counted o w p v
@@ -39,42 +42,42 @@ module _ (n : ℕ) (r : Reading) (rs : List Reading) where
   unfolding linesOf
   line-open e = rw e
 
-module _ (n : ℕ) (s : Settings) (st : State) (os ms : List ℕ) (p : ℕ) (left : ℕ) (more : 0 < left) (r : Reading) (is : r ≡ reading s st os ms p) where
+module _ (n : ℕ) (s : Settings) (job : ℕ) (es : List Entry) (st : State) (os ms : List ℕ) (p : ℕ) (left : ℕ) (more : 0 < left) (r : Reading) (is : r ≡ reading s job es st os ms p) where
   abbrev after : List Reading
-  after = elim (isCounted (r .answer)) [ true ↦ readingsFrom (left - 1) s (r .state) os ms (r .next) | false ↦ [] ]
+  after = elim (isCounted (r .answer)) [ true ↦ readingsFrom (left - 1) s job es (r .state) os ms (r .next) | false ↦ [] ]
 
-  from-here : readingsFrom left s st os ms p ≡ r ∷ after
+  from-here : readingsFrom left s job es st os ms p ≡ r ∷ after
   unfolding readingsFrom
   from-here =
       let e : left ≡ suc (left - 1) = omega arith in
-      ap (λ (k : ℕ). readingsFrom k s st os ms p) e
-      ∙ ap (λ (q : Reading). q ∷ elim (isCounted (q .answer)) [ true ↦ readingsFrom (left - 1) s (q .state) os ms (q .next) | false ↦ [] ]) (sym is)
+      ap (λ (k : ℕ). readingsFrom k s job es st os ms p) e
+      ∙ ap (λ (q : Reading). q ∷ elim (isCounted (q .answer)) [ true ↦ readingsFrom (left - 1) s job es (q .state) os ms (q .next) | false ↦ [] ]) (sym is)
 
   pub lines-counted : (o : Outcome) (w : ℕ) (q : Part) (v : ℕ) → r .answer ≡ Counted o w q v
-      → linesOf n (readingsFrom left s st os ms p)
-      ≡ fourNumbers (r .start) (outcomeNumber o) w (q .len) ++ linesOf (n + 1) (readingsFrom (left - 1) s (r .state) os ms (r .next))
+      → linesOf n (readingsFrom left s job es st os ms p)
+      ≡ fourNumbers (r .start) (outcomeNumber o) w (q .len) ++ linesOf (n + 1) (readingsFrom (left - 1) s job es (r .state) os ms (r .next))
   lines-counted o w q v e =
       let counts : isCounted (r .answer) ≡ true = ap isCounted e in
       ap (linesOf n)
       (from-here
-      ∙ ap (λ (b : Bool). r ∷ elim b [ true ↦ readingsFrom (left - 1) s (r .state) os ms (r .next) | false ↦ [] ]) counts)
-      ∙ line-counted n r (readingsFrom (left - 1) s (r .state) os ms (r .next)) o w q v e
+      ∙ ap (λ (b : Bool). r ∷ elim b [ true ↦ readingsFrom (left - 1) s job es (r .state) os ms (r .next) | false ↦ [] ]) counts)
+      ∙ line-counted n r (readingsFrom (left - 1) s job es (r .state) os ms (r .next)) o w q v e
 
-  pub lines-refused : (x : Refusal) → r .answer ≡ Refused x → linesOf n (readingsFrom left s st os ms p) ≡ lastLine n 0
+  pub lines-refused : (x : Refusal) → r .answer ≡ Refused x → linesOf n (readingsFrom left s job es st os ms p) ≡ lastLine n 0
   lines-refused x e = ap (linesOf n) from-here ∙ line-refused n r after x e
 
-  pub lines-nothing : r .answer ≡ Nothing → linesOf n (readingsFrom left s st os ms p) ≡ lastLine n 0
+  pub lines-nothing : r .answer ≡ Nothing → linesOf n (readingsFrom left s job es st os ms p) ≡ lastLine n 0
   lines-nothing e = ap (linesOf n) from-here ∙ line-nothing n r after e
 
-  pub lines-open : r .answer ≡ Open → linesOf n (readingsFrom left s st os ms p) ≡ lastLine n 1
+  pub lines-open : r .answer ≡ Open → linesOf n (readingsFrom left s job es st os ms p) ≡ lastLine n 1
   lines-open e = ap (linesOf n) from-here ∙ line-open n r after e
 
 -- no reading is left
-pub lines-none : (n : ℕ) (s : Settings) (st : State) (os ms : List ℕ) (p : ℕ) → linesOf n (readingsFrom 0 s st os ms p) ≡ lastLine n 0
+pub lines-none : (n : ℕ) (s : Settings) (job : ℕ) (es : List Entry) (st : State) (os ms : List ℕ) (p : ℕ) → linesOf n (readingsFrom 0 s job es st os ms p) ≡ lastLine n 0
 unfolding readingsFrom linesOf
-lines-none n s st os ms p = refl
+lines-none n s job es st os ms p = refl
 
 -- the lines of a capture, from the first reading on
-pub lines-all : (os ms : List ℕ) → linesOf 0 (readingsFrom (length os + 1) programSettings fresh os ms 0) ≡ captureLines os ms
-unfolding captureLines walk
+pub lines-all : (os ms : List ℕ) → linesOf 0 (readingsFrom (length os + 1) programSettings 0 (entriesOf emptyTable) fresh os ms 0) ≡ captureLines os ms
+unfolding captureLines walk programTable
 lines-all os ms = refl

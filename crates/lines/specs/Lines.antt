@@ -4,11 +4,13 @@ use mathlib.Core.Bool.{Bool, true, false, cond, not, _||_}
 use mathlib.Core.List.{List, [], _∷_, _++_}
 use lib.ListN.{length}
 use lib.Dec.{eqb, ltb}
-use Rattle.station.specs.declared.Address.{Address}
 use Rattle.station.specs.declared.Settings.{Settings}
 use Rattle.station.specs.declared.Flow.the-variants.{Off}
 use Rattle.station.specs.Numbers.{outcomeNumber}
 use Rattle.station.specs.Station.{fresh}
+use Rattle.table.specs.declared.Entry.{Entry}
+use Rattle.table.specs.Entries.{entriesOf}
+use Rattle.table.specs.Calls.{emptyTable}
 use Rattle.receive.specs.declared.Answer.{Answer}
 use Rattle.receive.specs.declared.Answer.the-variants.{Refused, Nothing, Open, Counted}
 use Rattle.receive.specs.declared.Reading.{Reading}
@@ -21,17 +23,11 @@ space = 32
 abbrev pub newline : ℕ
 newline = 10
 
--- what stands in the list of addresses beyond its count
-abbrev pub nobody : Address
-nobody = record { 0 = 0 ∷ 0 ∷ 0 ∷ 0 ∷ 0 ∷ 0 ∷ [] }
-
 -- "Settings: own 02-00-00-00-00-01, none listed, broadcast on, promiscuous off, checking on, M 1518, flow none, `pass control` off."
 unfoldable pub programSettings : Settings
 programSettings =
     record {
       own = record { 0 = 2 ∷ 0 ∷ 0 ∷ 0 ∷ 0 ∷ 1 ∷ [] };
-      listed = nobody ∷ nobody ∷ nobody ∷ nobody ∷ [];
-      count = 0;
       broadcast = true;
       promiscuous = false;
       checking = true;
@@ -39,6 +35,13 @@ programSettings =
       flow = Off;
       passing = false;
     }
+
+-- "none listed": the program is job 0, with a table that nobody holds an entry of (document 02, item 10)
+abbrev pub programJob : ℕ
+programJob = 0
+
+unfoldable pub programTable : List Entry
+programTable = entriesOf emptyTable
 
 -- a number and the octet after it
 unfoldable pub followed : ℕ → ℕ → List ℕ
@@ -67,7 +70,7 @@ linesOf n (r ∷ rs) =
 
 -- what is printed of a capture: the lines of its whole walk, from a fresh state
 unfoldable pub captureLines : List ℕ → List ℕ → List ℕ
-captureLines os ms = linesOf 0 (walk programSettings fresh os ms)
+captureLines os ms = linesOf 0 (walk programSettings programJob programTable fresh os ms)
 
 -- "records of two octets, mark then octet": the marks and the octets of whole records
 unfoldable pub recordMarks : List ℕ → List ℕ

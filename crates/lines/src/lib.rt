@@ -79,11 +79,8 @@ pub fn put_last(out: &mut [u8], at: usize, n: u64, opened: u64) -> usize
 pub fn settings() -> Settings
     ensures { λ r. ⌜ r ≡ programSettings ⌝ }
 {
-    let nobody = Address([0, 0, 0, 0, 0, 0]);
     Settings {
         own: Address([2, 0, 0, 0, 0, 1]),
-        listed: [nobody, nobody, nobody, nobody],
-        count: 0,
         broadcast: true,
         promiscuous: false,
         checking: true,
@@ -110,13 +107,14 @@ fn put_lines(octets: &[u8], marks: &[u8], out: &mut [u8]) -> usize
     ensures { λ r. ⌜ r ≤ length (now (out .entry)) ⌝ }
 {
     let s = settings();
+    let none = table::empty();
     let mut st = station::fresh_state();
     let mut place: usize = 0;
     let mut n: u64 = 0;
     let mut at: usize = 0;
     let mut left = octets.len() + 1;
     while 0 < left {
-        let r = receive::read(s, st, octets, marks, place);
+        let r = receive::read(s, 0, &none, st, octets, marks, place);
         let a = r.answer;
         match a {
             Answer::Refused(_) => return put_last(out, at, n, 0),

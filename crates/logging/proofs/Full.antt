@@ -10,6 +10,7 @@ use Rattle.station.specs.declared.Settings.{Settings}
 use Rattle.station.specs.declared.State.{State}
 use Rattle.station.specs.declared.Part.{Part}
 use Rattle.station.specs.declared.Outcome.{Outcome}
+use Rattle.table.specs.declared.Entry.{Entry}
 use Rattle.log.specs.declared.LogRefusal.{LogRefusal}
 use Rattle.log.specs.declared.LogRefusal.the-variants.{BadLog, LogFull, NotUsed}
 use Rattle.log.specs.declared.Logged.{Logged}
@@ -52,18 +53,19 @@ some-refusal NotUsed = omega arith
 
 -- ---- one turn
 
-module _ (s : Settings) (os ms : List ℕ) where
+module _ (s : Settings) (job : ℕ) (es : List Entry) (os ms : List ℕ) where
   abbrev Stops : ℕ → State → ℕ → Type 0
   Stops most st p =
-      (n : ℕ) (l : List ℕ) → keepFrom most s st os ms p n l .given .end ≡ Full → StopsFull most s st os ms p n l (keepFrom most s st os ms p n l)
+      (n : ℕ) (l : List ℕ) → keepFrom most s job es st os ms p n l .given .end ≡ Full
+      → StopsFull most s job es st os ms p n l (keepFrom most s job es st os ms p n l)
 
   module _ (most : ℕ) (st : State) (p : ℕ) where
     abbrev r : Reading
-    r = reading s st os ms p
+    r = reading s job es st os ms p
 
     -- no record is unused: nothing was made
     stops-here : (n : ℕ) (l : List ℕ) → isCounted (r .answer) ≡ true → (x : LogRefusal) → appending l (recordOfReading r) .given ≡ Logged.Refused x
-        → StopsFull (suc most) s st os ms p n l (stopped Full st p n l)
+        → StopsFull (suc most) s job es st os ms p n l (stopped Full st p n l)
     unfolding AllCounted appendAll
     stops-here n l is x e =
         let less : suc most - 0 ≡ suc most = omega arith in
@@ -74,14 +76,14 @@ module _ (s : Settings) (os ms : List ℕ) where
           counted = tt;
           kept = none;
           log = refl;
-          further = ap (λ (m : ℕ). readingsFrom m s st os ms p) (sym less);
+          further = ap (λ (m : ℕ). readingsFrom m s job es st os ms p) (sym less);
           next = is;
           full = subst (λ (g : Logged). 0 < loggedRefusal g) (sym e) some;
         }
 
     -- the reading is kept, and the rest stops so
     stops-later : (n : ℕ) (l : List ℕ) (k : Keeping) → isCounted (r .answer) ≡ true
-        → StopsFull most s (r .state) os ms (r .next) (n + 1) (appending l (recordOfReading r) .log) k → StopsFull (suc most) s st os ms p n l k
+        → StopsFull most s job es (r .state) os ms (r .next) (n + 1) (appending l (recordOfReading r) .log) k → StopsFull (suc most) s job es st os ms p n l k
     unfolding AllCounted appendAll
     stops-later n l k is t =
         let less : most - length (t .made) ≡ suc most - suc (length (t .made)) = omega arith in
@@ -91,54 +93,59 @@ module _ (s : Settings) (os ms : List ℕ) where
           counted = (is, t .counted);
           kept = t .kept ∙ one;
           log = t .log;
-          further = readings-on most s st os ms p is
+          further = readings-on most s job es st os ms p is
               ∙ ap (λ (x : List Reading). r ∷ x)
-              (t .further ∙ ap (λ (m : ℕ). t .made ++ readingsFrom m s (k .given .state) os ms (k .given .next)) less);
+              (t .further ∙ ap (λ (m : ℕ). t .made ++ readingsFrom m s job es (k .given .state) os ms (k .given .next)) less);
           next = t .next;
           full = t .full;
         }
 
     -- a turn that does not stop so
-    not-full : (n : ℕ) (l : List ℕ) (e : LogEnd) → isFull e ≡ 0 → keepFrom (suc most) s st os ms p n l .given .end ≡ e
-        → keepFrom (suc most) s st os ms p n l .given .end ≡ Full → StopsFull (suc most) s st os ms p n l (keepFrom (suc most) s st os ms p n l)
-    not-full n l e h g f = absurd (other-end e (keepFrom (suc most) s st os ms p n l) h g f)
+    not-full : (n : ℕ) (l : List ℕ) (e : LogEnd) → isFull e ≡ 0 → keepFrom (suc most) s job es st os ms p n l .given .end ≡ e
+        → keepFrom (suc most) s job es st os ms p n l .given .end ≡ Full
+        → StopsFull (suc most) s job es st os ms p n l (keepFrom (suc most) s job es st os ms p n l)
+    not-full n l e h g f = absurd (other-end e (keepFrom (suc most) s job es st os ms p n l) h g f)
 
     stops-turn : Stops most (r .state) (r .next) → (a : Answer) → r .answer ≡ a → Stops (suc most) st p
     unfolding isFull
     stops-turn ih (Answer.Refused x) e n l =
-        not-full n l (LogEnd.Refused (ByReading x)) refl (ap (λ (k : Keeping). k .given .end) (turn-refused s st os ms p n l (suc most) (omega arith) r refl x e))
+        not-full n l (LogEnd.Refused (ByReading x)) refl
+        (ap (λ (k : Keeping). k .given .end) (turn-refused s job es st os ms p n l (suc most) (omega arith) r refl x e))
     stops-turn ih Answer.Nothing e n l =
-        not-full n l Nothing refl (ap (λ (k : Keeping). k .given .end) (turn-none s st os ms p n l (suc most) (omega arith) r refl e))
+        not-full n l Nothing refl (ap (λ (k : Keeping). k .given .end) (turn-none s job es st os ms p n l (suc most) (omega arith) r refl e))
     stops-turn ih Answer.Open e n l =
-        not-full n l Open refl (ap (λ (k : Keeping). k .given .end) (turn-open s st os ms p n l (suc most) (omega arith) r refl e))
+        not-full n l Open refl (ap (λ (k : Keeping). k .given .end) (turn-open s job es st os ms p n l (suc most) (omega arith) r refl e))
     stops-turn ih (Counted o w q v) e n l =
         let is : isCounted (r .answer) ≡ true = ap isCounted e in
         let less : suc most - 1 ≡ most = omega arith in
         let m = appending l (recordOfReading r) .log in
-        by-appending s st os ms p n l (suc most) (omega arith) r refl o w q v e
-        (λ k. k .given .end ≡ Full → StopsFull (suc most) s st os ms p n l k)
-        (subst (λ (i : ℕ). let k : Keeping = keepFrom i s (r .state) os ms (r .next) (n + 1) m in k .given .end ≡ Full → StopsFull (suc most) s st os ms p n l k)
+        by-appending s job es st os ms p n l (suc most) (omega arith) r refl o w q v e
+        (λ k. k .given .end ≡ Full → StopsFull (suc most) s job es st os ms p n l k)
+        (subst (λ (i : ℕ). let k : Keeping = keepFrom i s job es (r .state) os ms (r .next) (n + 1) m in
+        k .given .end ≡ Full → StopsFull (suc most) s job es st os ms p n l k)
         (sym less)
-        (λ f. stops-later n l (keepFrom most s (r .state) os ms (r .next) (n + 1) m) is (ih (n + 1) m f)))
+        (λ f. stops-later n l (keepFrom most s job es (r .state) os ms (r .next) (n + 1) m) is (ih (n + 1) m f)))
         (λ x g _. stops-here n l is x g)
 
   stops-from : (most : ℕ) (st : State) (p : ℕ) → Stops most st p
   unfolding keepFrom isFull
   stops-from zero st p = λ n l f. absurd (other-end Nothing (stopped Nothing st p n l) refl refl f)
-  stops-from (suc most) st p = let r = reading s st os ms p in stops-turn most st p (stops-from most (r .state) (r .next)) (r .answer) refl
+  stops-from (suc most) st p = let r = reading s job es st os ms p in stops-turn most st p (stops-from most (r .state) (r .next)) (r .answer) refl
 
 -- ---- the claim
 
 -- a walk that is told full: it made and kept so many readings, and goes on from its state and next place as if it had not stopped
-pub full-goes-on : (s : Settings) (st : State) (os ms : List ℕ) (p : ℕ) (l : List ℕ) → walkLogged s st os ms p l .given .end ≡ Full
-    → StopsFull (length os + 1) s st os ms p 0 l (walkLogged s st os ms p l)
-full-goes-on s st os ms p l f = by-checked (first (keepRefusals s os ms p l)) refl
+pub full-goes-on : (s : Settings) (job : ℕ) (es : List Entry) (st : State) (os ms : List ℕ) (p : ℕ) (l : List ℕ)
+    → walkLogged s job es st os ms p l .given .end ≡ Full
+    → StopsFull (length os + 1) s job es st os ms p 0 l (walkLogged s job es st os ms p l)
+full-goes-on s job es st os ms p l f = by-checked (first (keepRefusals s job es os ms p l)) refl
   where
-    by-checked : (c : KeepChecked) → first (keepRefusals s os ms p l) ≡ c → StopsFull (length os + 1) s st os ms p 0 l (walkLogged s st os ms p l)
+    by-checked : (c : KeepChecked) → first (keepRefusals s job es os ms p l) ≡ c
+        → StopsFull (length os + 1) s job es st os ms p 0 l (walkLogged s job es st os ms p l)
     by-checked (KeepChecked.Refused x) e =
-        absurd (other-end (LogEnd.Refused x) (walkLogged s st os ms p l) (unfold isFull in refl)
-        (ap (λ (k : Keeping). k .given .end) (walk-refused s st os ms p l x e)) f)
+        absurd (other-end (LogEnd.Refused x) (walkLogged s job es st os ms p l) (unfold isFull in refl)
+        (ap (λ (k : Keeping). k .given .end) (walk-refused s job es st os ms p l x e)) f)
     by-checked KeepChecked.Fine e =
-        let h = walk-fine s st os ms p l e in
-        subst (StopsFull (length os + 1) s st os ms p 0 l) (sym h)
-        (stops-from s os ms (length os + 1) st p 0 l (sym (ap (λ (k : Keeping). k .given .end) h) ∙ f))
+        let h = walk-fine s job es st os ms p l e in
+        subst (StopsFull (length os + 1) s job es st os ms p 0 l) (sym h)
+        (stops-from s job es os ms (length os + 1) st p 0 l (sym (ap (λ (k : Keeping). k .given .end) h) ∙ f))

@@ -5,6 +5,7 @@ use native.Mathlib.Omega.{arith}
 use mathlib.Core.Path.{_≡_, refl, sym, ap, ap₂, _∙_, subst}
 use mathlib.Core.Bool.{true, false, false≢true}
 use mathlib.Core.List.{List, [], _∷_}
+use mathlib.Core.Option.{Option}
 use lib.ListN.{length, getD}
 use denote.Enum.Declared.{tagOf}
 use types.Run.{OneOf, miss}
@@ -14,6 +15,7 @@ use Rattle.line.specs.Line.{capture, findStart, findControl, overwrite}
 use Rattle.line.specs.Octets.{between}
 use Rattle.line.specs.Table.{first}
 use Rattle.line.proofs.Places.{control-found}
+use Rattle.station.specs.declared.Address.{Address}
 use Rattle.station.specs.declared.Settings.{Settings}
 use Rattle.station.specs.declared.State.{State}
 use Rattle.station.specs.declared.Part.{Part}
@@ -27,6 +29,8 @@ use Rattle.fields.specs.declared.Layout.{Layout}
 use Rattle.fields.specs.Places.{layoutOf}
 use Rattle.fields.proofs.Places.{layout-tags, layout-place}
 use Rattle.frame.specs.Frame.{dataFrom, frameData}
+use Rattle.table.specs.declared.Entry.{Entry}
+use Rattle.table.specs.Entries.{mine}
 use Rattle.control.specs.Control.{wayCarried}
 use Rattle.outcome.specs.Outcomes.{outcome, frameOf}
 use Rattle.outcome.specs.Status.{status, statusOf}
@@ -68,9 +72,9 @@ tells-none HandedOut h = absurd (miss oneToSeven 10 tt h)
 
 -- ---- the record of a frame
 
-module _ (s : Settings) (i : ℕ) (f : List ℕ) where
+module _ (s : Settings) (own : List (Option Address)) (i : ℕ) (f : List ℕ) where
   -- an outcome that says nothing: status word 0, and nothing handed out
-  pub untold : (o : Outcome) → byOutcome o false true true true true ≡ false → recordAt i (outcomeNumber o) 0 0 0 ≡ recordOfFrame s i f o
+  pub untold : (o : Outcome) → byOutcome o false true true true true ≡ false → recordAt i (outcomeNumber o) 0 0 0 ≡ recordOfFrame s own i f o
   unfolding recordOfFrame handedPart status statusOf wayCarried
   untold Cut h = refl
   untold BadPreamble h = refl
@@ -92,29 +96,32 @@ module _ (s : Settings) (i : ℕ) (f : List ℕ) where
   none-handed o h = ap (λ (p : Part). p .len) (no-part (s .checking) o (i + 8) f (layoutOf f) h ∙ part-laid s (i + 8) f o)
 
   -- by the frame's layout: the number of the address, so many octets handed out, and the word
-  pub laid-record : (o : Outcome) (l : Layout) (v h w : ℕ) → l ≡ layoutOf f → v ≡ wayCarried s o f → h ≡ handedPart s o (i + 8) f .len
-      → w ≡ statusOf o f (l .tags) (length (dataFrom (l .place) f)) h → recordAt i (outcomeNumber o) v h w ≡ recordOfFrame s i f o
+  pub laid-record : (o : Outcome) (l : Layout) (v h w : ℕ) → l ≡ layoutOf f → v ≡ wayCarried s own o f → h ≡ handedPart s o (i + 8) f .len
+      → w ≡ statusOf o f (l .tags) (length (dataFrom (l .place) f)) h → recordAt i (outcomeNumber o) v h w ≡ recordOfFrame s own i f o
   unfolding recordOfFrame status frameData
   laid-record o l v h w e a g t =
       ap (λ (x : ℕ). recordAt i (outcomeNumber o) x h w) a
-      ∙ ap₂ (recordAt i (outcomeNumber o) (wayCarried s o f)) g
+      ∙ ap₂ (recordAt i (outcomeNumber o) (wayCarried s own o f)) g
       (word-of o t refl (layout-tags l f e) (ap (λ (p : ℕ). length (dataFrom p f)) (layout-place l f e)) g ∙ part-told s (i + 8) f o _ _)
 
   -- it has an outcome
-  frame-some : (o : Outcome) → recordOfFrame s i f o .outcome ≡ 0 → ⊥
+  frame-some : (o : Outcome) → recordOfFrame s own i f o .outcome ≡ 0 → ⊥
   unfolding recordOfFrame
   frame-some o = number-some o
 
 -- ---- one turn of the loop
 
-module _ (s : Settings) (os ms : List ℕ) (p : ℕ) (fine : first (readRefusals s os ms p) ≡ Fine) where
+module _ (s : Settings) (job : ℕ) (es : List Entry) (os ms : List ℕ) (p : ℕ) (fine : first (readRefusals s job es os ms p) ≡ Fine) where
+  abbrev own : List (Option Address)
+  own = mine job es
+
   module _ (st : State) (n : ℕ) (l : List ℕ) (left : ℕ) (more : 0 < left) where
-    pub loop-none : findStart (capture os ms) p ≡ Found.Nothing → keepFrom left s st os ms p n l ≡ stopped Nothing st (length os) n l
-    loop-none h = turn-none s st os ms p n l left more _ (sym (read-none s st os ms p fine h)) refl
+    pub loop-none : findStart (capture os ms) p ≡ Found.Nothing → keepFrom left s job es st os ms p n l ≡ stopped Nothing st (length os) n l
+    loop-none h = turn-none s job es st os ms p n l left more _ (sym (read-none s job es st os ms p fine h)) refl
 
     pub loop-open : (i : ℕ) → findStart (capture os ms) p ≡ At i → findControl (capture os ms) (i + 1) ≡ Found.Nothing
-        → keepFrom left s st os ms p n l ≡ stopped Open st i n l
-    loop-open i g h = turn-open s st os ms p n l left more _ (sym (read-open s st os ms p fine i g h)) refl
+        → keepFrom left s job es st os ms p n l ≡ stopped Open st i n l
+    loop-open i g h = turn-open s job es st os ms p n l left more _ (sym (read-open s job es st os ms p fine i g h)) refl
 
   -- a Start at i whose run is ended at e
   module _ (i : ℕ) (found : findStart (capture os ms) p ≡ At i) (e : ℕ) (end : findControl (capture os ms) (i + 1) ≡ At e) where
@@ -122,47 +129,47 @@ module _ (s : Settings) (os ms : List ℕ) (p : ℕ) (fine : first (readRefusals
     run = between os (i + 1) e
 
     abbrev becomes : Outcome
-    becomes = outcome s run (getD os e 0)
+    becomes = outcome s own run (getD os e 0)
 
     abbrev kept : Record
-    kept = recordOfFrame s i (frameOf run) becomes
+    kept = recordOfFrame s own i (frameOf run) becomes
 
     next-is : i + 1 + length run ≡ e
     next-is =
-        let c = control-found os ms (passed s os ms p fine .even) (i + 1) e end in
+        let c = control-found os ms (passed s job es os ms p fine .even) (i + 1) e end in
         let k = run-length os (i + 1) e (omega arith) in
         omega arith
 
     module _ (st : State) where
       abbrev read : Reading
-      read = readRun s st i run becomes
+      read = readRun s own st i run becomes
 
-      is : read ≡ reading s st os ms p
-      is = sym (read-ended s st os ms p fine i found e end)
+      is : read ≡ reading s job es st os ms p
+      is = sym (read-ended s job es st os ms p fine i found e end)
 
       same : recordOfReading read ≡ kept
       unfolding recordOfReading readRun recordOfFrame
       same = refl
 
       module _ (n : ℕ) (l : List ℕ) (left : ℕ) (more : 0 < left) (good : IsMultiple l) where
-        pub loop-full : frontCount l ≡ length l / 16 → keepFrom left s st os ms p n l ≡ stopped Full st p n l
+        pub loop-full : frontCount l ≡ length l / 16 → keepFrom left s job es st os ms p n l ≡ stopped Full st p n l
         unfolding readRun
-        loop-full h = turn-full s st os ms p n l left more read is becomes _ _ _ refl good h
+        loop-full h = turn-full s job es st os ms p n l left more read is becomes _ _ _ refl good h
 
         pub loop-kept : (k : ℕ) → k ≡ frontCount l → k < length l / 16
-            → keepFrom left s st os ms p n l
-            ≡ keepFrom (left - 1) s (stateAfter becomes (frameOf run) st) os ms e (n + 1) (overwrite l (16 * k) (octetsOfRecord kept))
+            → keepFrom left s job es st os ms p n l
+            ≡ keepFrom (left - 1) s job es (stateAfter becomes (frameOf run) st) os ms e (n + 1) (overwrite l (16 * k) (octetsOfRecord kept))
         unfolding readRun
         loop-kept k h lt =
-            turn-kept s st os ms p n l left more read is becomes _ _ _ refl good k h lt
+            turn-kept s job es st os ms p n l left more read is becomes _ _ _ refl good k h lt
             ∙ ap₂ (λ (next : ℕ) (x : Record).
-            keepFrom (left - 1) s (stateAfter becomes (frameOf run) st) os ms next (n + 1) (overwrite l (16 * k) (octetsOfRecord x)))
+            keepFrom (left - 1) s job es (stateAfter becomes (frameOf run) st) os ms next (n + 1) (overwrite l (16 * k) (octetsOfRecord x)))
             next-is same
 
     -- behind its record the search for the next unused one goes on
-    pub loop-next : (l : List ℕ) (k : ℕ) → 16 * k + 16 ≤ length l → k ≡ frontCount l
+    pub loop-next : length es ≤ 16 → (l : List ℕ) (k : ℕ) → 16 * k + 16 ≤ length l → k ≡ frontCount l
         → let m : List ℕ = overwrite l (16 * k) (octetsOfRecord kept) in unusedFrom m (k + 1) ≡ frontCount m
-    loop-next l k h g =
+    loop-next few l k h g =
         let st : State = record { counters = []; timers = []; deficit = 0 } in
-        let fits : Fits kept = subst Fits (sym (ap recordOfReading (is st)) ∙ same st) (reading-fits s st os ms p fine) in
-        next-unused l k kept fits (frame-some s i (frameOf run) becomes) h g
+        let fits : Fits kept = subst Fits (sym (ap recordOfReading (is st)) ∙ same st) (reading-fits s job es st os ms p fine few) in
+        next-unused l k kept fits (frame-some s own i (frameOf run) becomes) h g

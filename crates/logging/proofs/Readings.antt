@@ -5,6 +5,7 @@ use native.Mathlib.Nat.{mod-eq-of-lt, mod-lt}
 use mathlib.Core.Path.{_≡_, refl, sym, subst}
 use mathlib.Core.Bool.{Bool, true, false, not, _&&_, false≢true}
 use mathlib.Core.List.{List}
+use mathlib.Core.Option.{Option}
 use lib.ListN.{length, getD, length-take, length-drop}
 use lib.Dec.{eqb, leb, lit<}
 use Rattle.line.specs.declared.Found.{Found}
@@ -13,6 +14,7 @@ use Rattle.line.specs.Line.{capture, findStart, findControl}
 use Rattle.line.specs.Octets.{between, sameOctets}
 use Rattle.line.specs.Table.{first}
 use Rattle.line.proofs.Places.{start-found, control-found}
+use Rattle.station.specs.declared.Address.{Address}
 use Rattle.station.specs.declared.Settings.{Settings}
 use Rattle.station.specs.declared.State.{State}
 use Rattle.station.specs.declared.Outcome.{Outcome}
@@ -24,6 +26,9 @@ use Rattle.station.specs.Station.{isGroup}
 use Rattle.fields.specs.Fields.{destination, dataPlace, field}
 use Rattle.fields.specs.Tags.{tagCount}
 use Rattle.address.specs.Address.{broadcastAddress}
+use Rattle.table.specs.declared.Entry.{Entry}
+use Rattle.table.specs.Entries.{mine}
+use Rattle.table.proofs.Entries.{length-mine}
 use Rattle.control.specs.Control.{isControlFrame}
 use Rattle.control.proofs.Ways.{way-carried-le}
 use Rattle.frame.specs.Frame.{frameData}
@@ -37,7 +42,7 @@ use Rattle.receive.specs.declared.Reading.{Reading}
 use Rattle.receive.specs.Values.{isCounted, answerPart, answerOutcome, answerStatus, answerRefusal, answerWay}
 use Rattle.receive.specs.Reading.{readRefusals, reading, readRun, handedPart}
 use Rattle.receive.proofs.Cases.{read-none, read-open, read-ended}
-use Rattle.receive.proofs.Refusals.{Passed, passed, own-and-few}
+use Rattle.receive.proofs.Refusals.{Passed, passed}
 use Rattle.log.specs.Claims.{Fits}
 use Rattle.logging.specs.Records.{recordOfReading, Whole}
 
@@ -111,12 +116,12 @@ part-small s HandedOut at f h = let k = handed-small (s .checking) f in omega ar
 
 -- ---- a reading that is not refused
 
--- what is known of a reading r at place p: sizes, and that one which counts a Start moves on and stays inside
-pub record Sound (os : List ℕ) (p : ℕ) (r : Reading) : Type 0 where
+-- what is known of a reading r at place p, of a job with these entries: sizes, and that one which counts a Start moves on and stays inside
+pub record Sound (own : List (Option Address)) (os : List ℕ) (p : ℕ) (r : Reading) : Type 0 where
   pub place : r .start ≤ 65536
   pub handed : answerPart (r .answer) .len ≤ 65535
   pub status : answerStatus (r .answer) < 2 ^ 64
-  pub way : answerWay (r .answer) < 2 ^ 8
+  pub way : length own ≤ 16 → answerWay (r .answer) < 2 ^ 8
   pub refused : answerRefusal (r .answer) ≡ 0
   pub on : isCounted (r .answer) ≡ true → (p < r .next) × (r .next < length os)
 
@@ -124,69 +129,73 @@ pub run-length : (os : List ℕ) (i e : ℕ) → e ≤ length os → length (bet
 unfolding between
 run-length os i e h = simp (length-take, length-drop) (omega arith)
 
-run-sound : (s : Settings) (st : State) (os : List ℕ) (p i : ℕ) (run : List ℕ) (o : Outcome) → s .count ≤ 4 → p ≤ i → i + 1 + length run < length os → length os ≤ 65536
-    → Sound os p (readRun s st i run o)
+run-sound : (s : Settings) (own : List (Option Address)) (st : State) (os : List ℕ) (p i : ℕ) (run : List ℕ) (o : Outcome) → p ≤ i
+    → i + 1 + length run < length os → length os ≤ 65536 → Sound own os p (readRun s own st i run o)
 unfolding readRun
-run-sound s st os p i run o few low high small =
+run-sound s own st os p i run o low high small =
     let f : length (frameOf run) ≤ 65535 = (let w = frame-le run in omega arith) in
     record {
       place = omega arith;
       handed = part-small s o (i + 8) (frameOf run) f;
       status = status-small s o (frameOf run) f;
-      way = (let w = way-carried-le s (frameOf run) few o in omega arith);
+      way = λ few. (let w = way-carried-le s own (frameOf run) few o in omega arith);
       refused = refl;
       on = λ z. (omega arith, omega arith);
     }
 
-module _ (s : Settings) (st : State) (os ms : List ℕ) (p : ℕ) (fine : first (readRefusals s os ms p) ≡ Fine) where
-  pub reading-sound : Sound os p (reading s st os ms p)
+module _ (s : Settings) (job : ℕ) (es : List Entry) (st : State) (os ms : List ℕ) (p : ℕ) (fine : first (readRefusals s job es os ms p) ≡ Fine) where
+  abbrev own : List (Option Address)
+  own = mine job es
+
+  pub reading-sound : Sound own os p (reading s job es st os ms p)
   reading-sound = by-start (findStart (capture os ms) p) refl
     where
-      k : Passed s os ms p
-      k = passed s os ms p fine
+      k : Passed s job es os ms p
+      k = passed s job es os ms p fine
 
-      by-end : (i : ℕ) → findStart (capture os ms) p ≡ At i → (f : Found) → findControl (capture os ms) (i + 1) ≡ f → Sound os p (reading s st os ms p)
+      by-end : (i : ℕ) → findStart (capture os ms) p ≡ At i → (f : Found) → findControl (capture os ms) (i + 1) ≡ f
+          → Sound own os p (reading s job es st os ms p)
       by-end i g Found.Nothing h =
           let b = start-found os ms (k .even) p i g in
           let small = k .small in
-          subst (Sound os p) (sym (read-open s st os ms p fine i g h))
-          (record { place = omega arith; handed = omega arith; status = lit< tt; way = lit< tt; refused = refl; on = λ z. absurd (false≢true z) })
+          subst (Sound own os p) (sym (read-open s job es st os ms p fine i g h))
+          (record { place = omega arith; handed = omega arith; status = lit< tt; way = λ _. lit< tt; refused = refl; on = λ z. absurd (false≢true z) })
       by-end i g (At e) h =
           let b = start-found os ms (k .even) p i g in
           let d = control-found os ms (k .even) (i + 1) e h in
           let small = k .small in
           let run = between os (i + 1) e in
           let n = run-length os (i + 1) e (omega arith) in
-          subst (Sound os p) (sym (read-ended s st os ms p fine i g e h))
-          (run-sound s st os p i run (outcome s run (getD os e 0)) (own-and-few s (k .valid) .1) (omega arith) (omega arith) (omega arith))
+          subst (Sound own os p) (sym (read-ended s job es st os ms p fine i g e h))
+          (run-sound s own st os p i run (outcome s own run (getD os e 0)) (omega arith) (omega arith) (omega arith))
 
-      by-start : (f : Found) → findStart (capture os ms) p ≡ f → Sound os p (reading s st os ms p)
+      by-start : (f : Found) → findStart (capture os ms) p ≡ f → Sound own os p (reading s job es st os ms p)
       by-start Found.Nothing g =
           let small = k .small in
-          subst (Sound os p) (sym (read-none s st os ms p fine g))
-          (record { place = omega arith; handed = omega arith; status = lit< tt; way = lit< tt; refused = refl; on = λ z. absurd (false≢true z) })
+          subst (Sound own os p) (sym (read-none s job es st os ms p fine g))
+          (record { place = omega arith; handed = omega arith; status = lit< tt; way = λ _. lit< tt; refused = refl; on = λ z. absurd (false≢true z) })
       by-start (At i) g = by-end i g (findControl (capture os ms) (i + 1)) refl
 
   -- nothing of it is cut off
-  pub reading-whole : Whole (reading s st os ms p)
+  pub reading-whole : Whole (reading s job es st os ms p)
   unfolding recordOfReading
   reading-whole =
-      let r = reading s st os ms p in
+      let r = reading s job es st os ms p in
       let a = reading-sound .place in
       let b = reading-sound .handed in
       let place : r .start < 2 ^ 32 = omega arith in
       let handed : answerPart (r .answer) .len < 2 ^ 16 = omega arith in
       record { place = mod-eq-of-lt place; handed = mod-eq-of-lt handed }
 
-  -- its record's fields have their widths
-  pub reading-fits : Fits (recordOfReading (reading s st os ms p))
+  -- its record's fields have their widths, with a table of 16 entries
+  pub reading-fits : length es ≤ 16 → Fits (recordOfReading (reading s job es st os ms p))
   unfolding recordOfReading
-  reading-fits =
-      let r = reading s st os ms p in
+  reading-fits few =
+      let r = reading s job es st os ms p in
       record {
         place = mod-lt (r .start) (lit< tt);
         outcome = answer-small (r .answer);
-        way = reading-sound .way;
+        way = reading-sound .way (omega (arith, length-mine job es));
         handed = mod-lt (answerPart (r .answer) .len) (lit< tt);
         status = reading-sound .status;
       }

@@ -11,7 +11,8 @@ use Rattle.station.specs.declared.Settings.{Settings}
 use Rattle.station.specs.declared.Checked.{Checked}
 use Rattle.station.specs.declared.Refusal.{Refusal}
 use Rattle.station.proofs.Refusals.{fine-row}
-use Rattle.station.specs.declared.Refusal.the-variants.{BadSettings, BadBuffers, BadPlace}
+use Rattle.station.specs.declared.Refusal.the-variants.{BadSettings, BadBuffers, BadPlace, BadJob, BadTable}
+use Rattle.table.specs.declared.Entry.{Entry}
 use Rattle.log.specs.declared.LogRefusal.the-variants.{BadLog}
 use Rattle.log.specs.Log.{badLog}
 use Rattle.log.specs.Claims.{IsMultiple}
@@ -32,41 +33,52 @@ keep-row {b} x rows h =
     by-test b (λ e. never x (sym (first-here (Refused x) rows e) ∙ h)) (λ e. (e, sym (first-next (Refused x) rows e) ∙ h))
 
 -- a reading at that place is not refused, and the log's length is a multiple of 16
-pub keep-fine : (s : Settings) (os ms : List ℕ) (p : ℕ) (l : List ℕ) → first (keepRefusals s os ms p l) ≡ Fine
-    → (first (readRefusals s os ms p) ≡ Checked.Fine) × IsMultiple l
+pub keep-fine : (s : Settings) (job : ℕ) (es : List Entry) (os ms : List ℕ) (p : ℕ) (l : List ℕ) → first (keepRefusals s job es os ms p l) ≡ Fine
+    → (first (readRefusals s job es os ms p) ≡ Checked.Fine) × IsMultiple l
 unfolding keepRefusals readRefusals
-keep-fine s os ms p l h =
+keep-fine s job es os ms p l h =
     let a = keep-row (ByReading BadSettings) _ h in
-    let b = keep-row (ByReading BadBuffers) _ (a .1) in
+    let j = keep-row (ByReading BadJob) _ (a .1) in
+    let b = keep-row (ByReading BadBuffers) _ (j .1) in
     let c = keep-row (ByReading BadPlace) _ (b .1) in
-    let d = keep-row (ByLog BadLog) _ (c .1) in (
+    let t = keep-row (ByReading BadTable) _ (c .1) in
+    let d = keep-row (ByLog BadLog) _ (t .1) in (
       first-next (Checked.Refused BadSettings) _ (a .0)
+          ∙ first-next (Checked.Refused BadJob) _ (j .0)
           ∙ first-next (Checked.Refused BadBuffers) _ (b .0)
           ∙ first-next (Checked.Refused BadPlace) _ (c .0)
+          ∙ first-next (Checked.Refused BadTable) _ (t .0)
           ∙ first-other Checked.Fine,
       good-mod l (d .0),
     )
 
 -- a log whose length is a multiple of 16: the walk is refused as a reading at that place, and goes on as it does
-module _ (s : Settings) (os ms : List ℕ) (p : ℕ) (l : List ℕ) (good : IsMultiple l) where
-  pub keep-goes : first (readRefusals s os ms p) ≡ Checked.Fine → first (keepRefusals s os ms p l) ≡ Fine
+module _ (s : Settings) (job : ℕ) (es : List Entry) (os ms : List ℕ) (p : ℕ) (l : List ℕ) (good : IsMultiple l) where
+  pub keep-goes : first (readRefusals s job es os ms p) ≡ Checked.Fine → first (keepRefusals s job es os ms p l) ≡ Fine
   unfolding keepRefusals readRefusals
   keep-goes h =
       let a = fine-row BadSettings _ h in
-      let b = fine-row BadBuffers _ (a .1) in
+      let j = fine-row BadJob _ (a .1) in
+      let b = fine-row BadBuffers _ (j .1) in
       let c = fine-row BadPlace _ (b .1) in
+      let t = fine-row BadTable _ (c .1) in
       first-next (Refused (ByReading BadSettings)) _ (a .0)
+      ∙ first-next (Refused (ByReading BadJob)) _ (j .0)
       ∙ first-next (Refused (ByReading BadBuffers)) _ (b .0)
       ∙ first-next (Refused (ByReading BadPlace)) _ (c .0)
+      ∙ first-next (Refused (ByReading BadTable)) _ (t .0)
       ∙ first-next (Refused (ByLog BadLog)) _ (good-log l good)
       ∙ first-other Fine
 
 -- and whatever the log is, a reading's refusal comes first
-pub keep-read : (s : Settings) (os ms : List ℕ) (p : ℕ) (l : List ℕ) (x : Refusal) → first (readRefusals s os ms p) ≡ Checked.Refused x
-    → first (keepRefusals s os ms p l) ≡ Refused (ByReading x)
+pub keep-read : (s : Settings) (job : ℕ) (es : List Entry) (os ms : List ℕ) (p : ℕ) (l : List ℕ) (x : Refusal)
+    → first (readRefusals s job es os ms p) ≡ Checked.Refused x
+    → first (keepRefusals s job es os ms p l) ≡ Refused (ByReading x)
 unfolding keepRefusals readRefusals
-keep-read s os ms p l x h =
-    row _ _ _ BadSettings h (λ h′. row _ _ _ BadBuffers h′ (λ h″. row _ _ _ BadPlace h″ (λ z. absurd (not-fine x (sym (first-other Checked.Fine) ∙ z)))))
+keep-read s job es os ms p l x h =
+    row _ _ _ BadSettings h
+    (λ a. row _ _ _ BadJob a
+    (λ b. row _ _ _ BadBuffers b (λ c. row _ _ _ BadPlace c (λ d. row _ _ _ BadTable d (λ z. absurd (not-fine x (sym (first-other Checked.Fine) ∙ z)))))))
   where
     not-fine : (x : Refusal) → _≡_ {A = Checked} Checked.Fine (Checked.Refused x) → ⊥
     not-fine x e = let bad : _≡_ {A = ℕ} 0 1 = cc in omega arith
@@ -81,14 +93,19 @@ keep-read s os ms p l x h =
         (λ t. first-next (Refused (ByReading z)) ks t ∙ next (sym (first-next (Checked.Refused z) ts t) ∙ g))
 
 -- a reading that is not refused, and another length: 11
-pub keep-bad : (s : Settings) (os ms : List ℕ) (p : ℕ) (l : List ℕ) → first (readRefusals s os ms p) ≡ Checked.Fine → badLog l ≡ true
-    → first (keepRefusals s os ms p l) ≡ Refused (ByLog BadLog)
+pub keep-bad : (s : Settings) (job : ℕ) (es : List Entry) (os ms : List ℕ) (p : ℕ) (l : List ℕ) → first (readRefusals s job es os ms p) ≡ Checked.Fine
+    → badLog l ≡ true
+    → first (keepRefusals s job es os ms p l) ≡ Refused (ByLog BadLog)
 unfolding keepRefusals readRefusals
-keep-bad s os ms p l h t =
+keep-bad s job es os ms p l h bad =
     let a = fine-row BadSettings _ h in
-    let b = fine-row BadBuffers _ (a .1) in
+    let j = fine-row BadJob _ (a .1) in
+    let b = fine-row BadBuffers _ (j .1) in
     let c = fine-row BadPlace _ (b .1) in
+    let t = fine-row BadTable _ (c .1) in
     first-next (Refused (ByReading BadSettings)) _ (a .0)
+    ∙ first-next (Refused (ByReading BadJob)) _ (j .0)
     ∙ first-next (Refused (ByReading BadBuffers)) _ (b .0)
     ∙ first-next (Refused (ByReading BadPlace)) _ (c .0)
-    ∙ first-here (Refused (ByLog BadLog)) _ t
+    ∙ first-next (Refused (ByReading BadTable)) _ (t .0)
+    ∙ first-here (Refused (ByLog BadLog)) _ bad

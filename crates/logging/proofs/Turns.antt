@@ -14,6 +14,7 @@ use Rattle.station.specs.declared.Outcome.the-variants.{Cut, BadPreamble, Under
 use Rattle.station.specs.declared.Outcome.the-variants.{PauseTaken, PfcTaken, ControlDropped, HandedOut}
 use Rattle.station.specs.declared.Refusal.{Refusal}
 use Rattle.station.specs.Numbers.{outcomeNumber}
+use Rattle.table.specs.declared.Entry.{Entry}
 use Rattle.log.specs.declared.Record.{Record}
 use Rattle.log.specs.declared.LogRefusal.{LogRefusal}
 use Rattle.log.specs.declared.Logged.{Logged}
@@ -64,12 +65,12 @@ next-unused l k r f h inside e = sym (count-after l k (octetsOfRecord r) (length
 
 -- ---- one turn
 
-module _ (s : Settings) (st : State) (os ms : List ℕ) (p n : ℕ) (l : List ℕ) (left : ℕ) where
+module _ (s : Settings) (job : ℕ) (es : List Entry) (st : State) (os ms : List ℕ) (p n : ℕ) (l : List ℕ) (left : ℕ) where
   -- what follows a reading r, and what follows its appending
   abbrev given : Reading → Logging → Keeping
   given r a =
       elim (a .given) [
-        | Logged.Fine ↦ keepFrom (left - 1) s (r .state) os ms (r .next) (n + 1) (a .log)
+        | Logged.Fine ↦ keepFrom (left - 1) s job es (r .state) os ms (r .next) (n + 1) (a .log)
         | Logged.Refused x ↦ stopped Full st p n l
       ]
 
@@ -82,61 +83,63 @@ module _ (s : Settings) (st : State) (os ms : List ℕ) (p n : ℕ) (l : List �
         | Counted o w q v ↦ given r (appending l (recordOfReading r))
       ]
 
-  module _ (more : 0 < left) (r : Reading) (is : r ≡ reading s st os ms p) where
-    here : keepFrom left s st os ms p n l ≡ follows r
+  module _ (more : 0 < left) (r : Reading) (is : r ≡ reading s job es st os ms p) where
+    here : keepFrom left s job es st os ms p n l ≡ follows r
     unfolding keepFrom
     here =
         let e : left ≡ suc (left - 1) = omega arith in
-        ap (λ (k : ℕ). keepFrom k s st os ms p n l) e ∙ ap follows (sym is)
+        ap (λ (k : ℕ). keepFrom k s job es st os ms p n l) e ∙ ap follows (sym is)
 
     pub turn-refused : (x : Refusal) → r .answer ≡ Answer.Refused x
-        → keepFrom left s st os ms p n l ≡ stopped (LogEnd.Refused (ByReading x)) (r .state) (r .next) n l
+        → keepFrom left s job es st os ms p n l ≡ stopped (LogEnd.Refused (ByReading x)) (r .state) (r .next) n l
     turn-refused x e = here ∙ rw e
 
-    pub turn-none : r .answer ≡ Answer.Nothing → keepFrom left s st os ms p n l ≡ stopped Nothing (r .state) (r .next) n l
+    pub turn-none : r .answer ≡ Answer.Nothing → keepFrom left s job es st os ms p n l ≡ stopped Nothing (r .state) (r .next) n l
     turn-none e = here ∙ rw e
 
-    pub turn-open : r .answer ≡ Answer.Open → keepFrom left s st os ms p n l ≡ stopped Open (r .state) (r .next) n l
+    pub turn-open : r .answer ≡ Answer.Open → keepFrom left s job es st os ms p n l ≡ stopped Open (r .state) (r .next) n l
     turn-open e = here ∙ rw e
 
     module _ (o : Outcome) (w : ℕ) (q : Part) (v : ℕ) (e : r .answer ≡ Counted o w q v) where
-      counted : keepFrom left s st os ms p n l ≡ given r (appending l (recordOfReading r))
+      counted : keepFrom left s job es st os ms p n l ≡ given r (appending l (recordOfReading r))
       counted = here ∙ rw e
 
       -- what the appending gives decides
       pub by-appending : (P : Keeping → Type 0) → let a : Logging = appending l (recordOfReading r) in
-          P (keepFrom (left - 1) s (r .state) os ms (r .next) (n + 1) (a .log))
+          P (keepFrom (left - 1) s job es (r .state) os ms (r .next) (n + 1) (a .log))
           → ((x : LogRefusal) → a .given ≡ Logged.Refused x → P (stopped Full st p n l))
-          → P (keepFrom left s st os ms p n l)
+          → P (keepFrom left s job es st os ms p n l)
       by-appending P on full = subst P (sym counted) (by-logged (a .given) refl)
         where
           a : Logging
           a = appending l (recordOfReading r)
 
           branch : Logged → Keeping
-          branch g = elim g [ Logged.Fine ↦ keepFrom (left - 1) s (r .state) os ms (r .next) (n + 1) (a .log) | Logged.Refused x ↦ stopped Full st p n l ]
+          branch g =
+              elim g [ Logged.Fine ↦ keepFrom (left - 1) s job es (r .state) os ms (r .next) (n + 1) (a .log) | Logged.Refused x ↦ stopped Full st p n l ]
 
           by-logged : (g : Logged) → a .given ≡ g → P (branch (a .given))
           by-logged Logged.Fine e = subst (λ (g : Logged). P (branch g)) (sym e) on
           by-logged (Logged.Refused x) e = subst (λ (g : Logged). P (branch g)) (sym e) (full x e)
 
-      pub turn-full : IsMultiple l → frontCount l ≡ length l / 16 → keepFrom left s st os ms p n l ≡ stopped Full st p n l
+      pub turn-full : IsMultiple l → frontCount l ≡ length l / 16 → keepFrom left s job es st os ms p n l ≡ stopped Full st p n l
       turn-full good h =
           counted
           ∙ ap (given r) (append-full l (recordOfReading r) (good-log l good) (counts-so (recordOfReading r) (counted-some r o w q v e)) (count-all l h))
 
       pub turn-kept : IsMultiple l → (k : ℕ) → k ≡ frontCount l → k < length l / 16
-          → keepFrom left s st os ms p n l
-          ≡ keepFrom (left - 1) s (r .state) os ms (r .next) (n + 1) (overwrite l (16 * k) (octetsOfRecord (recordOfReading r)))
+          → keepFrom left s job es st os ms p n l
+          ≡ keepFrom (left - 1) s job es (r .state) os ms (r .next) (n + 1) (overwrite l (16 * k) (octetsOfRecord (recordOfReading r)))
       turn-kept good k h lt = counted ∙ ap (given r) (append-at l (recordOfReading r) k good (counted-some r o w q v e) h lt)
 
 -- ---- the whole walk
 
-module _ (s : Settings) (st : State) (os ms : List ℕ) (p : ℕ) (l : List ℕ) where
-  pub walk-refused : (x : KeepRefusal) → first (keepRefusals s os ms p l) ≡ Refused x → walkLogged s st os ms p l ≡ stopped (LogEnd.Refused x) st p 0 l
+module _ (s : Settings) (job : ℕ) (es : List Entry) (st : State) (os ms : List ℕ) (p : ℕ) (l : List ℕ) where
+  pub walk-refused : (x : KeepRefusal) → first (keepRefusals s job es os ms p l) ≡ Refused x
+      → walkLogged s job es st os ms p l ≡ stopped (LogEnd.Refused x) st p 0 l
   unfolding walkLogged keepChecked
-  walk-refused x h = ap (λ (k : KeepChecked). keepChecked k s st os ms p l) h
+  walk-refused x h = ap (λ (k : KeepChecked). keepChecked k s job es st os ms p l) h
 
-  pub walk-fine : first (keepRefusals s os ms p l) ≡ Fine → walkLogged s st os ms p l ≡ keepFrom (length os + 1) s st os ms p 0 l
+  pub walk-fine : first (keepRefusals s job es os ms p l) ≡ Fine → walkLogged s job es st os ms p l ≡ keepFrom (length os + 1) s job es st os ms p 0 l
   unfolding walkLogged keepChecked
-  walk-fine h = ap (λ (k : KeepChecked). keepChecked k s st os ms p l) h
+  walk-fine h = ap (λ (k : KeepChecked). keepChecked k s job es st os ms p l) h

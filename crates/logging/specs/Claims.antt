@@ -8,6 +8,7 @@ use lib.ListN.{length}
 use Rattle.station.specs.declared.Settings.{Settings}
 use Rattle.station.specs.declared.State.{State}
 use Rattle.station.specs.Numbers.{refusalNumber}
+use Rattle.table.specs.declared.Entry.{Entry}
 use Rattle.log.specs.declared.Record.{Record}
 use Rattle.log.specs.Numbers.{logRefusalNumber, loggedRefusal}
 use Rattle.log.specs.Log.{readBack, appending}
@@ -41,15 +42,15 @@ endOf (Ended n true) = Open
 
 -- "the readings of a run kept": from place 0, with a log of zero octets of so many records, what stands in the log are the records of the walk's counted
 -- readings in order, and all else is the walk's own
-pub record KeepsWalk (s : Settings) (st : State) (os ms : List ℕ) (room : ℕ) : Type 0 where
-  pub log : walkLogged s st os ms 0 (zeroLog room) .log ≡ filled room (recordsOf (walk s st os ms))
-  pub back : readBack (walkLogged s st os ms 0 (zeroLog room) .log) ≡ recordsOf (walk s st os ms)
-  pub state : walkLogged s st os ms 0 (zeroLog room) .given .state ≡ walked s st os ms .state
-  pub end : walkLogged s st os ms 0 (zeroLog room) .given .end ≡ endOf (walked s st os ms .answer)
-  pub next : walkLogged s st os ms 0 (zeroLog room) .given .next ≡ lastNext 0 (walk s st os ms)
-  pub kept : walkLogged s st os ms 0 (zeroLog room) .given .kept ≡ length (recordsOf (walk s st os ms))
+pub record KeepsWalk (s : Settings) (job : ℕ) (es : List Entry) (st : State) (os ms : List ℕ) (room : ℕ) : Type 0 where
+  pub log : walkLogged s job es st os ms 0 (zeroLog room) .log ≡ filled room (recordsOf (walk s job es st os ms))
+  pub back : readBack (walkLogged s job es st os ms 0 (zeroLog room) .log) ≡ recordsOf (walk s job es st os ms)
+  pub state : walkLogged s job es st os ms 0 (zeroLog room) .given .state ≡ walked s job es st os ms .state
+  pub end : walkLogged s job es st os ms 0 (zeroLog room) .given .end ≡ endOf (walked s job es st os ms .answer)
+  pub next : walkLogged s job es st os ms 0 (zeroLog room) .given .next ≡ lastNext 0 (walk s job es st os ms)
+  pub kept : walkLogged s job es st os ms 0 (zeroLog room) .given .kept ≡ length (recordsOf (walk s job es st os ms))
 
--- ---- Refusals: 1 to 3 as a reading at that place, then "11 log length no multiple of 16"; it never gives 12
+-- ---- Refusals: 1, 14, 2, 3 and 20 as a reading at that place, then "11 log length no multiple of 16"; it never gives 12
 
 -- the number of a walk's refusal, 0 where it was not refused
 abbrev pub endRefusal : LogEnd → ℕ
@@ -60,13 +61,14 @@ endRefusal Open = 0
 endRefusal Full = 0
 
 -- which it gives, exactly when; and a refused walk gives the state and the place it was given, and leaves the log
-pub record WalksOrRefuses (s : Settings) (st : State) (os ms : List ℕ) (p : ℕ) (l : List ℕ) : Type 0 where
-  pub reads : 0 < answerRefusal (reading s st os ms p .answer)
-      → endRefusal (walkLogged s st os ms p l .given .end) ≡ answerRefusal (reading s st os ms p .answer)
-  pub eleven : (endRefusal (walkLogged s st os ms p l .given .end) ≡ 11) ↔ ((answerRefusal (reading s st os ms p .answer) ≡ 0) × (IsMultiple l → ⊥))
-  pub goes : answerRefusal (reading s st os ms p .answer) ≡ 0 → IsMultiple l → endRefusal (walkLogged s st os ms p l .given .end) ≡ 0
-  pub refused : 0 < endRefusal (walkLogged s st os ms p l .given .end)
-      → walkLogged s st os ms p l ≡ stopped (walkLogged s st os ms p l .given .end) st p 0 l
+pub record WalksOrRefuses (s : Settings) (job : ℕ) (es : List Entry) (st : State) (os ms : List ℕ) (p : ℕ) (l : List ℕ) : Type 0 where
+  pub reads : 0 < answerRefusal (reading s job es st os ms p .answer)
+      → endRefusal (walkLogged s job es st os ms p l .given .end) ≡ answerRefusal (reading s job es st os ms p .answer)
+  pub eleven : (endRefusal (walkLogged s job es st os ms p l .given .end) ≡ 11)
+      ↔ ((answerRefusal (reading s job es st os ms p .answer) ≡ 0) × (IsMultiple l → ⊥))
+  pub goes : answerRefusal (reading s job es st os ms p .answer) ≡ 0 → IsMultiple l → endRefusal (walkLogged s job es st os ms p l .given .end) ≡ 0
+  pub refused : 0 < endRefusal (walkLogged s job es st os ms p l .given .end)
+      → walkLogged s job es st os ms p l ≡ stopped (walkLogged s job es st os ms p l .given .end) st p 0 l
 
 -- ---- A full log: "12 no unused record", which the walk tells by its end
 
@@ -77,11 +79,11 @@ AllCounted (r ∷ rs) = (isCounted (r .answer) ≡ true) × AllCounted rs
 
 -- where a walk of at most `most` readings found the log full: the readings that it made and kept, the records of these in the log, and the walk's further
 -- readings, which go on from its state and next place; the first of those counts a Start, for which there was "no unused record". So nothing is lost.
-pub record StopsFull (most : ℕ) (s : Settings) (st : State) (os ms : List ℕ) (p n : ℕ) (l : List ℕ) (k : Keeping) : Type 0 where
+pub record StopsFull (most : ℕ) (s : Settings) (job : ℕ) (es : List Entry) (st : State) (os ms : List ℕ) (p n : ℕ) (l : List ℕ) (k : Keeping) : Type 0 where
   pub made : List Reading
   pub counted : AllCounted made
   pub kept : k .given .kept ≡ n + length made
   pub log : k .log ≡ appendAll l (map recordOfReading made)
-  pub further : readingsFrom most s st os ms p ≡ made ++ readingsFrom (most - length made) s (k .given .state) os ms (k .given .next)
-  pub next : isCounted (reading s (k .given .state) os ms (k .given .next) .answer) ≡ true
-  pub full : 0 < loggedRefusal (appending (k .log) (recordOfReading (reading s (k .given .state) os ms (k .given .next))) .given)
+  pub further : readingsFrom most s job es st os ms p ≡ made ++ readingsFrom (most - length made) s job es (k .given .state) os ms (k .given .next)
+  pub next : isCounted (reading s job es (k .given .state) os ms (k .given .next) .answer) ≡ true
+  pub full : 0 < loggedRefusal (appending (k .log) (recordOfReading (reading s job es (k .given .state) os ms (k .given .next))) .given)

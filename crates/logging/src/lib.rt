@@ -1,4 +1,4 @@
-// Readings kept in a log (document 02, item 4). Meaning: specs/.
+// Readings kept in a log (document 02, item 4), of a job and by the address table (item 10). Meaning: specs/.
 use fields::Layout;
 use line::Found;
 use log::LogRefusal;
@@ -23,6 +23,7 @@ ghost use Rattle.fcs.specs.Lent.{Lent};
 ghost use Rattle.station.specs.declared.Outcome.the-variants.{HandedOut};
 ghost use Rattle.station.specs.Numbers.{byOutcome};
 ghost use Rattle.fields.specs.Places.{layoutOf};
+ghost use Rattle.table.specs.Entries.{entriesOf, ownEntries};
 ghost use Rattle.outcome.specs.Outcomes.{frameOf};
 ghost use Rattle.log.specs.Log.{logging, appending};
 ghost use Rattle.logging.specs.declared.KeepChecked.the-variants.{Fine};
@@ -30,7 +31,7 @@ ghost use Rattle.logging.specs.Records.{recordAt, recordOfReading};
 ghost use Rattle.logging.specs.Steps.{recordOfFrame};
 ghost use Rattle.logging.specs.Walks.{keeping, keepRefusals, walkLogged};
 
-// Why a walk that keeps its readings is refused: by 1, 2 or 3, as a reading is, or by 11.
+// Why a walk that keeps its readings is refused: by 1, 14, 2, 3 or 20, as a reading is, or by 11.
 pub enum KeepRefusal {
     ByReading(Refusal),
     ByLog(LogRefusal),
@@ -119,60 +120,95 @@ fn tells(o: Outcome) -> bool
 }
 
 // The record of a Start with outcome 11, of its frame, laid out as `l` says.
-fn handed_record(s: Settings, start: usize, f: &[u8], l: Layout) -> Record
+fn handed_record(
+    s: Settings,
+    job: u8,
+    table: &[u8; 128],
+    start: usize,
+    f: &[u8],
+    l: Layout,
+) -> Record
     requires { ⌜ (length (now f) ≤ 65536) × (l ≡ layoutOf (now f)) ⌝ }
-    ensures { λ r. ⌜ r ≡ recordOfFrame s start (now (f .entry)) HandedOut ⌝ }
+    ensures { λ r. ⌜ r ≡ recordOfFrame s (ownEntries job (now (table .entry))) start (now (f .entry)) HandedOut ⌝ }
 {
     let handed = frame::handed_length(s.checking, l.field, frame::frame_data(f, l.place));
     let word = outcome::status(Outcome::HandedOut, f, l, handed);
-    record_at(start, 11, control::frame_way(s, f), handed, word)
+    record_at(
+        start,
+        11,
+        control::frame_way(s, job, table, f),
+        handed,
+        word,
+    )
 }
 
 // The same, of the frame alone. Most frames have no tag: with none named, much of the record is made of constants.
-fn handed_out(s: Settings, start: usize, f: &[u8]) -> Record
+fn handed_out(s: Settings, job: u8, table: &[u8; 128], start: usize, f: &[u8]) -> Record
     requires { ⌜ length (now f) ≤ 65536 ⌝ }
-    ensures { λ r. ⌜ r ≡ recordOfFrame s start (now (f .entry)) HandedOut ⌝ }
+    ensures { λ r. ⌜ r ≡ recordOfFrame s (ownEntries job (now (table .entry))) start (now (f .entry)) HandedOut ⌝ }
 {
     let tags = fields::tag_count(f);
     if tags == 0 {
-        return handed_record(s, start, f, fields::laid_out(f, 0));
+        return handed_record(s, job, table, start, f, fields::laid_out(f, 0));
     }
-    handed_record(s, start, f, fields::laid_out(f, tags))
+    handed_record(s, job, table, start, f, fields::laid_out(f, tags))
 }
 
 // The record of a Start whose frame is `f`: but for outcome 11, nothing is handed out.
-fn record_of_frame(s: Settings, start: usize, f: &[u8], o: Outcome) -> Record
+fn record_of_frame(
+    s: Settings,
+    job: u8,
+    table: &[u8; 128],
+    start: usize,
+    f: &[u8],
+    o: Outcome,
+) -> Record
     requires { ⌜ length (now f) ≤ 65536 ⌝ }
-    ensures { λ r. ⌜ r ≡ recordOfFrame s start (now (f .entry)) o ⌝ }
+    ensures { λ r. ⌜ r ≡ recordOfFrame s (ownEntries job (now (table .entry))) start (now (f .entry)) o ⌝ }
 {
     match o {
-        Outcome::HandedOut => handed_out(s, start, f),
+        Outcome::HandedOut => handed_out(s, job, table, start, f),
         _ => {
             let word = outcome::status(o, f, fields::layout_of(f), 0);
-            let way = control::way_carried(s, o, f);
+            let way = control::way_carried(s, job, table, o, f);
             record_at(start, station::outcome_number(o), way, 0, word)
         }
     }
 }
 
 // The record of a Start whose run has this outcome. Outcomes 1 to 7 say nothing of their frame, so it is not looked at.
-fn record_of_run(s: Settings, start: usize, run: &[u8], o: Outcome) -> Record
+fn record_of_run(
+    s: Settings,
+    job: u8,
+    table: &[u8; 128],
+    start: usize,
+    run: &[u8],
+    o: Outcome,
+) -> Record
     requires { ⌜ length (now run) ≤ 65536 ⌝ }
-    ensures { λ r. ⌜ r ≡ recordOfFrame s start (frameOf (now (run .entry))) o ⌝ }
+    ensures { λ r. ⌜ r ≡ recordOfFrame s (ownEntries job (now (table .entry))) start (frameOf (now (run .entry))) o ⌝ }
 {
     if !tells(o) {
         return record_at(start, station::outcome_number(o), 0, 0, 0);
     }
-    record_of_frame(s, start, outcome::frame_of(run), o)
+    record_of_frame(s, job, table, start, outcome::frame_of(run), o)
 }
 
 // ---- a walk that keeps its readings
 
-// The refusals of a walk that keeps its readings, lowest number first: those of a reading, then the log's.
-fn check_keep(s: Settings, octets: &[u8], marks: &[u8], place: usize, log: &[u8]) -> KeepChecked
-    ensures { λ r. ⌜ r ≡ first (keepRefusals s (now (octets .entry)) (now (marks .entry)) place (now (log .entry))) ⌝ }
+// The refusals of a walk that keeps its readings: those of a reading, then the log's.
+fn check_keep(
+    s: Settings,
+    job: u8,
+    table: &[u8; 128],
+    octets: &[u8],
+    marks: &[u8],
+    place: usize,
+    log: &[u8],
+) -> KeepChecked
+    ensures { λ r. ⌜ r ≡ first (keepRefusals s job (entriesOf (now (table .entry))) (now (octets .entry)) (now (marks .entry)) place (now (log .entry))) ⌝ }
 {
-    let checked = receive::check_read(s, octets, marks, place);
+    let checked = receive::check_read(s, job, table, octets, marks, place);
     if let Checked::Refused(x) = checked {
         return KeepChecked::Refused(KeepRefusal::ByReading(x));
     }
@@ -187,14 +223,17 @@ fn check_keep(s: Settings, octets: &[u8], marks: &[u8], place: usize, log: &[u8]
 fn keep_on(
     t: &[u32],
     s: Settings,
+    job: u8,
+    table: &[u8; 128],
     state: State,
     octets: &[u8],
     marks: &[u8],
     place: usize,
     log: &mut [u8],
 ) -> LogWalk
-    requires { ⌜ Lent (now t) × (first (keepRefusals s (now octets) (now marks) place (now log)) ≡ Fine) ⌝ }
-    ensures { λ r. ⌜ keeping r (now (log .exit)) ≡ walkLogged s state (now (octets .entry)) (now (marks .entry)) place (now (log .entry)) ⌝ }
+    requires { ⌜ Lent (now t) × (first (keepRefusals s job (entriesOf (now table)) (now octets) (now marks) place (now log)) ≡ Fine) ⌝ }
+    ensures { λ r. ⌜ keeping r (now (log .exit))
+        ≡ walkLogged s job (entriesOf (now (table .entry))) state (now (octets .entry)) (now (marks .entry)) place (now (log .entry)) ⌝ }
 {
     let records = log.len() / 16;
     let mut counters = state.counters;
@@ -240,7 +279,7 @@ fn keep_on(
                 kept: n,
             };
         }
-        let judged = outcome::judge(t, s, &octets[from..end], octets[end]);
+        let judged = outcome::judge(t, s, job, table, &octets[from..end], octets[end]);
         let o = judged.outcome;
         station::count(o, &mut counters);
         if flow::sets_timers(o) {
@@ -248,7 +287,11 @@ fn keep_on(
             let set = flow::timers_after(o, f, timers);
             timers = set;
         }
-        write_record(log, k, record_of_run(s, start, &octets[from..end], o));
+        write_record(
+            log,
+            k,
+            record_of_run(s, job, table, start, &octets[from..end], o),
+        );
         k = unused_from(log, k + 1);
         n += 1;
         at = end;
@@ -267,15 +310,18 @@ fn pays(symbols: usize, log: usize) -> bool {
 // made once and lent.
 pub fn walk_log(
     s: Settings,
+    job: u8,
+    table: &[u8; 128],
     state: State,
     octets: &[u8],
     marks: &[u8],
     place: usize,
     log: &mut [u8],
 ) -> LogWalk
-    ensures { λ r. ⌜ keeping r (now (log .exit)) ≡ walkLogged s state (now (octets .entry)) (now (marks .entry)) place (now (log .entry)) ⌝ }
+    ensures { λ r. ⌜ keeping r (now (log .exit))
+        ≡ walkLogged s job (entriesOf (now (table .entry))) state (now (octets .entry)) (now (marks .entry)) place (now (log .entry)) ⌝ }
 {
-    let checked = check_keep(s, octets, marks, place, log);
+    let checked = check_keep(s, job, table, octets, marks, place, log);
     if let KeepChecked::Refused(x) = checked {
         return LogWalk {
             end: LogEnd::Refused(x),
@@ -286,9 +332,9 @@ pub fn walk_log(
     }
     if !pays(octets.len() - place, log.len()) {
         let none = [0u32; 1];
-        return keep_on(&none[..0], s, state, octets, marks, place, log);
+        return keep_on(&none[..0], s, job, table, state, octets, marks, place, log);
     }
     let mut t = [0u32; 4096];
     fcs::make_tables(&mut t);
-    keep_on(&t, s, state, octets, marks, place, log)
+    keep_on(&t, s, job, table, state, octets, marks, place, log)
 }

@@ -21,17 +21,10 @@ fn numbered(n: u8) -> Address {
     Address([2, 0, 0, 0, 0, n])
 }
 
-// Station 1 sends and station 2 reads.
+// Station 1 sends and station 2 reads, as job 0 with an empty table.
 fn settings(n: u8) -> Settings {
     Settings {
         own: numbered(n),
-        listed: [
-            numbered(0x11),
-            numbered(0x12),
-            numbered(0x13),
-            numbered(0x14),
-        ],
-        count: 0,
         broadcast: true,
         promiscuous: false,
         checking: true,
@@ -165,7 +158,8 @@ fn reading_line(name: &[u8], a: Answer, start: usize, next: usize, octets: &[u8]
 }
 
 fn walk_line(name: &[u8], octets: &[u8], marks: &[u8]) {
-    let end = receive::walk(settings(2), station::fresh_state(), octets, marks);
+    let none = table::empty();
+    let end = receive::walk(settings(2), 0, &none, station::fresh_state(), octets, marks);
     io::write_all(1, name);
     io::write_all(1, b":");
     let a = end.answer;
@@ -204,11 +198,12 @@ fn turn_after(k: usize, on: bool) -> usize
 
 // The readings from place 0 on, each at the next place of the one before, sixteen at most; and the walk.
 fn every(name: &[u8], octets: &[u8], marks: &[u8]) {
+    let none = table::empty();
     let mut state = station::fresh_state();
     let mut at: usize = 0;
     let mut k: usize = 0;
     while k < 16 {
-        let r = receive::read(settings(2), state, octets, marks, at);
+        let r = receive::read(settings(2), 0, &none, state, octets, marks, at);
         let a = r.answer;
         reading_line(name, a, r.start, r.next, octets);
         state = r.state;

@@ -4,6 +4,7 @@ use native.Mathlib.Omega.{arith}
 use mathlib.Core.Path.{_≡_, refl, sym, ap, ap₂, _∙_, subst}
 use mathlib.Core.Bool.{Bool, true, false, not, _&&_, _||_, cond, and-false, true≢false}
 use mathlib.Core.List.{List, [], _∷_, _++_, append-assoc, append-nil}
+use mathlib.Core.Option.{Option}
 use lib.ListN.{length, take, drop, replicate, length-append, length-replicate, length-take}
 use lib.Seq.{drop-at, take-at, take-length}
 use lib.Dec.{eqb, ltb, leb, lit<}
@@ -14,6 +15,7 @@ use Rattle.line.specs.Table.{first}
 use Rattle.line.proofs.Symbols.{by-test}
 use Rattle.line.proofs.Tables.{first-next, first-other}
 use Rattle.fcs.specs.Fcs.{fcs}
+use Rattle.station.specs.declared.Address.{Address}
 use Rattle.station.specs.declared.Settings.{Settings}
 use Rattle.station.specs.declared.Outcome.{Outcome}
 use Rattle.station.specs.declared.Outcome.the-variants.{Cut, BadPreamble, Undersized, Oversized, WrongFcs, WrongLength, Filtered, PauseTaken, PfcTaken, ControlDropped, HandedOut}
@@ -21,7 +23,7 @@ use Rattle.fields.specs.Tags.{isTagKind, tagCount}
 use Rattle.fields.specs.Fields.{destination, firstField, field}
 use Rattle.frame.specs.Frame.{frameData, wrongFcs, undersized, oversized}
 use Rattle.frame.specs.Length.{kept, wrongLength, handedOf, clientData}
-use Rattle.address.specs.Address.{accepts}
+use Rattle.table.specs.Way.{accepts}
 use Rattle.fcs.proofs.Laws.{fcs-four}
 use Rattle.frame.proofs.Length.{length-right}
 use Rattle.frame.proofs.FrameLaws.{fcs-right, frame-length, frame-field, frame-payload, kept-type, kept-long, kept-short}
@@ -47,7 +49,7 @@ record Facts (f dst : List ℕ) (n : ℕ) (p : List ℕ) (t : ℕ) : Type 0 wher
   right : wrongFcs f ≡ false
 
 -- ---- the table, from the facts
-module _ (s : Settings) (f dst : List ℕ) (n : ℕ) (p : List ℕ) (t : ℕ) (x : Facts f dst n p t) where
+module _ (s : Settings) (own : List (Option Address)) (f dst : List ℕ) (n : ℕ) (p : List ℕ) (t : ℕ) (x : Facts f dst n p t) where
   not-bad-preamble : badPreamble (preamble ++ f) ≡ false
   unfolding badPreamble preamble sameOctets
   not-bad-preamble = ap (λ (b : Bool). b || false) (le-ltb (length (preamble ++ f)) 7 (omega arith))
@@ -61,7 +63,7 @@ module _ (s : Settings) (f dst : List ℕ) (n : ℕ) (p : List ℕ) (t : ℕ) (x
       length-right (s .checking) f
       (ap (λ (k : ℕ). kept k (field f) (length (frameData f))) (x .tag) ∙ ap₂ (λ (a : ℕ) (b : List ℕ). kept t a (length b)) (x .field-is) (x .data-is) ∙ h)
 
-  not-filtered : accepts s dst ≡ true → filtered s f ≡ false
+  not-filtered : accepts s own dst ≡ true → filtered s own f ≡ false
   unfolding filtered
   not-filtered h = rw (x .plain, x .to, h)
 
@@ -77,12 +79,12 @@ module _ (s : Settings) (f dst : List ℕ) (n : ℕ) (p : List ℕ) (t : ℕ) (x
   unfolding dropsControl
   not-dropped = rw (x .plain)
 
-  handed-out : 46 ≤ length p → oversized (s .limit) f ≡ false → kept t n (length p) ≡ true → accepts s dst ≡ true
-      → outcome s (preamble ++ f) terminate ≡ HandedOut
+  handed-out : 46 ≤ length p → oversized (s .limit) f ≡ false → kept t n (length p) ≡ true → accepts s own dst ≡ true
+      → outcome s own (preamble ++ f) terminate ≡ HandedOut
   unfolding outcome outcomes
   handed-out long allowed keep heard =
       let same-frame : frameOf (preamble ++ f) ≡ f = (unfold frameOf preamble in refl) in
-      ap (λ (g : List ℕ). first (outcomes s (preamble ++ f) terminate g)) same-frame
+      ap (λ (g : List ℕ). first (outcomes s own (preamble ++ f) terminate g)) same-frame
       ∙ first-next Cut _ (unfold cut in refl)
       ∙ first-next BadPreamble _ not-bad-preamble
       ∙ first-next Undersized _ (not-undersized long)
@@ -95,40 +97,40 @@ module _ (s : Settings) (f dst : List ℕ) (n : ℕ) (p : List ℕ) (t : ℕ) (x
       ∙ first-next ControlDropped _ not-dropped
       ∙ first-other HandedOut
 
--- ---- the facts, of a client frame: `a` the two addresses, `n` the field, `p` the data with its padding
+-- ---- the facts, of a client frame: `a` the two addresses, `dst` and `src`, `n` the field, `p` the data with its padding
 
 -- from the parts: `h` is all that stands before the field
-parts : (b a r h : List ℕ) (n : ℕ) (p : List ℕ) (t : ℕ) (dst own : List ℕ) → length dst ≡ 6 → a ≡ dst ++ own → length h ≡ 12 + 4 * t → n < 65536
+parts : (b a r h : List ℕ) (n : ℕ) (p : List ℕ) (t : ℕ) (dst src : List ℕ) → length dst ≡ 6 → a ≡ dst ++ src → length h ≡ 12 + 4 * t → n < 65536
     → b ++ fcs b ≡ a ++ r → b ++ fcs b ≡ h ++ (highFirst n ++ (p ++ fcs b)) → tagCount (b ++ fcs b) ≡ t → isControlFrame (b ++ fcs b) ≡ false
     → Facts (b ++ fcs b) dst n p t
 unfolding destination
-parts b a r h n p t dst own six ea hl lt e₁ e₂ et ec =
+parts b a r h n p t dst src six ea hl lt e₁ e₂ et ec =
     let ht : tagCount (h ++ (highFirst n ++ (p ++ fcs b))) ≡ t = ap tagCount (sym e₂) ∙ et in
     record {
       tag = et;
       size = ap length e₂ ∙ frame-length h n p (fcs b) t ht hl lt (fcs-four b);
       field-is = ap field e₂ ∙ frame-field h n p (fcs b) t ht hl lt (fcs-four b);
       data-is = ap frameData e₂ ∙ frame-payload h n p (fcs b) t ht hl lt (fcs-four b);
-      to = ap (take 6) (e₁ ∙ ap (λ (l : List ℕ). l ++ r) ea ∙ append-assoc dst own r) ∙ take-at dst (own ++ r) 6 six;
+      to = ap (take 6) (e₁ ∙ ap (λ (l : List ℕ). l ++ r) ea ∙ append-assoc dst src r) ∙ take-at dst (src ++ r) 6 six;
       plain = ec;
       right = fcs-right b;
     }
 
-module _ (dst own : List ℕ) (six : length dst ≡ 6) (ownSix : length own ≡ 6) (ts : List Tag) (few : length ts ≤ 8) (n : ℕ) (lt : n < 65536) (p : List ℕ) where
-  twelve : length (dst ++ own) ≡ 12
+module _ (dst src : List ℕ) (six : length dst ≡ 6) (srcSix : length src ≡ 6) (ts : List Tag) (few : length ts ≤ 8) (n : ℕ) (lt : n < 65536) (p : List ℕ) where
+  twelve : length (dst ++ src) ≡ 12
   twelve = simp length-append (omega arith)
 
   found : isTagKind n ≡ false → eqb n 0x8808 ≡ false
-      → let b : List ℕ = dst ++ (own ++ (tagOctets ts ++ (highFirst n ++ p))) in Facts (b ++ fcs b) dst n p (length ts)
+      → let b : List ℕ = dst ++ (src ++ (tagOctets ts ++ (highFirst n ++ p))) in Facts (b ++ fcs b) dst n p (length ts)
   found h g =
-      let b : List ℕ = dst ++ (own ++ (tagOctets ts ++ (highFirst n ++ p))) in
+      let b : List ℕ = dst ++ (src ++ (tagOctets ts ++ (highFirst n ++ p))) in
       let r : List ℕ = p ++ fcs b in
-      let e₁ : b ++ fcs b ≡ dst ++ own ++ (tagOctets ts ++ (highFirst n ++ r)) = simp append-assoc in
-      let e₂ : b ++ fcs b ≡ dst ++ (own ++ tagOctets ts) ++ (highFirst n ++ r) = simp append-assoc in
-      parts b (dst ++ own) (tagOctets ts ++ (highFirst n ++ r)) (dst ++ (own ++ tagOctets ts)) n p (length ts) dst own six refl
+      let e₁ : b ++ fcs b ≡ dst ++ src ++ (tagOctets ts ++ (highFirst n ++ r)) = simp append-assoc in
+      let e₂ : b ++ fcs b ≡ dst ++ (src ++ tagOctets ts) ++ (highFirst n ++ r) = simp append-assoc in
+      parts b (dst ++ src) (tagOctets ts ++ (highFirst n ++ r)) (dst ++ (src ++ tagOctets ts)) n p (length ts) dst src six refl
       (simp length-append (omega (arith, tag-length ts))) lt e₁ e₂
-      (ap tagCount e₁ ∙ tags-are ts (dst ++ own) n r few twelve lt h)
-      (ap isControlFrame e₁ ∙ not-control ts (dst ++ own) n r twelve lt g)
+      (ap tagCount e₁ ∙ tags-are ts (dst ++ src) n r few twelve lt h)
+      (ap isControlFrame e₁ ∙ not-control ts (dst ++ src) n r twelve lt g)
 
 -- ---- the conditions, in numbers
 
@@ -202,7 +204,7 @@ taken (ByType t) d h =
 
 -- ---- the two together
 
-module _ (tx rx : Settings) (fr : Frame) (w : Carried tx rx fr) where
+module _ (tx rx : Settings) (own : List (Option Address)) (fr : Frame) (w : Carried tx rx own fr) where
   abbrev dst : List ℕ
   dst = fr .client .dest .0
 
@@ -223,9 +225,9 @@ module _ (tx rx : Settings) (fr : Frame) (w : Carried tx rx fr) where
       (field-bits (fr .client .form) (fr .octets) (tx .limit) (w .welcome .typed .bits) (w .short))
       p (k .0) (k .1)
 
-  pub accepted : outcome rx (preamble ++ (body ++ fcs body)) terminate ≡ HandedOut
+  pub accepted : outcome rx own (preamble ++ (body ++ fcs body)) terminate ≡ HandedOut
   accepted =
-      handed-out rx (body ++ fcs body) dst n p (length (tagsSent (fr .client))) facts
+      handed-out rx own (body ++ fcs body) dst n p (length (tagsSent (fr .client))) facts
       (let j = padded-length (fr .octets) in omega arith)
       (w .welcome .allowed)
       (keeps (length (tagsSent (fr .client))) (fr .client .form) (fr .octets) (tx .limit) (w .form) (w .short))

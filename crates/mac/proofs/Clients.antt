@@ -9,12 +9,15 @@ use lib.ListN.{length, drop}
 use Rattle.line.specs.Line.{Symbol, capture, isStart, run, ending, AfterStart, unended, ended, endedBy, afterStart, MetStart, metStarts}
 use Rattle.line.proofs.Symbols.{by-test, met-start, met-other}
 use Rattle.line.proofs.Starts.{drop-next}
+use Rattle.station.specs.declared.Address.{Address}
 use Rattle.station.specs.declared.Settings.{Settings}
 use Rattle.station.specs.declared.State.{State}
 use Rattle.station.specs.declared.Outcome.{Outcome}
 use Rattle.station.specs.declared.Outcome.the-variants.{Cut, BadPreamble, Undersized, Oversized, WrongFcs, WrongLength, Filtered, PauseTaken, PfcTaken, ControlDropped, HandedOut}
 use Rattle.station.specs.Numbers.{byOutcome}
 use Rattle.frame.specs.Length.{clientData}
+use Rattle.table.specs.declared.Entry.{Entry}
+use Rattle.table.specs.Entries.{mine}
 use Rattle.receive.specs.declared.Answer.the-variants.{Counted}
 use Rattle.receive.specs.declared.Reading.{Reading}
 use Rattle.control.specs.Control.{wayCarried}
@@ -27,14 +30,14 @@ use Rattle.mac.specs.Demand2.{Readable}
 use Rattle.receive.proofs.Walks.{through, walk-through}
 use Rattle.mac.proofs.Walk.{OpenLast, open-last}
 
--- the client data of a run that is handed out, as a list of none or one
-unfoldable pub clientOf : Settings → AfterStart → List (List ℕ)
-clientOf s unended = []
-clientOf s (ended run by) = byOutcome (outcome s run by) [] [] [] [] (clientData (s .checking) (frameOf run) ∷ [])
+-- the client data of a run that is handed out, as a list of none or one; `own` is what a job has of the table
+unfoldable pub clientOf : Settings → List (Option Address) → AfterStart → List (List ℕ)
+clientOf s own unended = []
+clientOf s own (ended run by) = byOutcome (outcome s own run by) [] [] [] [] (clientData (s .checking) (frameOf run) ∷ [])
 
-unfoldable pub clients : Settings → List MetStart → List (List ℕ)
-clients s [] = []
-clients s (m ∷ ms) = clientOf s (m .follows) ++ clients s ms
+unfoldable pub clients : Settings → List (Option Address) → List MetStart → List (List ℕ)
+clients s own [] = []
+clients s own (m ∷ ms) = clientOf s own (m .follows) ++ clients s own ms
 
 -- each Start stands in the capture with what follows it there
 unfoldable pub Placed : List Symbol → List MetStart → Type 0
@@ -56,7 +59,11 @@ unfolding endedBy
 same-run r by l none h q = let bad : _≡_ {A = ℕ} 0 1 = cc in absurd (omega arith)
 same-run r by l (some y) h q = cc
 
-module _ (s : Settings) (os ms : List ℕ) where
+module _ (s : Settings) (job : ℕ) (es : List Entry) (os ms : List ℕ) where
+  -- what the job has of the table
+  abbrev own : List (Option Address)
+  own = mine job es
+
   abbrev c : List Symbol
   c = capture os ms
 
@@ -77,20 +84,21 @@ module _ (s : Settings) (os ms : List ℕ) where
   hands i r w v HandedOut e = rw e (ap (λ (d : List ℕ). d ∷ []) (handed-part (s .checking) os ms i))
 
   hands-one : (n : ℕ) (st : State) (i : ℕ) (f : AfterStart) (l : List MetStart) → (f ≡ unended → l ≡ []) → f ≡ afterStart (drop (i + 1) c)
-      → ((st : State) → handedOut os (through s st n l) ≡ clients s l)
-      → handedOut os (through s st n (record { place = i; follows = f } ∷ l)) ≡ clientOf s f ++ clients s l
+      → ((st : State) → handedOut os (through s own st n l) ≡ clients s own l)
+      → handedOut os (through s own st n (record { place = i; follows = f } ∷ l)) ≡ clientOf s own f ++ clients s own l
   unfolding through handedOut readStart readRun clientOf afterStart clients handedBy
-  hands-one n st i unended l last e ih = ap (clients s) (sym (last refl))
+  hands-one n st i unended l last e ih = ap (clients s own) (sym (last refl))
   hands-one n st i (ended r by) l last e ih =
       ap₂ (λ (a b : List (List ℕ)). a ++ b)
-      (hands i r (status s (outcome s r by) (frameOf r)) (wayCarried s (outcome s r by) (frameOf r)) (outcome s r by) (same-run r by (drop (i + 1) c) (ending (drop (i + 1) c)) refl e))
-      (ih (readStart s st i (ended r by) .state))
+      (hands i r (status s (outcome s own r by) (frameOf r)) (wayCarried s own (outcome s own r by) (frameOf r)) (outcome s own r by)
+      (same-run r by (drop (i + 1) c) (ending (drop (i + 1) c)) refl e))
+      (ih (readStart s own st i (ended r by) .state))
 
-  hands-all : (n : ℕ) (st : State) (l : List MetStart) → OpenLast l → Placed c l → handedOut os (through s st n l) ≡ clients s l
+  hands-all : (n : ℕ) (st : State) (l : List MetStart) → OpenLast l → Placed c l → handedOut os (through s own st n l) ≡ clients s own l
   unfolding through handedOut clients OpenLast Placed handedBy
   hands-all n st [] w p = refl
   hands-all n st (m ∷ l) w p = hands-one n st (m .place) (m .follows) l (w .0) (p .0) (λ st′. hands-all n st′ l (w .1) (p .1))
 
   -- the readings of a walk hand out, as parts of the captured octets, what the capture's Starts do
-  pub walk-hands : Readable s os ms → (st : State) → handedOut os (walk s st os ms) ≡ clients s (metStarts 0 c)
-  walk-hands fine st = ap (handedOut os) (walk-through s os ms fine st) ∙ hands-all (length c) st (metStarts 0 c) (open-last 0 c) (placed c 0 c refl)
+  pub walk-hands : Readable s job es os ms → (st : State) → handedOut os (walk s job es st os ms) ≡ clients s own (metStarts 0 c)
+  walk-hands fine st = ap (handedOut os) (walk-through s job es os ms fine st) ∙ hands-all (length c) st (metStarts 0 c) (open-last 0 c) (placed c 0 c refl)

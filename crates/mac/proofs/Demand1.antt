@@ -7,6 +7,7 @@ use mathlib.Core.Path.{_≡_, refl, sym, ap, _∙_, subst₂}
 use mathlib.Core.Bool.{Bool, true, false, not, _||_, true≢false, and-false}
 use mathlib.Core.Logic.{_↔_}
 use mathlib.Core.List.{List, [], _∷_}
+use mathlib.Core.Option.{Option}
 use lib.Dec.{eqb}
 use borrow.Author.Tests.{eq-eqb, ne-eqb, eqb-true, not-false, le-ltb}
 use lib.ListN.{length, drop}
@@ -16,6 +17,7 @@ use Rattle.line.specs.Line.{Symbol, capture, findStart, AfterStart, unended, en
 use Rattle.line.specs.Table.{Row, Table, otherwise, _∣_, first}
 use Rattle.line.proofs.Symbols.{by-test}
 use Rattle.line.proofs.Tables.{first-here, first-next, first-other}
+use Rattle.station.specs.declared.Address.{Address}
 use Rattle.station.specs.declared.Settings.{Settings}
 use Rattle.station.specs.declared.Port.{Port}
 use Rattle.station.specs.declared.State.{State}
@@ -25,6 +27,8 @@ use Rattle.station.specs.declared.Checked.the-variants.{Fine, Refused}
 use Rattle.station.specs.Numbers.{checkedNumber}
 use Rattle.station.proofs.Refusals.{or-false}
 use Rattle.station.specs.Station.{isPauseMode, isPfcMode, badPlace}
+use Rattle.table.specs.declared.Entry.{Entry}
+use Rattle.table.specs.Entries.{mine}
 use Rattle.receive.specs.declared.Reading.{Reading}
 use Rattle.receive.specs.Reading.{readRun, readStart, readFound, readAt, readRefusals, readChecked, reading}
 use Rattle.receive.specs.declared.WalkEnd.{WalkEnd}
@@ -147,65 +151,67 @@ exactly {rows} {numbers} {g} w e =
 -- ---- a reading
 
 -- what a reading that is not refused answers is no refusal
-not-refused : (s : Settings) (st : State) (c : List Symbol) (place : ℕ) → answerRefusal (readAt s st c place .answer) ≡ 0
+not-refused : (s : Settings) (own : List (Option Address)) (st : State) (c : List Symbol) (place : ℕ) → answerRefusal (readAt s own st c place .answer) ≡ 0
 unfolding readAt
-not-refused s st c place = found (findStart c place)
+not-refused s own st c place = found (findStart c place)
   where
-    start : (i : ℕ) (f : AfterStart) → answerRefusal (readStart s st i f .answer) ≡ 0
+    start : (i : ℕ) (f : AfterStart) → answerRefusal (readStart s own st i f .answer) ≡ 0
     start i unended = unfold readStart in refl
     start i (ended r by) = unfold readStart readRun in refl
 
-    found : (f : Found) → answerRefusal (readFound s st c f .answer) ≡ 0
+    found : (f : Found) → answerRefusal (readFound s own st c f .answer) ≡ 0
     found Found.Nothing = unfold readFound in refl
     found (At i) = unfold readFound in start i (afterStart (drop (i + 1) c))
 
-read-number : (k : Checked) (s : Settings) (st : State) (os ms : List ℕ) (place : ℕ) → answerRefusal (readChecked k s st os ms place .answer) ≡ checkedNumber k
+read-number : (k : Checked) (s : Settings) (own : List (Option Address)) (st : State) (os ms : List ℕ) (place : ℕ)
+    → answerRefusal (readChecked k s own st os ms place .answer) ≡ checkedNumber k
 unfolding readChecked
-read-number (Refused x) s st os ms place = refl
-read-number Fine s st os ms place = not-refused s st (capture os ms) place
+read-number (Refused x) s own st os ms place = refl
+read-number Fine s own st os ms place = not-refused s own st (capture os ms) place
 
-read-kept : (k : Checked) (s : Settings) (st : State) (os ms : List ℕ) (place : ℕ)
-    → 0 < checkedNumber k → ReadRefused st place (readChecked k s st os ms place)
+read-kept : (k : Checked) (s : Settings) (own : List (Option Address)) (st : State) (os ms : List ℕ) (place : ℕ)
+    → 0 < checkedNumber k → ReadRefused st place (readChecked k s own st os ms place)
 unfolding readChecked
-read-kept (Refused x) s st os ms place h = record { word = refl; part = refl; start = refl; next = refl; state = refl }
-read-kept Fine s st os ms place h = absurd (omega arith)
+read-kept (Refused x) s own st os ms place h = record { word = refl; part = refl; start = refl; next = refl; state = refl }
+read-kept Fine s own st os ms place h = absurd (omega arith)
 
-read-listed : (s : Settings) (os ms : List ℕ) (place : ℕ) → Listed (readRefusals s os ms place) (1 ∷ 2 ∷ 3 ∷ [])
+read-listed : (s : Settings) (job : ℕ) (es : List Entry) (os ms : List ℕ) (place : ℕ) → Listed (readRefusals s job es os ms place) (1 ∷ 14 ∷ 2 ∷ 3 ∷ 20 ∷ [])
 unfolding readRefusals numbersOf repeats isIn
-read-listed s os ms place = (refl, refl)
+read-listed s job es os ms place = (refl, refl)
 
--- "Reading can give 1 to 3"
-pub reading-refuses : (s : Settings) (st : State) (os ms : List ℕ) (place : ℕ)
-    → ReadsOrRefuses (readRefusals s os ms place) (1 ∷ 2 ∷ 3 ∷ []) st place (reading s st os ms place)
+-- "Reading can give 1 to 3"; document 02, item 10: "14 …, tested right after 1", and 20 behind 3
+pub reading-refuses : (s : Settings) (job : ℕ) (es : List Entry) (st : State) (os ms : List ℕ) (place : ℕ)
+    → ReadsOrRefuses (readRefusals s job es os ms place) (1 ∷ 14 ∷ 2 ∷ 3 ∷ 20 ∷ []) st place (reading s job es st os ms place)
 unfolding reading
-reading-refuses s st os ms place =
-    let k : Checked = first (readRefusals s os ms place) in
-    let n = read-number k s st os ms place in
+reading-refuses s job es st os ms place =
+    let k : Checked = first (readRefusals s job es os ms place) in
+    let n = read-number k s (mine job es) st os ms place in
     record {
-      exactly = exactly (read-listed s os ms place) n;
-      refused = λ h. read-kept k s st os ms place (omega arith);
+      exactly = exactly (read-listed s job es os ms place) n;
+      refused = λ h. read-kept k s (mine job es) st os ms place (omega arith);
     }
 
 -- the whole walk in one call: refused as a reading at place 0 is, where 3 never holds
-through-none : (s : Settings) (n k : ℕ) (st : State) (ms : List MetStart) → walkedRefusal (walkOf k st (through s st n ms) .answer) ≡ 0
+through-none : (s : Settings) (own : List (Option Address)) (n k : ℕ) (st : State) (ms : List MetStart)
+    → walkedRefusal (walkOf k st (through s own st n ms) .answer) ≡ 0
 unfolding walkOf through
-through-none s n k st [] = refl
-through-none s n k st (m ∷ ms) = one (m .follows) (λ st′. through-none s n (k + 1) st′ ms)
+through-none s own n k st [] = refl
+through-none s own n k st (m ∷ ms) = one (m .follows) (λ st′. through-none s own n (k + 1) st′ ms)
   where
-    one : (f : AfterStart) → ((st : State) → walkedRefusal (walkOf (k + 1) st (through s st n ms) .answer) ≡ 0)
-        → walkedRefusal (walkOf k st (through s st n (record { place = m .place; follows = f } ∷ ms)) .answer) ≡ 0
+    one : (f : AfterStart) → ((st : State) → walkedRefusal (walkOf (k + 1) st (through s own st n ms) .answer) ≡ 0)
+        → walkedRefusal (walkOf k st (through s own st n (record { place = m .place; follows = f } ∷ ms)) .answer) ≡ 0
     one unended ih = unfold readStart in refl
-    one (ended r by) ih = unfold readStart readRun in ih (readStart s st (m .place) (ended r by) .state)
+    one (ended r by) ih = unfold readStart readRun in ih (readStart s own st (m .place) (ended r by) .state)
 
-walk-number : (s : Settings) (st : State) (os ms : List ℕ) (k : Checked) → first (readRefusals s os ms 0) ≡ k
-    → (walkedRefusal (walked s st os ms .answer) ≡ checkedNumber k) × (0 < checkedNumber k → walked s st os ms .state ≡ st)
+walk-number : (s : Settings) (job : ℕ) (es : List Entry) (st : State) (os ms : List ℕ) (k : Checked) → first (readRefusals s job es os ms 0) ≡ k
+    → (walkedRefusal (walked s job es st os ms .answer) ≡ checkedNumber k) × (0 < checkedNumber k → walked s job es st os ms .state ≡ st)
 unfolding walked
-walk-number s st os ms (Refused x) e =
-    let r = walked-refused s st os ms x e in
+walk-number s job es st os ms (Refused x) e =
+    let r = walked-refused s job es st os ms x e in
     (ap (λ (w : WalkEnd). walkedRefusal (w .answer)) r, λ h. ap (λ (w : WalkEnd). w .state) r)
-walk-number s st os ms Fine e = (
-  ap (λ (l : List Reading). walkedRefusal (walkOf 0 st l .answer)) (walk-through s os ms e st)
-      ∙ through-none s (length (capture os ms)) 0 st (metStarts 0 (capture os ms)),
+walk-number s job es st os ms Fine e = (
+  ap (λ (l : List Reading). walkedRefusal (walkOf 0 st l .answer)) (walk-through s job es os ms e st)
+      ∙ through-none s (mine job es) (length (capture os ms)) 0 st (metStarts 0 (capture os ms)),
   λ h. absurd (omega arith),
 )
 
@@ -213,14 +219,14 @@ never-3 : (os : List ℕ) → badPlace os 0 ≡ false
 unfolding badPlace
 never-3 os = le-ltb (length os) 0 (omega arith)
 
-pub walk-refuses : (s : Settings) (st : State) (os ms : List ℕ)
-    → Exactly (readRefusals s os ms 0) (1 ∷ 2 ∷ 3 ∷ []) (walkedRefusal (walked s st os ms .answer))
+pub walk-refuses : (s : Settings) (job : ℕ) (es : List Entry) (st : State) (os ms : List ℕ)
+    → Exactly (readRefusals s job es os ms 0) (1 ∷ 14 ∷ 2 ∷ 3 ∷ 20 ∷ []) (walkedRefusal (walked s job es st os ms .answer))
     × (badPlace os 0 ≡ false)
-    × (0 < walkedRefusal (walked s st os ms .answer) → walked s st os ms .state ≡ st)
-walk-refuses s st os ms =
-    let n = walk-number s st os ms (first (readRefusals s os ms 0)) refl in
+    × (0 < walkedRefusal (walked s job es st os ms .answer) → walked s job es st os ms .state ≡ st)
+walk-refuses s job es st os ms =
+    let n = walk-number s job es st os ms (first (readRefusals s job es os ms 0)) refl in
     let e = n .0 in (
-      exactly (read-listed s os ms 0) e,
+      exactly (read-listed s job es os ms 0) e,
       never-3 os,
       λ h. n .1 (omega arith),
     )

@@ -6,16 +6,20 @@ use native.Mathlib.Omega.{arith}
 use mathlib.Core.Path.{_≡_, refl, sym, ap, ap₂, _∙_, subst}
 use mathlib.Core.Bool.{Bool, true, false}
 use mathlib.Core.List.{List, [], _∷_, _++_, map, append-assoc, append-nil}
+use mathlib.Core.Option.{Option}
 use lib.ListN.{length, replicate, length-append}
 use Rattle.line.specs.Line.{Symbol, capture, octetsOf, marksOf, isControl, asData, asControl, idle, start, terminate, preamble, isData, isStart, AfterStart, ended, afterStart, MetStart, metStarts}
 use Rattle.line.proofs.Symbols.{met-start}
 use Rattle.line.proofs.Starts.{look-frame, met-data, Begins}
 use Rattle.line.proofs.Buffers.{capture-of, length-capture, length-octetsOf, length-marksOf}
 use Rattle.fcs.specs.Fcs.{fcs}
+use Rattle.station.specs.declared.Address.{Address}
 use Rattle.station.specs.declared.Settings.{Settings}
 use Rattle.station.specs.declared.State.{State}
 use Rattle.station.specs.declared.Outcome.{Outcome}
 use Rattle.station.specs.Numbers.{byOutcome}
+use Rattle.table.specs.declared.Entry.{Entry}
+use Rattle.table.specs.Entries.{mine}
 use Rattle.frame.specs.Length.{clientData}
 use Rattle.outcome.specs.Outcomes.{frameOf, outcome}
 use Rattle.receive.specs.Walk.{walk, handedOut}
@@ -42,47 +46,49 @@ unfolding gap
 look-gap idles os rest = look-frame os terminate (replicate idles (asControl idle) ++ rest)
 
 -- a frame on the line is met as one run, and nothing else of it is
-module _ (rx : Settings) where
+module _ (rx : Settings) (own : List (Option Address)) where
   one-line : (at idles : ℕ) (body : List ℕ) (rest : List Symbol)
-      → clients rx (metStarts at (onLine idles body ++ rest)) ≡ clientOf rx (ended (preamble ++ (body ++ fcs body)) terminate) ++ clients rx (metStarts at rest)
+      → clients rx own (metStarts at (onLine idles body ++ rest))
+      ≡ clientOf rx own (ended (preamble ++ (body ++ fcs body)) terminate) ++ clients rx own (metStarts at rest)
   unfolding onLine clients
   one-line at idles body rest =
       let os : List ℕ = preamble ++ (body ++ fcs body) in
       let e : onLine idles body ++ rest ≡ asControl start ∷ (map asData os ++ (gap idles ++ rest)) =
       ap (λ (l : List Symbol). asControl start ∷ l) (append-assoc (map asData os) (gap idles) rest) in
-      ap (λ (l : List Symbol). clients rx (metStarts at l)) e
-      ∙ ap (clients rx) (met-start at (asControl start) (map asData os ++ (gap idles ++ rest)) (unfold isStart isControl isData asControl in refl))
-      ∙ ap₂ (λ (l : AfterStart) (ms : List MetStart). clientOf rx l ++ clients rx ms)
+      ap (λ (l : List Symbol). clients rx own (metStarts at l)) e
+      ∙ ap (clients rx own) (met-start at (asControl start) (map asData os ++ (gap idles ++ rest)) (unfold isStart isControl isData asControl in refl))
+      ∙ ap₂ (λ (l : AfterStart) (ms : List MetStart). clientOf rx own l ++ clients rx own ms)
       (look-gap idles os rest)
       (met-data (at + 1) os (gap idles ++ rest) ∙ gap-skipped idles (at + 1 + length os) rest)
-      ∙ ap (λ (t : List (List ℕ)). clientOf rx (ended os terminate) ++ t) (anywhere rx _ at rest)
+      ∙ ap (λ (t : List (List ℕ)). clientOf rx own (ended os terminate) ++ t) (anywhere rx own _ at rest)
 
   module _ (tx : Settings) (checks : rx .checking ≡ true) where
     -- one client frame: its data
-    one-frame : (at : ℕ) (f : Frame) → Carried tx rx f → (rest : List Symbol)
-        → clients rx (metStarts at (clientSymbols (f .idles) tx (f .client) (f .octets) ++ rest))
-        ≡ delivered (f .client .form) (f .octets) ∷ clients rx (metStarts at rest)
+    one-frame : (at : ℕ) (f : Frame) → Carried tx rx own f → (rest : List Symbol)
+        → clients rx own (metStarts at (clientSymbols (f .idles) tx (f .client) (f .octets) ++ rest))
+        ≡ delivered (f .client .form) (f .octets) ∷ clients rx own (metStarts at rest)
     unfolding clientSymbols clientOf frameOf preamble
     one-frame at f w rest =
         let body : List ℕ = clientBody tx (f .client) (f .octets) in
         one-line at (f .idles) body rest
-        ∙ ap₂ (λ (o : Outcome) (ck : Bool). byOutcome o [] [] [] [] (clientData ck (body ++ fcs body) ∷ []) ++ clients rx (metStarts at rest)) (accepted tx rx f w) checks
-        ∙ ap (λ (d : List ℕ). d ∷ clients rx (metStarts at rest)) (read-back tx rx f w)
+        ∙ ap₂ (λ (o : Outcome) (ck : Bool). byOutcome o [] [] [] [] (clientData ck (body ++ fcs body) ∷ []) ++ clients rx own (metStarts at rest))
+        (accepted tx rx own f w) checks
+        ∙ ap (λ (d : List ℕ). d ∷ clients rx own (metStarts at rest)) (read-back tx rx own f w)
 
     -- frames one after the other, and then anything
-    frames-then : (at : ℕ) (fs : List Frame) (rest : List Symbol) → AllCarried tx rx fs
-        → clients rx (metStarts at (rowSymbols tx fs ++ rest)) ≡ allDelivered fs ++ clients rx (metStarts at rest)
+    frames-then : (at : ℕ) (fs : List Frame) (rest : List Symbol) → AllCarried tx rx own fs
+        → clients rx own (metStarts at (rowSymbols tx fs ++ rest)) ≡ allDelivered fs ++ clients rx own (metStarts at rest)
     unfolding AllCarried rowSymbols allDelivered
     frames-then at [] rest w = refl
     frames-then at (f ∷ fs) rest w =
-        ap (λ (l : List Symbol). clients rx (metStarts at l)) (append-assoc (clientSymbols (f .idles) tx (f .client) (f .octets)) (rowSymbols tx fs) rest)
+        ap (λ (l : List Symbol). clients rx own (metStarts at l)) (append-assoc (clientSymbols (f .idles) tx (f .client) (f .octets)) (rowSymbols tx fs) rest)
         ∙ one-frame at f (w .0) (rowSymbols tx fs ++ rest)
         ∙ ap (λ (l : List (List ℕ)). delivered (f .client .form) (f .octets) ∷ l) (frames-then at fs rest (w .1))
 
-    all-frames : (at : ℕ) (fs : List Frame) → AllCarried tx rx fs → clients rx (metStarts at (rowSymbols tx fs)) ≡ allDelivered fs
+    all-frames : (at : ℕ) (fs : List Frame) → AllCarried tx rx own fs → clients rx own (metStarts at (rowSymbols tx fs)) ≡ allDelivered fs
     unfolding metStarts clients
     all-frames at fs w =
-        ap (λ (l : List Symbol). clients rx (metStarts at l)) (sym (append-nil (rowSymbols tx fs))) ∙ frames-then at fs [] w ∙ append-nil (allDelivered fs)
+        ap (λ (l : List Symbol). clients rx own (metStarts at l)) (sym (append-nil (rowSymbols tx fs))) ∙ frames-then at fs [] w ∙ append-nil (allDelivered fs)
 
     begins : (fs : List Frame) → Begins (rowSymbols tx fs)
     unfolding Begins rowSymbols clientSymbols onLine isStart isControl isData asControl
@@ -94,57 +100,60 @@ module _ (rx : Settings) where
     begins-more f fs rest = refl
 
     -- on the symbols: what the damaged part hands out, and then the frames' data
-    after-damage : (damage : List Symbol) (fs : List Frame) → AllCarried tx rx fs
-        → clients rx (metStarts 0 (damage ++ rowSymbols tx fs)) ≡ clients rx (metStarts 0 damage) ++ allDelivered fs
+    after-damage : (damage : List Symbol) (fs : List Frame) → AllCarried tx rx own fs
+        → clients rx own (metStarts 0 (damage ++ rowSymbols tx fs)) ≡ clients rx own (metStarts 0 damage) ++ allDelivered fs
     after-damage damage fs w =
-        seam rx 0 damage (rowSymbols tx fs) (begins fs)
-        ∙ ap (λ (l : List (List ℕ)). clients rx (metStarts 0 damage) ++ l) (all-frames (0 + length damage) fs w)
+        seam rx own 0 damage (rowSymbols tx fs) (begins fs)
+        ∙ ap (λ (l : List (List ℕ)). clients rx own (metStarts 0 damage) ++ l) (all-frames (0 + length damage) fs w)
 
-    between-others : (damage : List Symbol) (f : Frame) (fs : List Frame) (rest : List Symbol) → AllCarried tx rx (f ∷ fs)
-        → clients rx (metStarts 0 (damage ++ (rowSymbols tx (f ∷ fs) ++ rest)))
-        ≡ clients rx (metStarts 0 damage) ++ (allDelivered (f ∷ fs) ++ clients rx (metStarts 0 rest))
+    between-others : (damage : List Symbol) (f : Frame) (fs : List Frame) (rest : List Symbol) → AllCarried tx rx own (f ∷ fs)
+        → clients rx own (metStarts 0 (damage ++ (rowSymbols tx (f ∷ fs) ++ rest)))
+        ≡ clients rx own (metStarts 0 damage) ++ (allDelivered (f ∷ fs) ++ clients rx own (metStarts 0 rest))
     between-others damage f fs rest w =
-        seam rx 0 damage (rowSymbols tx (f ∷ fs) ++ rest) (begins-more f fs rest)
-        ∙ ap (λ (l : List (List ℕ)). clients rx (metStarts 0 damage) ++ l) (frames-then (0 + length damage) (f ∷ fs) rest w
-        ∙ ap (λ (l : List (List ℕ)). allDelivered (f ∷ fs) ++ l) (anywhere rx (0 + length damage) 0 rest))
+        seam rx own 0 damage (rowSymbols tx (f ∷ fs) ++ rest) (begins-more f fs rest)
+        ∙ ap (λ (l : List (List ℕ)). clients rx own (metStarts 0 damage) ++ l) (frames-then (0 + length damage) (f ∷ fs) rest w
+        ∙ ap (λ (l : List (List ℕ)). allDelivered (f ∷ fs) ++ l) (anywhere rx own (0 + length damage) 0 rest))
 
 -- ---- a stretch of a capture is a capture
 
-module _ (rx : Settings) (os ms : List ℕ) (fine : Readable rx os ms) where
-  stretch : (l : List Symbol) → length l ≤ length (capture os ms) → Readable rx (octetsOf l) (marksOf l)
+module _ (rx : Settings) (job : ℕ) (es : List Entry) (os ms : List ℕ) (fine : Readable rx job es os ms) where
+  stretch : (l : List Symbol) → length l ≤ length (capture os ms) → Readable rx job es (octetsOf l) (marksOf l)
   stretch l h =
-      let k = passed rx os ms 0 fine in
+      let k = passed rx job es os ms 0 fine in
       let n = length-capture os ms (k .even) in
       let a = length-octetsOf l in
       let b = length-marksOf l in
       let m = k .small in
-      refuses-none rx (octetsOf l) (marksOf l) 0 (k .valid) (omega arith) (omega arith) (omega arith)
+      refuses-none rx job es (octetsOf l) (marksOf l) 0 (k .valid) (k .known) (omega arith) (omega arith) (omega arith) (k .sound)
 
-  hands-alone : (st : State) (l : List Symbol) → length l ≤ length (capture os ms) → alone rx st l ≡ clients rx (metStarts 0 l)
-  hands-alone st l h = walk-hands rx (octetsOf l) (marksOf l) (stretch l h) st ∙ ap (λ (c : List Symbol). clients rx (metStarts 0 c)) (capture-of l)
+  hands-alone : (st : State) (l : List Symbol) → length l ≤ length (capture os ms) → alone rx job es st l ≡ clients rx (mine job es) (metStarts 0 l)
+  hands-alone st l h =
+      walk-hands rx job es (octetsOf l) (marksOf l) (stretch l h) st
+      ∙ ap (λ (c : List Symbol). clients rx (mine job es) (metStarts 0 c)) (capture-of l)
 
--- ---- the claim: a sender tx; a receiver rx whose settings are valid and check lengths; any octets and marks within the size limit
+-- ---- the claim: a sender tx; a receiver rx whose settings are valid and check lengths, with "a job of 0 or 1 and a table that gives no 20" (document 02,
+-- item 10); any octets and marks within the size limit
 
-module _ (tx rx : Settings) (st : State) (os ms : List ℕ) (fine : Readable rx os ms) (checks : rx .checking ≡ true) where
-  pub demand3 : (damage : List Symbol) (fs : List Frame) → AllCarried tx rx fs → capture os ms ≡ damage ++ rowSymbols tx fs
-      → handedOut os (walk rx st os ms) ≡ alone rx st damage ++ allDelivered fs
+module _ (tx rx : Settings) (job : ℕ) (es : List Entry) (st : State) (os ms : List ℕ) (fine : Readable rx job es os ms) (checks : rx .checking ≡ true) where
+  pub demand3 : (damage : List Symbol) (fs : List Frame) → AllCarried tx rx (mine job es) fs → capture os ms ≡ damage ++ rowSymbols tx fs
+      → handedOut os (walk rx job es st os ms) ≡ alone rx job es st damage ++ allDelivered fs
   demand3 damage fs w e =
       let n : length damage ≤ length (capture os ms) = omega (arith, ap length e, length-append damage (rowSymbols tx fs)) in
-      walk-hands rx os ms fine st
-      ∙ ap (λ (c : List Symbol). clients rx (metStarts 0 c)) e
-      ∙ after-damage rx tx checks damage fs w
-      ∙ ap (λ (l : List (List ℕ)). l ++ allDelivered fs) (sym (hands-alone rx os ms fine st damage n))
+      walk-hands rx job es os ms fine st
+      ∙ ap (λ (c : List Symbol). clients rx (mine job es) (metStarts 0 c)) e
+      ∙ after-damage rx (mine job es) tx checks damage fs w
+      ∙ ap (λ (l : List (List ℕ)). l ++ allDelivered fs) (sym (hands-alone rx job es os ms fine st damage n))
 
   -- the same with anything after the frames, of which there is one at least
-  pub demand3-within : (damage : List Symbol) (f : Frame) (fs : List Frame) (rest : List Symbol) → AllCarried tx rx (f ∷ fs)
+  pub demand3-within : (damage : List Symbol) (f : Frame) (fs : List Frame) (rest : List Symbol) → AllCarried tx rx (mine job es) (f ∷ fs)
       → capture os ms ≡ damage ++ (rowSymbols tx (f ∷ fs) ++ rest)
-      → handedOut os (walk rx st os ms) ≡ alone rx st damage ++ (allDelivered (f ∷ fs) ++ alone rx st rest)
+      → handedOut os (walk rx job es st os ms) ≡ alone rx job es st damage ++ (allDelivered (f ∷ fs) ++ alone rx job es st rest)
   demand3-within damage f fs rest w e =
       let all = ap length e ∙ length-append damage (rowSymbols tx (f ∷ fs) ++ rest) in
       let more = length-append (rowSymbols tx (f ∷ fs)) rest in
-      walk-hands rx os ms fine st
-      ∙ ap (λ (c : List Symbol). clients rx (metStarts 0 c)) e
-      ∙ between-others rx tx checks damage f fs rest w
+      walk-hands rx job es os ms fine st
+      ∙ ap (λ (c : List Symbol). clients rx (mine job es) (metStarts 0 c)) e
+      ∙ between-others rx (mine job es) tx checks damage f fs rest w
       ∙ ap₂ (λ (a b : List (List ℕ)). a ++ (allDelivered (f ∷ fs) ++ b))
-      (sym (hands-alone rx os ms fine st damage (omega arith)))
-      (sym (hands-alone rx os ms fine st rest (omega arith)))
+      (sym (hands-alone rx job es os ms fine st damage (omega arith)))
+      (sym (hands-alone rx job es os ms fine st rest (omega arith)))

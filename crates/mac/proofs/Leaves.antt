@@ -20,8 +20,8 @@ leaves Fine st os ms p new count = record { octets = refl; marks = refl; at = re
 
 pub call-leaves : (st : State) (c : Call) → CallLeaves st c
 unfolding CallLeaves writes frameSending clientSending pauseSending pfcSending idleSending
-call-leaves st (reads s os ms p) = refl
-call-leaves st (walks s os ms) = refl
+call-leaves st (reads s job es os ms p) = refl
+call-leaves st (walks s job es os ms) = refl
 call-leaves st (sendsClient s port os ms p c d) = leaves _ st os ms p _ _
 call-leaves st (sendsPause s port os ms p q) = leaves _ st os ms p _ _
 call-leaves st (sendsPfc s port os ms p k) = leaves _ st os ms p _ _

@@ -3,6 +3,7 @@ pub mod Clients
 pub mod Demand1
 pub mod Demand3
 pub mod Each
+pub mod Jobs
 pub mod Leaves
 pub mod LikeError
 pub mod Limits
@@ -11,6 +12,7 @@ pub mod Quiet
 pub mod Row
 pub mod Seam
 pub mod Sum
+pub mod Tables
 pub mod Timers
 pub mod Totals
 pub mod Unique

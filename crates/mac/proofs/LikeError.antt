@@ -14,6 +14,7 @@ use Rattle.line.specs.declared.Found.the-variants.{At}
 use Rattle.line.specs.Line.{Symbol, capture, isData, isControl, isStart, idle, start, terminate, firstWhere, findStart, run, ending, endedBy, afterStart}
 use Rattle.line.specs.Table.{Table, first}
 use Rattle.line.proofs.Symbols.{by-test, run-data, run-control, ending-data, ending-control}
+use Rattle.station.specs.declared.Address.{Address}
 use Rattle.station.specs.declared.Settings.{Settings}
 use Rattle.station.specs.declared.State.{State}
 use Rattle.station.specs.declared.Part.{Part}
@@ -24,6 +25,8 @@ use Rattle.station.specs.declared.Checked.the-variants.{Fine, Refused}
 use Rattle.station.specs.Station.{badBuffers, badPlace}
 use Rattle.station.proofs.Refusals.{or-false}
 use Rattle.fields.specs.Fields.{dataPlace}
+use Rattle.table.specs.declared.Entry.{Entry}
+use Rattle.table.specs.Entries.{mine}
 use Rattle.frame.specs.Length.{clientData, handedLength}
 use Rattle.outcome.specs.Outcomes.{cut, frameOf, outcomes, outcome}
 use Rattle.receive.specs.declared.Reading.{Reading}
@@ -116,50 +119,52 @@ same-ending (x ∷ xs) =
 
 -- ---- a reading
 
-module _ (s : Settings) (st : State) where
-  same-outcome : (r : List ℕ) (x : Symbol) → outcome s r (treatedLike x) ≡ outcome s r (x .octet)
+-- `own` is what the job has of the table
+module _ (s : Settings) (own : List (Option Address)) (st : State) where
+  same-outcome : (r : List ℕ) (x : Symbol) → outcome s own r (treatedLike x) ≡ outcome s own r (x .octet)
   unfolding outcome outcomes
   same-outcome r x = rw (same-cut x)
 
-  same-ended : (i : ℕ) (r : List ℕ) (e : Option Symbol) → readStart s st i (endedBy r (Option·map treated e)) ≡ readStart s st i (endedBy r e)
+  same-ended : (i : ℕ) (r : List ℕ) (e : Option Symbol) → readStart s own st i (endedBy r (Option·map treated e)) ≡ readStart s own st i (endedBy r e)
   unfolding endedBy readStart
   same-ended i r none = refl
-  same-ended i r (some x) = ap (readRun s st i r) (same-outcome r x)
+  same-ended i r (some x) = ap (readRun s own st i r) (same-outcome r x)
 
-  same-after : (i : ℕ) (l : List Symbol) → readStart s st i (afterStart (map treated l)) ≡ readStart s st i (afterStart l)
+  same-after : (i : ℕ) (l : List Symbol) → readStart s own st i (afterStart (map treated l)) ≡ readStart s own st i (afterStart l)
   unfolding afterStart
-  same-after i l = ap₂ (λ (r : List ℕ) (e : Option Symbol). readStart s st i (endedBy r e)) (same-run l) (same-ending l) ∙ same-ended i (run l) (ending l)
+  same-after i l = ap₂ (λ (r : List ℕ) (e : Option Symbol). readStart s own st i (endedBy r e)) (same-run l) (same-ending l) ∙ same-ended i (run l) (ending l)
 
-  same-reading : (c : List Symbol) (f : Found) → readFound s st (map treated c) f ≡ readFound s st c f
+  same-reading : (c : List Symbol) (f : Found) → readFound s own st (map treated c) f ≡ readFound s own st c f
   unfolding readFound
   same-reading c Found.Nothing = rw (length-map c treated)
-  same-reading c (At i) = ap (λ (l : List Symbol). readStart s st i (afterStart l)) (drop-map (i + 1) c) ∙ same-after i (drop (i + 1) c)
+  same-reading c (At i) = ap (λ (l : List Symbol). readStart s own st i (afterStart l)) (drop-map (i + 1) c) ∙ same-after i (drop (i + 1) c)
 
-  same-at : (c : List Symbol) (place : ℕ) → readAt s st (map treated c) place ≡ readAt s st c place
+  same-at : (c : List Symbol) (place : ℕ) → readAt s own st (map treated c) place ≡ readAt s own st c place
   unfolding readAt findStart
   same-at c place =
-      ap (readFound s st (map treated c)) (ap (firstWhere isStart place) (drop-map place c) ∙ same-found place (drop place c))
+      ap (readFound s own st (map treated c)) (ap (firstWhere isStart place) (drop-map place c) ∙ same-found place (drop place c))
       ∙ same-reading c (findStart c place)
 
-  same-checked : (k : Checked) (os ms : List ℕ) (place : ℕ) → readChecked k s st (likeError os ms) ms place ≡ readChecked k s st os ms place
+  same-checked : (k : Checked) (os ms : List ℕ) (place : ℕ) → readChecked k s own st (likeError os ms) ms place ≡ readChecked k s own st os ms place
   unfolding readChecked
   same-checked (Refused x) os ms place = refl
-  same-checked Fine os ms place = ap (λ (c : List Symbol). readAt s st c place) (capture-like os ms) ∙ same-at (capture os ms) place
+  same-checked Fine os ms place = ap (λ (c : List Symbol). readAt s own st c place) (capture-like os ms) ∙ same-at (capture os ms) place
 
-  same-refusals : (os ms : List ℕ) (place : ℕ) → readRefusals s (likeError os ms) ms place ≡ readRefusals s os ms place
+module _ (s : Settings) (job : ℕ) (es : List Entry) (st : State) where
+  same-refusals : (os ms : List ℕ) (place : ℕ) → readRefusals s job es (likeError os ms) ms place ≡ readRefusals s job es os ms place
   unfolding readRefusals badBuffers badPlace
   same-refusals os ms place = rw (same-length os ms)
 
   -- refused by the same number, or read to the same answer, places and state
-  pub like-error : (os ms : List ℕ) (place : ℕ) → reading s st (likeError os ms) ms place ≡ reading s st os ms place
+  pub like-error : (os ms : List ℕ) (place : ℕ) → reading s job es st (likeError os ms) ms place ≡ reading s job es st os ms place
   unfolding reading
   like-error os ms place =
-      ap (λ (t : Table Checked). readChecked (first t) s st (likeError os ms) ms place) (same-refusals os ms place)
-      ∙ same-checked (first (readRefusals s os ms place)) os ms place
+      ap (λ (t : Table Checked). readChecked (first t) s (mine job es) st (likeError os ms) ms place) (same-refusals os ms place)
+      ∙ same-checked s (mine job es) st (first (readRefusals s job es os ms place)) os ms place
 
 -- ---- the client data of a reading
 
-module _ (s : Settings) (st : State) (os ms : List ℕ) where
+module _ (s : Settings) (own : List (Option Address)) (st : State) (os ms : List ℕ) where
   abbrev c : List Symbol
   c = capture os ms
 
@@ -191,25 +196,26 @@ module _ (s : Settings) (st : State) (os ms : List ℕ) where
       ap (λ (f : List ℕ). partOf (likeError os ms) (record { at = i + 8 + dataPlace f; len = handedLength ck f })) (sym e)
       ∙ handed-part ck (likeError os ms) ms i ∙ ap (clientData ck) e ∙ sym (handed-part ck os ms i)
 
-  same-answer : (i : ℕ) (e : Option Symbol) → Same (answerPart (readStart s st i (endedBy (run (drop (i + 1) c)) e) .answer))
+  same-answer : (i : ℕ) (e : Option Symbol) → Same (answerPart (readStart s own st i (endedBy (run (drop (i + 1) c)) e) .answer))
   unfolding endedBy readStart readRun
   same-answer i none = same-empty
-  same-answer i (some x) = same-handed i (outcome s (run (drop (i + 1) c)) (x .octet))
+  same-answer i (some x) = same-handed i (outcome s own (run (drop (i + 1) c)) (x .octet))
 
-  same-in-found : (f : Found) → Same (answerPart (readFound s st c f .answer))
+  same-in-found : (f : Found) → Same (answerPart (readFound s own st c f .answer))
   unfolding readFound afterStart
   same-in-found Found.Nothing = same-empty
   same-in-found (At i) = same-answer i (ending (drop (i + 1) c))
 
-  same-in-checked : (k : Checked) (place : ℕ) → Same (answerPart (readChecked k s st os ms place .answer))
+  same-in-checked : (k : Checked) (place : ℕ) → Same (answerPart (readChecked k s own st os ms place .answer))
   unfolding readChecked readAt
   same-in-checked (Refused x) place = same-empty
   same-in-checked Fine place = same-in-found (findStart c place)
 
-  -- the part that a reading answers holds the same octets
-  pub like-error-data : (place : ℕ) → let p : Part = answerPart (reading s st os ms place .answer) in partOf (likeError os ms) p ≡ partOf os p
-  unfolding reading
-  like-error-data place = same-in-checked (first (readRefusals s os ms place)) place
+-- the part that a reading answers holds the same octets
+pub like-error-data : (s : Settings) (job : ℕ) (es : List Entry) (st : State) (os ms : List ℕ) (place : ℕ)
+    → let p : Part = answerPart (reading s job es st os ms place .answer) in partOf (likeError os ms) p ≡ partOf os p
+unfolding reading
+like-error-data s job es st os ms place = same-in-checked s (mine job es) st os ms (first (readRefusals s job es os ms place)) place
 
 -- ---- a walk
 
@@ -217,20 +223,20 @@ module _ (s : Settings) (st : State) (os ms : List ℕ) where
 abbrev then : Reading → List Reading → List Reading
 then r rs = r ∷ elim (isCounted (r .answer)) [ true ↦ rs | false ↦ [] ]
 
-same-readings : (most : ℕ) (s : Settings) (st : State) (os ms : List ℕ) (place : ℕ)
-    → readingsFrom most s st (likeError os ms) ms place ≡ readingsFrom most s st os ms place
+same-readings : (most : ℕ) (s : Settings) (job : ℕ) (es : List Entry) (st : State) (os ms : List ℕ) (place : ℕ)
+    → readingsFrom most s job es st (likeError os ms) ms place ≡ readingsFrom most s job es st os ms place
 unfolding readingsFrom
-same-readings zero s st os ms place = refl
-same-readings (suc most) s st os ms place =
-    let r : Reading = reading s st os ms place in
-    ap (λ (q : Reading). then q (readingsFrom most s (q .state) (likeError os ms) ms (q .next))) (like-error s st os ms place)
-    ∙ ap (then r) (same-readings most s (r .state) os ms (r .next))
+same-readings zero s job es st os ms place = refl
+same-readings (suc most) s job es st os ms place =
+    let r : Reading = reading s job es st os ms place in
+    ap (λ (q : Reading). then q (readingsFrom most s job es (q .state) (likeError os ms) ms (q .next))) (like-error s job es st os ms place)
+    ∙ ap (then r) (same-readings most s job es (r .state) os ms (r .next))
 
 -- every reading of the walk, and so what the walk comes to
-pub like-error-walk : (s : Settings) (st : State) (os ms : List ℕ)
-    → (walk s st (likeError os ms) ms ≡ walk s st os ms) × (walked s st (likeError os ms) ms ≡ walked s st os ms)
+pub like-error-walk : (s : Settings) (job : ℕ) (es : List Entry) (st : State) (os ms : List ℕ)
+    → (walk s job es st (likeError os ms) ms ≡ walk s job es st os ms) × (walked s job es st (likeError os ms) ms ≡ walked s job es st os ms)
 unfolding walk walked
-like-error-walk s st os ms =
-    let e : readingsFrom (length (likeError os ms) + 1) s st (likeError os ms) ms 0 ≡ readingsFrom (length os + 1) s st os ms 0 =
-    rw (same-length os ms) (same-readings (length os + 1) s st os ms 0) in
+like-error-walk s job es st os ms =
+    let e : readingsFrom (length (likeError os ms) + 1) s job es st (likeError os ms) ms 0 ≡ readingsFrom (length os + 1) s job es st os ms 0 =
+    rw (same-length os ms) (same-readings (length os + 1) s job es st os ms 0) in
     (e, ap (walkOf 0 st) e)

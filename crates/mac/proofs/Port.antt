@@ -7,6 +7,7 @@ use native.Mathlib.Omega.{arith}
 use mathlib.Core.Path.{_≡_, refl, sym, ap, _∙_}
 use mathlib.Core.Bool.{Bool, true, false, cond, false≢true}
 use mathlib.Core.List.{List, [], _∷_, _++_, map, append-nil}
+use mathlib.Core.Option.{Option}
 use mathlib.Core.Logic.{_⊎_, inl, inr, ⊎-elim}
 use lib.ListN.{length, replicate, length-append}
 use Rattle.line.specs.Line.{Symbol, isData, isControl, isStart, asData, asControl, start, terminate, idle, preamble, AfterStart, unended, ended, MetStart, metStarts}
@@ -16,11 +17,13 @@ use Rattle.line.proofs.Starts.{met-data}
 use Rattle.fcs.specs.Fcs.{fcs}
 use Rattle.station.specs.declared.Port.{Port}
 use Rattle.station.specs.declared.Port.the-variants.{Plain, FourLane}
+use Rattle.station.specs.declared.Address.{Address}
 use Rattle.station.specs.declared.Settings.{Settings}
 use Rattle.station.specs.declared.State.{State}
 use Rattle.station.specs.declared.Checked.{Checked}
 use Rattle.station.specs.declared.Checked.the-variants.{Fine, Refused}
 use Rattle.station.specs.Station.{total}
+use Rattle.table.specs.Entries.{mine}
 use Rattle.receive.specs.Reading.{stateAfter, readRun, readStart, readRefusals, reading}
 use Rattle.writing.specs.Frames.{clientBody, pauseBody, pfcBody, gap, onLine}
 use Rattle.writing.specs.Gaps.{gapAt, gapOn, symbolsOn}
@@ -102,8 +105,8 @@ out-or-not Fine st os ms place body f = let w = f refl in inr (goes-out st _ pla
 
 pub frame-on-port : (st : State) (c : Call) → onPort c ≡ true → OutOrNot st c
 unfolding onPort placeOf writes afterCall clientSending pauseSending pauseChecked pfcSending pfcChecked
-frame-on-port st (reads s os ms p) h = absurd (false≢true h)
-frame-on-port st (walks s os ms) h = absurd (false≢true h)
+frame-on-port st (reads s job es os ms p) h = absurd (false≢true h)
+frame-on-port st (walks s job es os ms) h = absurd (false≢true h)
 frame-on-port st (sendsClient s Plain os ms p c d) h = absurd (false≢true h)
 frame-on-port st (sendsClient s FourLane os ms p c d) h =
     out-or-not _ st os ms p (clientBody s c d) (λ e. of-frame (passed s st FourLane os ms p c d e .framed))
@@ -126,17 +129,17 @@ starts-aligned st c h =
 
 -- ---- any other call
 
-starts-keep : (s : Settings) (st : State) (l : List MetStart) → afterStarts s st l .deficit ≡ st .deficit
+starts-keep : (s : Settings) (own : List (Option Address)) (st : State) (l : List MetStart) → afterStarts s own st l .deficit ≡ st .deficit
 unfolding afterStarts
-starts-keep s st [] = refl
-starts-keep s st (m ∷ l) = starts-keep s (readStart s st (m .place) (m .follows) .state) l ∙ one (m .follows)
+starts-keep s own st [] = refl
+starts-keep s own st (m ∷ l) = starts-keep s own (readStart s own st (m .place) (m .follows) .state) l ∙ one (m .follows)
   where
-    one : (f : AfterStart) → readStart s st (m .place) f .state .deficit ≡ st .deficit
+    one : (f : AfterStart) → readStart s own st (m .place) f .state .deficit ≡ st .deficit
     one unended = unfold readStart in refl
     one (ended run by) = unfold readStart readRun stateAfter in refl
 
-read-keeps : (s : Settings) (st st′ : State) (l : List MetStart) → st′ ≡ afterStarts s st l → st′ .deficit ≡ st .deficit
-read-keeps s st st′ l e = ap (λ (x : State). x .deficit) e ∙ starts-keep s st l
+read-keeps : (s : Settings) (own : List (Option Address)) (st st′ : State) (l : List MetStart) → st′ ≡ afterStarts s own st l → st′ .deficit ≡ st .deficit
+read-keeps s own st st′ l e = ap (λ (x : State). x .deficit) e ∙ starts-keep s own st l
 
 plain-keeps : (k : Checked) (st : State) (os ms : List ℕ) (p : ℕ) (body : List ℕ) → frameSending k st Plain os ms p body .given .state .deficit ≡ st .deficit
 unfolding frameSending sendChecked stateSent gapOn gapAt
@@ -152,8 +155,8 @@ idle-keeps Fine st os ms p new = refl
 -- "only frames sent on this port change it"
 pub only-this-port : (st : State) (c : Call) → onPort c ≡ false → afterCall st c .deficit ≡ st .deficit
 unfolding onPort afterCall reading clientSending pauseSending pfcSending idleSending
-only-this-port st (reads s os ms p) h = read-keeps s st _ _ (read-state s st os ms p (first (readRefusals s os ms p)))
-only-this-port st (walks s os ms) h = read-keeps s st _ _ (walk-state s st os ms (first (readRefusals s os ms 0)) refl)
+only-this-port st (reads s job es os ms p) h = read-keeps s (mine job es) st _ _ (read-state s (mine job es) st os ms p (first (readRefusals s job es os ms p)))
+only-this-port st (walks s job es os ms) h = read-keeps s (mine job es) st _ _ (walk-state s job es st os ms (first (readRefusals s job es os ms 0)) refl)
 only-this-port st (sendsClient s Plain os ms p c d) h = plain-keeps _ st os ms p (clientBody s c d)
 only-this-port st (sendsClient s FourLane os ms p c d) h = absurd (false≢true (sym h))
 only-this-port st (sendsPause s Plain os ms p q) h = plain-keeps _ st os ms p (pauseBody s q)

@@ -51,8 +51,8 @@ held-refused s st port os ms p c d h =
 -- a held class: a call that sends a client frame of it writes nothing
 held-writes-none : (st : State) (k : ℕ) → 0 < timer (st .timers) k .0 → (c : Call) → isClientOf k c ≡ true → writes st c ≡ []
 unfolding isClientOf writes held
-held-writes-none st k h (reads s os ms p) e = refl
-held-writes-none st k h (walks s os ms) e = refl
+held-writes-none st k h (reads s job es os ms p) e = refl
+held-writes-none st k h (walks s job es os ms) e = refl
 held-writes-none st k h (sendsClient s port os ms p c d) e =
     let above : 0 < timer (st .timers) (c .class) .0 = subst (λ (i : ℕ). 0 < timer (st .timers) i .0) (sym (eqb-true (c .class) k e)) h in
     let refused = held-refused s st port os ms p c d (lt-ltb 0 (timer (st .timers) (c .class) .0) above) in

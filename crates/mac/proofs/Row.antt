@@ -6,15 +6,20 @@ use native.Mathlib.Omega.{arith}
 use mathlib.Core.Path.{_≡_, refl, sym, ap, ap₂, _∙_, subst}
 use mathlib.Core.Bool.{true, false}
 use mathlib.Core.List.{List, [], _∷_, _++_, append-assoc}
+use mathlib.Core.Option.{Option}
 use lib.ListN.{length, length-append}
 use Rattle.line.specs.Line.{Symbol, capture, octetsOf, marksOf, overwrite}
 use Rattle.line.proofs.Buffers.{length-octetsOf, length-marksOf, octetsOf-append, marksOf-append}
 use Rattle.line.proofs.Overwrite.{overwrite-none, overwrite-overwrite, length-overwrite, capture-overwrite}
+use Rattle.station.specs.declared.Address.{Address}
 use Rattle.station.specs.declared.Settings.{Settings}
 use Rattle.station.specs.declared.State.{State}
 use Rattle.station.specs.declared.Checked.{Checked}
 use Rattle.station.specs.declared.Checked.the-variants.{Fine}
 use Rattle.station.specs.Station.{badSettings}
+use Rattle.table.specs.declared.Entry.{Entry}
+use Rattle.table.specs.Entries.{mine}
+use Rattle.table.specs.Tests.{badJob, badTable}
 use Rattle.receive.specs.Walk.{walk, handedOut}
 use Rattle.receive.proofs.Refusals.{fine as refuses-none}
 use Rattle.writing.specs.Frames.{clientBody, clientSymbols}
@@ -90,21 +95,22 @@ module _ (tx : Settings) where
 
 -- ---- read back
 
--- frames that the sender does not refuse, and that the receiver's settings welcome
-carried : (tx rx : Settings) (x : Sending) (asked : List Asked) → NoneRefused tx x asked → AllWelcome tx rx (rowFrames tx x asked)
-    → AllCarried tx rx (rowFrames tx x asked)
+-- frames that the sender does not refuse, and that the receiver's settings and own entries welcome
+carried : (tx rx : Settings) (own : List (Option Address)) (x : Sending) (asked : List Asked) → NoneRefused tx x asked
+    → AllWelcome tx rx own (rowFrames tx x asked) → AllCarried tx rx own (rowFrames tx x asked)
 unfolding NoneRefused AllWelcome AllCarried rowFrames frameSent
-carried tx rx x [] w v = tt
-carried tx rx x (a ∷ asked) w v =
+carried tx rx own x [] w v = tt
+carried tx rx own x (a ∷ asked) w v =
     let k = passed tx (x .given .state) (a .port) (x .octets) (x .marks) (x .given .place) (a .client) (a .octets) (w .0) in
     let few : manyTags (a .client) ≡ false = (unfold manyTags in le-ltb 8 (a .client .count) (k .tags)) in
-    (record { welcome = v .0; form = k .type; few = few; short = k .short }, carried tx rx (sendNext tx x a) asked (w .1) (v .1))
+    (record { welcome = v .0; form = k .type; few = few; short = k .short }, carried tx rx own (sendNext tx x a) asked (w .1) (v .1))
 
--- a sender tx and a receiver rx with settings of its own, which are valid and check lengths; one frame or more, each on a port of its own, from a place
--- of any buffers on
-module _ (tx rx : Settings) (valid : badSettings rx ≡ false) (checks : rx .checking ≡ true) (st : State) (os ms : List ℕ) (place : ℕ)
+-- a sender tx and a receiver rx with settings of its own, which are valid and check lengths, a job of 0 or 1 and a table that gives no 20; one frame or
+-- more, each on a port of its own, from a place of any buffers on
+module _ (tx rx : Settings) (job : ℕ) (es : List Entry) (valid : badSettings rx ≡ false) (known : badJob job ≡ false) (sound : badTable es ≡ false)
+    (checks : rx .checking ≡ true) (st : State) (os ms : List ℕ) (place : ℕ)
     (a : Asked) (asked : List Asked) (w : NoneRefused tx (rowFrom st os ms place) (a ∷ asked))
-    (v : AllWelcome tx rx (framesLeft tx st os ms place (a ∷ asked))) where
+    (v : AllWelcome tx rx (mine job es) (framesLeft tx st os ms place (a ∷ asked))) where
   -- the frames on the line, the symbols that are written, and what the calls leave
   abbrev fs : List Frame
   fs = framesLeft tx st os ms place (a ∷ asked)
@@ -131,7 +137,7 @@ module _ (tx rx : Settings) (valid : badSettings rx ≡ false) (checks : rx .che
       ∙ capture-overwrite os ms place new (sender .framed .even)
       ∙ (unfold overwrite in append-assoc (before os ms place) new (behind tx st os ms place (a ∷ asked)))
 
-  readable : Readable rx (y .octets) (y .marks)
+  readable : Readable rx job es (y .octets) (y .marks)
   readable =
       let k = sender .framed in
       let small = k .small in
@@ -139,14 +145,14 @@ module _ (tx rx : Settings) (valid : badSettings rx ≡ false) (checks : rx .che
       let room = the-row .room in
       let lo = ap length (the-row .octets) ∙ length-overwrite os place (octetsOf new) (let n = length-octetsOf new in omega arith) in
       let lm = ap length (the-row .marks) ∙ length-overwrite ms place (marksOf new) (let n = length-marksOf new in omega arith) in
-      refuses-none rx (y .octets) (y .marks) 0 valid (omega arith) (omega arith) (omega arith)
+      refuses-none rx job es (y .octets) (y .marks) 0 valid known (omega arith) (omega arith) (omega arith) sound
 
   pub sent-then-read : (st′ : State) → let l = left tx st os ms place (a ∷ asked) in
-      handedOut (l .octets) (walk rx st′ (l .octets) (l .marks))
-      ≡ alone rx st′ (before os ms place)
-      ++ (allDelivered (framesLeft tx st os ms place (a ∷ asked)) ++ alone rx st′ (behind tx st os ms place (a ∷ asked)))
+      handedOut (l .octets) (walk rx job es st′ (l .octets) (l .marks))
+      ≡ alone rx job es st′ (before os ms place)
+      ++ (allDelivered (framesLeft tx st os ms place (a ∷ asked)) ++ alone rx job es st′ (behind tx st os ms place (a ∷ asked)))
   unfolding rowFrames
   sent-then-read st′ =
-      demand3-within tx rx st′ (y .octets) (y .marks) readable checks (before os ms place) _ _ (behind tx st os ms place (a ∷ asked))
-      (carried tx rx (rowFrom st os ms place) (a ∷ asked) w v)
+      demand3-within tx rx job es st′ (y .octets) (y .marks) readable checks (before os ms place) _ _ (behind tx st os ms place (a ∷ asked))
+      (carried tx rx (mine job es) (rowFrom st os ms place) (a ∷ asked) w v)
       row-capture

@@ -7,6 +7,7 @@ use native.Mathlib.Nat.{not-suc-le-zero, le-of-suc-le-suc, mod-add-mod}
 use mathlib.Core.Path.{_≡_, refl, sym, ap, ap₂, _∙_, subst}
 use mathlib.Core.Bool.{Bool, true, false, cond}
 use mathlib.Core.List.{List, [], _∷_}
+use mathlib.Core.Option.{Option}
 use lib.ListN.{length, getD, set, length-set}
 use lib.Seq.{getD-set-same, getD-set-other}
 use lib.Dec.{eqb}
@@ -14,6 +15,7 @@ use borrow.Author.Tests.{eqb-true, eqb-false}
 use Rattle.line.specs.Line.{Symbol, capture, AfterStart, unended, ended, MetStart, metStarts, startCount}
 use Rattle.line.proofs.Symbols.{by-test}
 use Rattle.line.proofs.Starts.{met-starts}
+use Rattle.station.specs.declared.Address.{Address}
 use Rattle.station.specs.declared.Settings.{Settings}
 use Rattle.station.specs.declared.State.{State}
 use Rattle.station.specs.declared.Outcome.{Outcome}
@@ -21,6 +23,8 @@ use Rattle.station.specs.Numbers.{outcomeNumber}
 use Rattle.station.specs.Station.{counterSize, counter, counted, total, shownSize, screenOf}
 use Rattle.station.proofs.Counters.{row}
 use Rattle.station.proofs.Shown.{shown-sum, counter-shown}
+use Rattle.table.specs.declared.Entry.{Entry}
+use Rattle.table.specs.Entries.{mine}
 use Rattle.receive.specs.declared.Reading.{Reading}
 use Rattle.receive.specs.declared.Walked.{Walked}
 use Rattle.receive.specs.declared.Walked.the-variants.{Ended}
@@ -102,15 +106,15 @@ ones-ended i r by ms =
     ap (λ (b : Bool). suc (length ms) - oneIf b) (last-ended i r by ms) ∙ (let k = some-last ms in omega arith)
 
 -- what one walk over these Starts leaves: how many were counted, the sum of the counters, and the counter of each outcome
-record Rises (s : Settings) (k : ℕ) (st : State) (ms : List MetStart) (w : WalkEnd) : Type 0 where
+record Rises (s : Settings) (own : List (Option Address)) (k : ℕ) (st : State) (ms : List MetStart) (w : WalkEnd) : Type 0 where
   count : w .answer ≡ Ended (k + countedOnes ms) (lastUnended ms)
   sum : total (w .state .counters) % counterSize ≡ (total (st .counters) + countedOnes ms) % counterSize
-  each : (o : Outcome) → counter o (w .state .counters) % counterSize ≡ (counter o (st .counters) + startsWith s o ms) % counterSize
+  each : (o : Outcome) → counter o (w .state .counters) % counterSize ≡ (counter o (st .counters) + startsWith s own o ms) % counterSize
 
-module _ (s : Settings) (n : ℕ) where
+module _ (s : Settings) (own : List (Option Address)) (n : ℕ) where
   one : (k : ℕ) (st : State) (i : ℕ) (f : AfterStart) (ms : List MetStart) → length (st .counters) ≡ 11 → (f ≡ unended → ms ≡ [])
-      → ((st : State) → length (st .counters) ≡ 11 → Rises s (k + 1) st ms (walkOf (k + 1) st (through s st n ms)))
-      → Rises s k st (record { place = i; follows = f } ∷ ms) (walkOf k st (through s st n (record { place = i; follows = f } ∷ ms)))
+      → ((st : State) → length (st .counters) ≡ 11 → Rises s own (k + 1) st ms (walkOf (k + 1) st (through s own st n ms)))
+      → Rises s own k st (record { place = i; follows = f } ∷ ms) (walkOf k st (through s own st n (record { place = i; follows = f } ∷ ms)))
   unfolding walkOf through readStart readRun stateAfter has startsWith lastUnended isUnended oneIf
   one k st i unended [] e l ih =
       let none : countedOnes (record { place = i; follows = unended } ∷ []) ≡ 0 = (unfold countedOnes lastUnended isUnended oneIf in refl) in
@@ -121,25 +125,26 @@ module _ (s : Settings) (n : ℕ) where
       }
   one k st i unended (m ∷ ms) e l ih = not-last m ms (l refl)
   one k st i (ended r by) ms e l ih =
-      let o : Outcome = outcome s r by in
+      let o : Outcome = outcome s own r by in
       let st′ : State = stateAfter o (frameOf r) st in
       let x = ih st′ (unfold counted in simp length-set e) in
       let ones = ones-ended i r by ms in
       record {
         count = x .count ∙ ap₂ Ended (let z : k + 1 + countedOnes ms ≡ k + countedOnes (record { place = i; follows = ended r by } ∷ ms) = omega arith in z) (sym (last-ended i r by ms));
         sum =
-            chain counterSize (total (st .counters)) (total (st′ .counters)) (total (walkOf (k + 1) st′ (through s st′ n ms) .state .counters)) 1 (countedOnes ms)
+            chain counterSize (total (st .counters)) (total (st′ .counters)) (total (walkOf (k + 1) st′ (through s own st′ n ms) .state .counters))
+            1 (countedOnes ms)
             (total-counted o (st .counters) e)
             (x .sum)
             ∙ ap (λ (j : ℕ). (total (st .counters) + j) % counterSize) (sym ones);
         each = λ p.
-            chain counterSize (counter p (st .counters)) (counter p (st′ .counters)) (counter p (walkOf (k + 1) st′ (through s st′ n ms) .state .counters))
-            (oneIf (eqb (outcomeNumber o) (outcomeNumber p))) (startsWith s p ms)
+            chain counterSize (counter p (st .counters)) (counter p (st′ .counters)) (counter p (walkOf (k + 1) st′ (through s own st′ n ms) .state .counters))
+            (oneIf (eqb (outcomeNumber o) (outcomeNumber p))) (startsWith s own p ms)
             (counter-counted p o (st .counters) e)
             (x .each p);
       }
 
-  all : (k : ℕ) (st : State) (ms : List MetStart) → length (st .counters) ≡ 11 → OpenLast ms → Rises s k st ms (walkOf k st (through s st n ms))
+  all : (k : ℕ) (st : State) (ms : List MetStart) → length (st .counters) ≡ 11 → OpenLast ms → Rises s own k st ms (walkOf k st (through s own st n ms))
   unfolding walkOf through OpenLast startsWith lastUnended
   all k st [] e w =
       let none : countedOnes [] ≡ 0 = (unfold countedOnes lastUnended oneIf in refl) in
@@ -152,37 +157,46 @@ module _ (s : Settings) (n : ℕ) where
 
 -- ---- the claim, for any state of eleven counters
 
-module _ (s : Settings) (st : State) (os ms : List ℕ) (fine : Readable s os ms) (eleven : length (st .counters) ≡ 11) where
+module _ (s : Settings) (job : ℕ) (es : List Entry) (st : State) (os ms : List ℕ) (fine : Readable s job es os ms) (eleven : length (st .counters) ≡ 11) where
+  -- what the job has of the table
+  abbrev own : List (Option Address)
+  own = mine job es
+
   abbrev c : List Symbol
   c = capture os ms
 
   abbrev met : List MetStart
   met = metStarts 0 c
 
-  rises : Rises s 0 st met (walked s st os ms)
+  rises : Rises s own 0 st met (walked s job es st os ms)
   unfolding walked
-  rises = subst (λ (l : List Reading). Rises s 0 st met (walkOf 0 st l)) (sym (walk-through s os ms fine st)) (all s (length c) 0 st met eleven (open-last 0 c))
+  rises =
+      subst (λ (l : List Reading). Rises s own 0 st met (walkOf 0 st l)) (sym (walk-through s job es os ms fine st))
+      (all s own (length c) 0 st met eleven (open-last 0 c))
 
   ones : countedOnes met ≡ startCount c - oneIf (lastUnended met)
   unfolding countedOnes
   ones = ap (λ (n : ℕ). n - oneIf (lastUnended met)) (met-starts 0 c)
 
   -- the walk in one call says how many Starts it counted, and whether it ended `open`
-  pub walk-counts : walked s st os ms .answer ≡ Ended (startCount c - oneIf (lastUnended met)) (lastUnended met)
+  pub walk-counts : walked s job es st os ms .answer ≡ Ended (startCount c - oneIf (lastUnended met)) (lastUnended met)
   walk-counts = rises .count ∙ ap (λ (n : ℕ). Ended n (lastUnended met)) (let e : 0 + countedOnes met ≡ countedOnes met = omega arith in e ∙ ones)
 
   -- "the eleven counters together have risen … by the number of Start symbols in the capture, less one if the walk ended `open`"; document 02, item 6:
   -- "Demand 2 and the sum over Starts then hold modulo 2^64"
-  pub counters-rise : total (walked s st os ms .state .counters) % counterSize ≡ (total (st .counters) + (startCount c - oneIf (lastUnended met))) % counterSize
+  pub counters-rise : total (walked s job es st os ms .state .counters) % counterSize
+      ≡ (total (st .counters) + (startCount c - oneIf (lastUnended met))) % counterSize
   counters-rise = rises .sum ∙ ap (λ (n : ℕ). (total (st .counters) + n) % counterSize) ones
 
   -- and each single counter by the number of Starts with its outcome
-  pub counter-rises : (o : Outcome) → counter o (walked s st os ms .state .counters) % counterSize ≡ (counter o (st .counters) + startsWith s o met) % counterSize
+  pub counter-rises : (o : Outcome) → counter o (walked s job es st os ms .state .counters) % counterSize
+      ≡ (counter o (st .counters) + startsWith s own o met) % counterSize
   counter-rises o = rises .each o
 
   -- document 02, item 6: "The management screen goes on showing the 32-bit values": each rises by that number modulo 2^32
-  pub screen-rises : (o : Outcome) → counter o (screenOf (walked s st os ms .state .counters)) ≡ (counter o (screenOf (st .counters)) + startsWith s o met) % shownSize
+  pub screen-rises : (o : Outcome) → counter o (screenOf (walked s job es st os ms .state .counters))
+      ≡ (counter o (screenOf (st .counters)) + startsWith s own o met) % shownSize
   screen-rises o =
-      counter-shown o (walked s st os ms .state .counters)
-      ∙ shown-sum (counter o (walked s st os ms .state .counters)) (counter o (st .counters)) (startsWith s o met) (counter-rises o)
-      ∙ ap (λ (x : ℕ). (x + startsWith s o met) % shownSize) (sym (counter-shown o (st .counters)))
+      counter-shown o (walked s job es st os ms .state .counters)
+      ∙ shown-sum (counter o (walked s job es st os ms .state .counters)) (counter o (st .counters)) (startsWith s own o met) (counter-rises o)
+      ∙ ap (λ (x : ℕ). (x + startsWith s own o met) % shownSize) (sym (counter-shown o (st .counters)))

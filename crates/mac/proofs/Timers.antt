@@ -17,6 +17,7 @@ use Rattle.line.specs.declared.Found.the-variants.{At, Nothing}
 use Rattle.line.specs.Line.{Symbol, capture, findStart, AfterStart, unended, ended, MetStart, metStarts}
 use Rattle.line.specs.Table.{first}
 use Rattle.line.proofs.Symbols.{by-test}
+use Rattle.station.specs.declared.Address.{Address}
 use Rattle.station.specs.declared.Settings.{Settings}
 use Rattle.station.specs.declared.Port.{Port}
 use Rattle.station.specs.declared.State.{State}
@@ -26,6 +27,8 @@ use Rattle.station.specs.declared.Checked.{Checked}
 use Rattle.station.specs.declared.Checked.the-variants.{Fine, Refused}
 use Rattle.station.specs.declared.Outcome.{Outcome}
 use Rattle.station.specs.declared.Outcome.the-variants.{Cut, BadPreamble, Undersized, Oversized, WrongFcs, WrongLength, Filtered, PauseTaken, PfcTaken, ControlDropped, HandedOut}
+use Rattle.table.specs.declared.Entry.{Entry}
+use Rattle.table.specs.Entries.{mine}
 use Rattle.flow.specs.Timers.{slotsOf, quantaAt, timer, setAll, setNamed, timersAfter, lowered}
 use Rattle.flow.proofs.TimerLaws.{length-timersAfter}
 use Rattle.outcome.specs.Outcomes.{outcome, frameOf}
@@ -86,9 +89,9 @@ outcome-sets HandedOut f k ts h = refl
 
 -- ---- Starts read one after the other
 
-unfoldable pub afterStarts : Settings → State → List MetStart → State
-afterStarts s st [] = st
-afterStarts s st (m ∷ l) = afterStarts s (readStart s st (m .place) (m .follows) .state) l
+unfoldable pub afterStarts : Settings → List (Option Address) → State → List MetStart → State
+afterStarts s own st [] = st
+afterStarts s own st (m ∷ l) = afterStarts s own (readStart s own st (m .place) (m .follows) .state) l
 
 set-twice : (a b : Option Quanta) (t : Slots) → setOr a (setOr b t) ≡ setOr (orElse a b) t
 unfolding setOr orElse
@@ -99,27 +102,27 @@ set-twice (some q) b t = refl
 abbrev SetTo : ℕ → Option Quanta → List Slots → List Slots → Type 0
 SetTo k o old new = (length new ≡ length old) × (k < length old → timer new k ≡ setOr o (timer old k))
 
-module _ (s : Settings) (k : ℕ) where
-  start-sets : (st : State) (i : ℕ) (f : AfterStart) → SetTo k (setByStart s k f) (st .timers) (readStart s st i f .state .timers)
+module _ (s : Settings) (own : List (Option Address)) (k : ℕ) where
+  start-sets : (st : State) (i : ℕ) (f : AfterStart) → SetTo k (setByStart s own k f) (st .timers) (readStart s own st i f .state .timers)
   unfolding setByStart readStart readRun stateAfter setOr
   start-sets st i unended = (refl, λ h. refl)
   start-sets st i (ended run by) =
-      let o : Outcome = outcome s run by in (length-timersAfter o (frameOf run) (st .timers), outcome-sets o (frameOf run) k (st .timers))
+      let o : Outcome = outcome s own run by in (length-timersAfter o (frameOf run) (st .timers), outcome-sets o (frameOf run) k (st .timers))
 
-  starts-set : (st : State) (l : List MetStart) → SetTo k (setByStarts s k l) (st .timers) (afterStarts s st l .timers)
+  starts-set : (st : State) (l : List MetStart) → SetTo k (setByStarts s own k l) (st .timers) (afterStarts s own st l .timers)
   unfolding afterStarts setByStarts setOr
   starts-set st [] = (refl, λ h. refl)
   starts-set st (m ∷ l) =
       let one = start-sets st (m .place) (m .follows) in
       let same = one .0 in
-      let rest = starts-set (readStart s st (m .place) (m .follows) .state) l in
-      let later : Option Quanta = setByStarts s k l in (
+      let rest = starts-set (readStart s own st (m .place) (m .follows) .state) l in
+      let later : Option Quanta = setByStarts s own k l in (
         rest .0 ∙ same,
-        λ h. rest .1 (omega arith) ∙ ap (setOr later) (one .1 h) ∙ set-twice later (setByStart s k (m .follows)) (timer (st .timers) k),
+        λ h. rest .1 (omega arith) ∙ ap (setOr later) (one .1 h) ∙ set-twice later (setByStart s own k (m .follows)) (timer (st .timers) k),
       )
 
   -- none of them sets class k; beyond the eight timers there is nothing to set
-  starts-unset : (st : State) (l : List MetStart) → setByStarts s k l ≡ none → timer (afterStarts s st l .timers) k ≡ timer (st .timers) k
+  starts-unset : (st : State) (l : List MetStart) → setByStarts s own k l ≡ none → timer (afterStarts s own st l .timers) k ≡ timer (st .timers) k
   unfolding timer setOr
   starts-unset st l h =
       let x = starts-set st l in
@@ -127,39 +130,42 @@ module _ (s : Settings) (k : ℕ) where
       by-test (ltb k (length (st .timers)))
       (λ e. x .1 (ltb-true k (length (st .timers)) e) ∙ ap (λ (o : Option Quanta). setOr o (timer (st .timers) k)) h)
       (λ e. let beyond = ltb-false k (length (st .timers)) e in
-      List·getD-eq-default (afterStarts s st l .timers) (record { 0 = 0 }) {n = k} (omega arith)
+      List·getD-eq-default (afterStarts s own st l .timers) (record { 0 = 0 }) {n = k} (omega arith)
       ∙ sym (List·getD-eq-default (st .timers) (record { 0 = 0 }) {n = k} beyond))
 
 -- ---- a reading and a walk leave the state of the Starts that they read
 
-found-state : (s : Settings) (st : State) (c : List Symbol) (f : Found) → readFound s st c f .state ≡ afterStarts s st (startFound c f)
+found-state : (s : Settings) (own : List (Option Address)) (st : State) (c : List Symbol) (f : Found)
+    → readFound s own st c f .state ≡ afterStarts s own st (startFound c f)
 unfolding readFound startFound afterStarts
-found-state s st c Nothing = refl
-found-state s st c (At i) = refl
+found-state s own st c Nothing = refl
+found-state s own st c (At i) = refl
 
-pub read-state : (s : Settings) (st : State) (os ms : List ℕ) (p : ℕ) (r : Checked)
-    → readChecked r s st os ms p .state ≡ afterStarts s st (unlessRefused r (startFound (capture os ms) (findStart (capture os ms) p)))
+pub read-state : (s : Settings) (own : List (Option Address)) (st : State) (os ms : List ℕ) (p : ℕ) (r : Checked)
+    → readChecked r s own st os ms p .state ≡ afterStarts s own st (unlessRefused r (startFound (capture os ms) (findStart (capture os ms) p)))
 unfolding readChecked readAt unlessRefused afterStarts
-read-state s st os ms p (Refused x) = refl
-read-state s st os ms p Fine = found-state s st (capture os ms) (findStart (capture os ms) p)
+read-state s own st os ms p (Refused x) = refl
+read-state s own st os ms p Fine = found-state s own st (capture os ms) (findStart (capture os ms) p)
 
-through-state : (s : Settings) (k n : ℕ) (st : State) (l : List MetStart) → OpenLast l → walkOf k st (through s st n l) .state ≡ afterStarts s st l
+through-state : (s : Settings) (own : List (Option Address)) (k n : ℕ) (st : State) (l : List MetStart) → OpenLast l
+    → walkOf k st (through s own st n l) .state ≡ afterStarts s own st l
 unfolding walkOf through OpenLast afterStarts
-through-state s k n st [] w = refl
-through-state s k n st (m ∷ l) w = one (m .follows) (w .0) (λ st′. through-state s (k + 1) n st′ l (w .1))
+through-state s own k n st [] w = refl
+through-state s own k n st (m ∷ l) w = one (m .follows) (w .0) (λ st′. through-state s own (k + 1) n st′ l (w .1))
   where
-    one : (f : AfterStart) → (f ≡ unended → l ≡ []) → ((st : State) → walkOf (k + 1) st (through s st n l) .state ≡ afterStarts s st l)
-        → walkOf k st (through s st n (record { place = m .place; follows = f } ∷ l)) .state ≡ afterStarts s st (record { place = m .place; follows = f } ∷ l)
-    one unended last ih = unfold readStart in sym (ap (afterStarts s st) (last refl))
-    one (ended r by) last ih = unfold readStart readRun in ih (readStart s st (m .place) (ended r by) .state)
+    one : (f : AfterStart) → (f ≡ unended → l ≡ []) → ((st : State) → walkOf (k + 1) st (through s own st n l) .state ≡ afterStarts s own st l)
+        → walkOf k st (through s own st n (record { place = m .place; follows = f } ∷ l)) .state
+        ≡ afterStarts s own st (record { place = m .place; follows = f } ∷ l)
+    one unended last ih = unfold readStart in sym (ap (afterStarts s own st) (last refl))
+    one (ended r by) last ih = unfold readStart readRun in ih (readStart s own st (m .place) (ended r by) .state)
 
-pub walk-state : (s : Settings) (st : State) (os ms : List ℕ) (r : Checked) → first (readRefusals s os ms 0) ≡ r
-    → walked s st os ms .state ≡ afterStarts s st (unlessRefused r (metStarts 0 (capture os ms)))
+pub walk-state : (s : Settings) (job : ℕ) (es : List Entry) (st : State) (os ms : List ℕ) (r : Checked) → first (readRefusals s job es os ms 0) ≡ r
+    → walked s job es st os ms .state ≡ afterStarts s (mine job es) st (unlessRefused r (metStarts 0 (capture os ms)))
 unfolding unlessRefused afterStarts
-walk-state s st os ms (Refused x) e = ap (λ (w : WalkEnd). w .state) (walked-refused s st os ms x e)
-walk-state s st os ms Fine e =
+walk-state s job es st os ms (Refused x) e = ap (λ (w : WalkEnd). w .state) (walked-refused s job es st os ms x e)
+walk-state s job es st os ms Fine e =
     let c : List Symbol = capture os ms in
-    sym (ap (λ (w : WalkEnd). w .state) (walked-from s st os ms e)) ∙ through-state s 0 (length c) st (metStarts 0 c) (open-last 0 c)
+    sym (ap (λ (w : WalkEnd). w .state) (walked-from s job es st os ms e)) ∙ through-state s (mine job es) 0 (length c) st (metStarts 0 c) (open-last 0 c)
 
 -- ---- a call that does not set class k takes the symbols it writes off its timer
 
@@ -170,14 +176,15 @@ sent-lowers (Refused x) st os ms p new count k = omega arith
 sent-lowers Fine st os ms p new count k = lowered-timer (length new) (st .timers) k
 
 -- the state after a call that reads Starts, none of which sets it
-read-lowers : (s : Settings) (st st′ : State) (k : ℕ) (l : List MetStart) → st′ ≡ afterStarts s st l → setByStarts s k l ≡ none
-    → timer (st′ .timers) k .0 ≡ timer (st .timers) k .0 - 0
-read-lowers s st st′ k l e h = ap (λ (x : State). timer (x .timers) k .0) e ∙ ap (λ (t : Slots). t .0) (starts-unset s k st l h) ∙ omega arith
+read-lowers : (s : Settings) (own : List (Option Address)) (st st′ : State) (k : ℕ) (l : List MetStart) → st′ ≡ afterStarts s own st l
+    → setByStarts s own k l ≡ none → timer (st′ .timers) k .0 ≡ timer (st .timers) k .0 - 0
+read-lowers s own st st′ k l e h = ap (λ (x : State). timer (x .timers) k .0) e ∙ ap (λ (t : Slots). t .0) (starts-unset s own k st l h) ∙ omega arith
 
 pub call-lowers : (st : State) (k : ℕ) (c : Call) → setsClass k c ≡ none → timer (afterCall st c .timers) k .0 ≡ timer (st .timers) k .0 - length (writes st c)
 unfolding afterCall writes setsClass startRead startsWalked reading frameSending clientSending pauseSending pfcSending idleSending
-call-lowers st k (reads s os ms p) h = read-lowers s st _ k _ (read-state s st os ms p (first (readRefusals s os ms p))) h
-call-lowers st k (walks s os ms) h = read-lowers s st _ k _ (walk-state s st os ms (first (readRefusals s os ms 0)) refl) h
+call-lowers st k (reads s job es os ms p) h =
+    read-lowers s (mine job es) st _ k _ (read-state s (mine job es) st os ms p (first (readRefusals s job es os ms p))) h
+call-lowers st k (walks s job es os ms) h = read-lowers s (mine job es) st _ k _ (walk-state s job es st os ms (first (readRefusals s job es os ms 0)) refl) h
 call-lowers st k (sendsClient s port os ms p c d) h = sent-lowers _ st os ms p _ _ k
 call-lowers st k (sendsPause s port os ms p q) h = sent-lowers _ st os ms p _ _ k
 call-lowers st k (sendsPfc s port os ms p c) h = sent-lowers _ st os ms p _ _ k
@@ -197,10 +204,11 @@ timer-falls k st (c ∷ cs) w =
 -- ---- a call that sets the class
 
 module _ (st : State) (k : ℕ) (q : Quanta) (eight : k < length (st .timers)) where
-  read-sets : (s : Settings) (st′ : State) (l : List MetStart) → st′ ≡ afterStarts s st l → setByStarts s k l ≡ some q → timer (st′ .timers) k ≡ slotsOf q
+  read-sets : (s : Settings) (own : List (Option Address)) (st′ : State) (l : List MetStart) → st′ ≡ afterStarts s own st l
+      → setByStarts s own k l ≡ some q → timer (st′ .timers) k ≡ slotsOf q
   unfolding setOr
-  read-sets s st′ l e h =
-      ap (λ (x : State). timer (x .timers) k) e ∙ starts-set s k st l .1 eight ∙ ap (λ (o : Option Quanta). setOr o (timer (st .timers) k)) h
+  read-sets s own st′ l e h =
+      ap (λ (x : State). timer (x .timers) k) e ∙ starts-set s own k st l .1 eight ∙ ap (λ (o : Option Quanta). setOr o (timer (st .timers) k)) h
 
   apart : {X : Type 0} → _≡_ {A = Option Quanta} none (some q) → X
   apart h = let bad : _≡_ {A = ℕ} 0 1 = cc in absurd (omega arith)
@@ -208,8 +216,8 @@ module _ (st : State) (k : ℕ) (q : Quanta) (eight : k < length (st .timers)) w
   -- "Setting replaces the old time": and only a reading or a walk sets a class, since `setsClass` of any other call is `none`
   pub timer-set : (c : Call) → setsClass k c ≡ some q → timer (afterCall st c .timers) k ≡ slotsOf q
   unfolding afterCall setsClass startRead startsWalked reading
-  timer-set (reads s os ms p) h = read-sets s _ _ (read-state s st os ms p (first (readRefusals s os ms p))) h
-  timer-set (walks s os ms) h = read-sets s _ _ (walk-state s st os ms (first (readRefusals s os ms 0)) refl) h
+  timer-set (reads s job es os ms p) h = read-sets s (mine job es) _ _ (read-state s (mine job es) st os ms p (first (readRefusals s job es os ms p))) h
+  timer-set (walks s job es os ms) h = read-sets s (mine job es) _ _ (walk-state s job es st os ms (first (readRefusals s job es os ms 0)) refl) h
   timer-set (sendsClient s port os ms p c d) h = apart h
   timer-set (sendsPause s port os ms p x) h = apart h
   timer-set (sendsPfc s port os ms p c) h = apart h

@@ -12,6 +12,7 @@ use Rattle.line.specs.declared.Found.{Found}
 use Rattle.line.specs.declared.Found.the-variants.{At, Nothing}
 use Rattle.line.specs.Line.{Symbol, capture, octetsOf, marksOf, isStart, findStart, AfterStart, unended, ended, afterStart, MetStart, metStarts, overwrite}
 use Rattle.line.specs.Table.{first}
+use Rattle.station.specs.declared.Address.{Address}
 use Rattle.station.specs.declared.Settings.{Settings}
 use Rattle.station.specs.declared.Port.{Port}
 use Rattle.station.specs.declared.State.{State}
@@ -21,6 +22,8 @@ use Rattle.station.specs.declared.Checked.{Checked}
 use Rattle.station.specs.declared.Checked.the-variants.{Fine, Refused}
 use Rattle.station.specs.Numbers.{byOutcome}
 use Rattle.flow.specs.Timers.{quantaAt}
+use Rattle.table.specs.declared.Entry.{Entry}
+use Rattle.table.specs.Entries.{mine}
 use Rattle.outcome.specs.Outcomes.{outcome, frameOf}
 use Rattle.receive.specs.Reading.{readRefusals, reading}
 use Rattle.receive.specs.Walk.{walked}
@@ -30,10 +33,11 @@ use Rattle.writing.specs.Frames.{clientBody, pauseBody, pfcBody, idleSymbols}
 use Rattle.writing.specs.Gaps.{symbolsOn}
 use Rattle.send.specs.Sending.{Sending, written, clientChecked, pauseChecked, pfcChecked, idleChecked, clientSending, pauseSending, pfcSending, idleSending}
 
--- a call: its settings (Idle fill has none), its port if it sends a frame, its octets, its marks, its place (a walk has none), and what it is asked
+-- a call: its settings (Idle fill has none), its job and the address table if it reads, its port if it sends a frame, its octets, its marks, its place
+-- (a walk has none), and what it is asked
 pub data Call : Type 0 where
-  reads : Settings → List ℕ → List ℕ → ℕ → Call
-  walks : Settings → List ℕ → List ℕ → Call
+  reads : Settings → ℕ → List Entry → List ℕ → List ℕ → ℕ → Call
+  walks : Settings → ℕ → List Entry → List ℕ → List ℕ → Call
   sendsClient : Settings → Port → List ℕ → List ℕ → ℕ → Client → List ℕ → Call
   sendsPause : Settings → Port → List ℕ → List ℕ → ℕ → Quanta → Call
   sendsPfc : Settings → Port → List ℕ → List ℕ → ℕ → Classes → Call
@@ -41,8 +45,8 @@ pub data Call : Type 0 where
 
 -- the state that a call leaves, and a sequence of calls
 unfoldable pub afterCall : State → Call → State
-afterCall st (reads s os ms p) = reading s st os ms p .state
-afterCall st (walks s os ms) = walked s st os ms .state
+afterCall st (reads s job es os ms p) = reading s job es st os ms p .state
+afterCall st (walks s job es os ms) = walked s job es st os ms .state
 afterCall st (sendsClient s port os ms p c d) = clientSending s st port os ms p c d .given .state
 afterCall st (sendsPause s port os ms p q) = pauseSending s st port os ms p q .given .state
 afterCall st (sendsPfc s port os ms p k) = pfcSending s st port os ms p k .given .state
@@ -54,8 +58,8 @@ afterCalls st (c ∷ cs) = afterCalls (afterCall st c) cs
 
 -- the symbols that a call writes, and a sequence of calls
 unfoldable pub writes : State → Call → List Symbol
-writes st (reads s os ms p) = []
-writes st (walks s os ms) = []
+writes st (reads s job es os ms p) = []
+writes st (walks s job es os ms) = []
 writes st (sendsClient s port os ms p c d) = written (clientChecked s st port os ms p c d) (symbolsOn port (st .deficit) p (clientBody s c d))
 writes st (sendsPause s port os ms p q) = written (pauseChecked s port (st .deficit) os ms p q) (symbolsOn port (st .deficit) p (pauseBody s q))
 writes st (sendsPfc s port os ms p k) = written (pfcChecked s port (st .deficit) os ms p k) (symbolsOn port (st .deficit) p (pfcBody s k))
@@ -76,8 +80,8 @@ pub record Leaves (os ms : List ℕ) (place : ℕ) (new : List Symbol) (x : Send
 
 -- that of each call; a reading and a walk are lent their buffers to look at, and write nothing
 unfoldable pub CallLeaves : State → Call → Type 0
-CallLeaves st (reads s os ms p) = writes st (reads s os ms p) ≡ []
-CallLeaves st (walks s os ms) = writes st (walks s os ms) ≡ []
+CallLeaves st (reads s job es os ms p) = writes st (reads s job es os ms p) ≡ []
+CallLeaves st (walks s job es os ms) = writes st (walks s job es os ms) ≡ []
 CallLeaves st (sendsClient s port os ms p c d) = Leaves os ms p (writes st (sendsClient s port os ms p c d)) (clientSending s st port os ms p c d)
 CallLeaves st (sendsPause s port os ms p q) = Leaves os ms p (writes st (sendsPause s port os ms p q)) (pauseSending s st port os ms p q)
 CallLeaves st (sendsPfc s port os ms p k) = Leaves os ms p (writes st (sendsPfc s port os ms p k)) (pfcSending s st port os ms p k)
@@ -99,14 +103,15 @@ quantaOf l (suc n) = quantaOf (drop 2 l) n
 unfoldable pub setBy : Outcome → List ℕ → ℕ → Option Quanta
 setBy o f class = byOutcome o none (some (quantaAt f 16)) (cond (names (getD f 17 0) class) (some (quantaOf (drop 18 f) class)) none) none none
 
--- by a Start, and by Starts read one after the other: the last that sets the class decides, since "Setting replaces the old time"
-unfoldable pub setByStart : Settings → ℕ → AfterStart → Option Quanta
-setByStart s class unended = none
-setByStart s class (ended run by) = setBy (outcome s run by) (frameOf run) class
+-- by a Start, and by Starts read one after the other: the last that sets the class decides, since "Setting replaces the old time"; `own` is what the
+-- call's job has of the table
+unfoldable pub setByStart : Settings → List (Option Address) → ℕ → AfterStart → Option Quanta
+setByStart s own class unended = none
+setByStart s own class (ended run by) = setBy (outcome s own run by) (frameOf run) class
 
-unfoldable pub setByStarts : Settings → ℕ → List MetStart → Option Quanta
-setByStarts s class [] = none
-setByStarts s class (m ∷ l) = orElse (setByStarts s class l) (setByStart s class (m .follows))
+unfoldable pub setByStarts : Settings → List (Option Address) → ℕ → List MetStart → Option Quanta
+setByStarts s own class [] = none
+setByStarts s own class (m ∷ l) = orElse (setByStarts s own class l) (setByStart s own class (m .follows))
 
 -- the Starts that a call reads: a refused one none, a reading "the first Start at that place or later", a walk every one
 unfoldable pub unlessRefused : Checked → List MetStart → List MetStart
@@ -117,16 +122,16 @@ unfoldable pub startFound : List Symbol → Found → List MetStart
 startFound c Nothing = []
 startFound c (At i) = record { place = i; follows = afterStart (drop (i + 1) c) } ∷ []
 
-unfoldable pub startRead : Settings → List ℕ → List ℕ → ℕ → List MetStart
-startRead s os ms p = unlessRefused (first (readRefusals s os ms p)) (startFound (capture os ms) (findStart (capture os ms) p))
+unfoldable pub startRead : Settings → ℕ → List Entry → List ℕ → List ℕ → ℕ → List MetStart
+startRead s job es os ms p = unlessRefused (first (readRefusals s job es os ms p)) (startFound (capture os ms) (findStart (capture os ms) p))
 
-unfoldable pub startsWalked : Settings → List ℕ → List ℕ → List MetStart
-startsWalked s os ms = unlessRefused (first (readRefusals s os ms 0)) (metStarts 0 (capture os ms))
+unfoldable pub startsWalked : Settings → ℕ → List Entry → List ℕ → List ℕ → List MetStart
+startsWalked s job es os ms = unlessRefused (first (readRefusals s job es os ms 0)) (metStarts 0 (capture os ms))
 
 -- what a call sets a class to: "only set by reading", in one Start or in a whole walk
 unfoldable pub setsClass : ℕ → Call → Option Quanta
-setsClass class (reads s os ms p) = setByStarts s class (startRead s os ms p)
-setsClass class (walks s os ms) = setByStarts s class (startsWalked s os ms)
+setsClass class (reads s job es os ms p) = setByStarts s (mine job es) class (startRead s job es os ms p)
+setsClass class (walks s job es os ms) = setByStarts s (mine job es) class (startsWalked s job es os ms)
 setsClass class (sendsClient s port os ms p c d) = none
 setsClass class (sendsPause s port os ms p q) = none
 setsClass class (sendsPfc s port os ms p k) = none
@@ -141,8 +146,8 @@ NoneSets class (c ∷ cs) = (setsClass class c ≡ none) × NoneSets class cs
 
 -- a call sends a client frame of the class
 unfoldable pub isClientOf : ℕ → Call → Bool
-isClientOf class (reads s os ms p) = false
-isClientOf class (walks s os ms) = false
+isClientOf class (reads s job es os ms p) = false
+isClientOf class (walks s job es os ms) = false
 isClientOf class (sendsClient s port os ms p c d) = eqb (c .class) class
 isClientOf class (sendsPause s port os ms p q) = false
 isClientOf class (sendsPfc s port os ms p k) = false

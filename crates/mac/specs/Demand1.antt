@@ -29,8 +29,8 @@ unfoldable pub placeIn : List ℕ → ℕ → ℕ
 placeIn [] n = 0
 placeIn (k ∷ numbers) n = cond (eqb k n) 0 (1 + placeIn numbers n)
 
--- "Lowest number first"; document 02, item 1: "10, …, tested after 6 and before 7"; item 5: "3 …, then new 19". A call's numbers are listed in the
--- order in which they are tried: the row of no number that stands before n in the list holds
+-- "Lowest number first"; document 02, item 1: "10, …, tested after 6 and before 7"; item 5: "3 …, then new 19"; item 10: "14 …, tested right after 1". A call's
+-- numbers are listed in the order in which they are tried: the row of no number that stands before n in the list holds
 abbrev pub NoneBefore : Table Checked → List ℕ → ℕ → Type 0
 NoneBefore rows numbers n = (m : ℕ) → placeIn numbers m < placeIn numbers n → rowHolds rows m ≡ false
 

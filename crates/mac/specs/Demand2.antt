@@ -3,23 +3,26 @@ use Prim.Native.Nat.{ℕ, _+_}
 use mathlib.Core.Path.{_≡_}
 use mathlib.Core.Bool.{Bool, true, false, cond}
 use mathlib.Core.List.{List, [], _∷_, _++_}
+use mathlib.Core.Option.{Option}
 use lib.Dec.{eqb}
 use Rattle.line.specs.Line.{Symbol, AfterStart, unended, ended, MetStart, metStarts}
 use Rattle.line.specs.Table.{first}
+use Rattle.station.specs.declared.Address.{Address}
 use Rattle.station.specs.declared.Settings.{Settings}
 use Rattle.station.specs.declared.Outcome.{Outcome}
 use Rattle.station.specs.declared.Part.{Part}
 use Rattle.station.specs.declared.Checked.the-variants.{Fine}
 use Rattle.station.specs.Numbers.{outcomeNumber}
+use Rattle.table.specs.declared.Entry.{Entry}
 use Rattle.receive.specs.declared.Answer.{Answer}
 use Rattle.receive.specs.declared.Answer.the-variants.{Refused, Nothing, Open, Counted}
 use Rattle.receive.specs.declared.Reading.{Reading}
 use Rattle.outcome.specs.Outcomes.{outcome}
 use Rattle.receive.specs.Reading.{readRefusals}
 
--- a capture and settings with which no reading from place 0 on is refused: refusals 1 and 2 do not hold
-abbrev pub Readable : Settings → List ℕ → List ℕ → Type 0
-Readable s os ms = first (readRefusals s os ms 0) ≡ Fine
+-- a capture, settings, a job and an address table with which no reading from place 0 on is refused: refusals 1, 14, 2 and 20 do not hold
+abbrev pub Readable : Settings → ℕ → List Entry → List ℕ → List ℕ → Type 0
+Readable s job es os ms = first (readRefusals s job es os ms 0) ≡ Fine
 
 -- ---- "Each Start in a capture, but for a last one whose run hasn't ended, gets the one outcome"
 
@@ -73,11 +76,11 @@ lastUnended (m ∷ n ∷ ms) = lastUnended (n ∷ ms)
 unfoldable pub oneIf : Bool → ℕ
 oneIf b = cond b 1 0
 
--- the number of Starts that have an outcome
-unfoldable pub has : Settings → Outcome → AfterStart → Bool
-has s o unended = false
-has s o (ended run by) = eqb (outcomeNumber (outcome s run by)) (outcomeNumber o)
+-- the number of Starts that have an outcome, for a job whose own entries are `own`
+unfoldable pub has : Settings → List (Option Address) → Outcome → AfterStart → Bool
+has s own o unended = false
+has s own o (ended run by) = eqb (outcomeNumber (outcome s own run by)) (outcomeNumber o)
 
-unfoldable pub startsWith : Settings → Outcome → List MetStart → ℕ
-startsWith s o [] = 0
-startsWith s o (m ∷ ms) = oneIf (has s o (m .follows)) + startsWith s o ms
+unfoldable pub startsWith : Settings → List (Option Address) → Outcome → List MetStart → ℕ
+startsWith s own o [] = 0
+startsWith s own o (m ∷ ms) = oneIf (has s own o (m .follows)) + startsWith s own o ms

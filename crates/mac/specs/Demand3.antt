@@ -3,15 +3,18 @@ use Prim.Native.Nat.{ℕ, _+_, _-_, _≤_, _<_}
 use mathlib.Core.Path.{_≡_}
 use mathlib.Core.Bool.{Bool, true, false}
 use mathlib.Core.List.{List, [], _∷_, _++_}
+use mathlib.Core.Option.{Option}
 use lib.ListN.{length, take, drop}
 use Rattle.line.specs.Line.{Symbol, capture, octetsOf, marksOf, overwrite}
 use Rattle.fcs.specs.Fcs.{fcs}
+use Rattle.station.specs.declared.Address.{Address}
 use Rattle.station.specs.declared.Settings.{Settings}
 use Rattle.station.specs.declared.Port.{Port}
 use Rattle.station.specs.declared.State.{State}
 use Rattle.station.specs.declared.Checked.the-variants.{Fine}
 use Rattle.frame.specs.Frame.{oversized}
-use Rattle.address.specs.Address.{accepts}
+use Rattle.table.specs.declared.Entry.{Entry}
+use Rattle.table.specs.Way.{accepts}
 use Rattle.receive.specs.Walk.{walk, handedOut}
 use Rattle.writing.specs.declared.Client.{Client}
 use Rattle.writing.specs.declared.Form.{Form}
@@ -52,30 +55,31 @@ pub record Typed (tx : Settings) (f : Frame) : Type 0 where
   pub ownSix : length (tx .own .0) ≡ 6
   pub bits : Bits16 (f .client .form)
 
--- the conditions on a frame: the receiver's settings "accept those destinations and allow those sizes"
-pub record Welcome (tx rx : Settings) (f : Frame) : Type 0 where
+-- the conditions on a frame: the receiver's settings, with the own entries of its job "in place of the four listed ones" (document 02, item 10), "accept
+-- those destinations and allow those sizes"
+pub record Welcome (tx rx : Settings) (own : List (Option Address)) (f : Frame) : Type 0 where
   pub typed : Typed tx f
-  pub heard : accepts rx (f .client .dest .0) ≡ true
+  pub heard : accepts rx own (f .client .dest .0) ≡ true
   pub allowed : oversized (rx .limit) (clientBody tx (f .client) (f .octets) ++ fcs (clientBody tx (f .client) (f .octets))) ≡ false
 
 -- and it is one "from our sender", which refuses it by none of 6, 10 and 7: "any number of tags up to eight" (document 02, item 1)
-pub record Carried (tx rx : Settings) (f : Frame) : Type 0 where
-  pub welcome : Welcome tx rx f
+pub record Carried (tx rx : Settings) (own : List (Option Address)) (f : Frame) : Type 0 where
+  pub welcome : Welcome tx rx own f
   pub form : badType (f .client .form) ≡ false
   pub few : manyTags (f .client) ≡ false
   pub short : longData (tx .limit) (f .client .form) (f .octets) ≡ false
 
-unfoldable pub AllWelcome : Settings → Settings → List Frame → Type 0
-AllWelcome tx rx [] = Unit {0}
-AllWelcome tx rx (f ∷ fs) = Welcome tx rx f × AllWelcome tx rx fs
+unfoldable pub AllWelcome : Settings → Settings → List (Option Address) → List Frame → Type 0
+AllWelcome tx rx own [] = Unit {0}
+AllWelcome tx rx own (f ∷ fs) = Welcome tx rx own f × AllWelcome tx rx own fs
 
-unfoldable pub AllCarried : Settings → Settings → List Frame → Type 0
-AllCarried tx rx [] = Unit {0}
-AllCarried tx rx (f ∷ fs) = Carried tx rx f × AllCarried tx rx fs
+unfoldable pub AllCarried : Settings → Settings → List (Option Address) → List Frame → Type 0
+AllCarried tx rx own [] = Unit {0}
+AllCarried tx rx own (f ∷ fs) = Carried tx rx own f × AllCarried tx rx own fs
 
--- what a walk over a stretch of line by itself hands out: "From the damaged part only frames that demand 2 accepts"
-abbrev pub alone : Settings → State → List Symbol → List (List ℕ)
-alone rx st l = handedOut (octetsOf l) (walk rx st (octetsOf l) (marksOf l))
+-- what a walk of a job over a stretch of line by itself hands out: "From the damaged part only frames that demand 2 accepts"
+abbrev pub alone : Settings → ℕ → List Entry → State → List Symbol → List (List ℕ)
+alone rx job es st l = handedOut (octetsOf l) (walk rx job es st (octetsOf l) (marksOf l))
 
 -- ---- client calls in a row, each at the place that the one before gave, with the state and the buffers that it left
 

@@ -6,5 +6,6 @@ pub mod LikeError
 pub mod Limits
 pub mod Port
 pub mod Starts
+pub mod Tables
 pub mod Totals
 pub mod Ways

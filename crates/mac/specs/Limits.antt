@@ -12,11 +12,14 @@ use Rattle.station.specs.declared.Flow.{Flow}
 use Rattle.station.specs.declared.Flow.the-variants.{Off, Pause, Pfc}
 use Rattle.station.specs.declared.Port.the-variants.{Plain, FourLane}
 use Rattle.station.specs.Station.{fresh}
+use Rattle.table.specs.declared.Entry.{Entry}
+use Rattle.table.specs.Entries.{entriesOf}
+use Rattle.table.specs.Calls.{emptyTable, taken, putEntry}
 use Rattle.frame.specs.Length.{kept}
 use Rattle.flow.specs.Timers.{slotsOf}
 use Rattle.receive.specs.declared.Answer.{Answer}
 use Rattle.receive.specs.declared.Reading.{Reading}
-use Rattle.receive.specs.Values.{answerOutcome, answerStatus, answerPart}
+use Rattle.receive.specs.Values.{answerOutcome, answerRefusal, answerStatus, answerPart, answerWay}
 use Rattle.receive.specs.Reading.{reading}
 use Rattle.receive.specs.Walk.{walk}
 use Rattle.writing.specs.declared.Client.{Client}
@@ -35,20 +38,24 @@ use Rattle.mac.specs.Demand3.{Frame, Asked, rowFrames, rowFrom, sendRow}
 unfoldable pub station : List ℕ
 station = 0x02 ∷ 0 ∷ 0 ∷ 0 ∷ 0 ∷ 1 ∷ []
 
--- "The printing program", its settings, in a flow mode
-unfoldable pub settings : Flow → Settings
-settings mode =
+-- "The printing program", its settings, in a flow mode, and with any limit M; it reads as job 0, with a table that nobody holds an entry of
+unfoldable pub limitedTo : ℕ → Flow → Settings
+limitedTo limit mode =
     record {
       own = record { 0 = station };
-      listed = replicate 4 (record { 0 = replicate 6 0 });
-      count = 0;
       broadcast = true;
       promiscuous = false;
       checking = true;
-      limit = 1518;
+      limit = limit;
       flow = mode;
       passing = false;
     }
+
+unfoldable pub settings : Flow → Settings
+settings mode = limitedTo 1518 mode
+
+abbrev pub nobody : List Entry
+nobody = entriesOf emptyTable
 
 -- a client frame to the station in the length form, with a number of tags: the outermost of a kind, 0x8100 or a provider's, the others 0x8100
 unfoldable pub client : Kind → ℕ → Client
@@ -92,7 +99,7 @@ unfoldable pub told : Answer → List ℕ
 told a = answerOutcome a ∷ answerStatus a ∷ answerPart a .len ∷ []
 
 unfoldable pub reads : Flow → List Symbol → List ℕ
-reads mode c = told (reading (settings mode) fresh (octetsOf c) (marksOf c) 0 .answer)
+reads mode c = told (reading (settings mode) 0 nobody fresh (octetsOf c) (marksOf c) 0 .answer)
 
 -- what is read of it without data
 unfoldable pub readsTagged : Kind → ℕ → List ℕ
@@ -100,11 +107,11 @@ readsTagged kind tags = reads Off (sentWith kind tags 0)
 
 -- the outcome alone
 unfoldable pub outcomeRead : List Symbol → ℕ
-outcomeRead c = answerOutcome (reading (settings Off) fresh (octetsOf c) (marksOf c) 0 .answer)
+outcomeRead c = answerOutcome (reading (settings Off) 0 nobody fresh (octetsOf c) (marksOf c) 0 .answer)
 
 -- the outcomes of a walk, 0 where it ended
 unfoldable pub outcomesRead : List Symbol → List ℕ
-outcomesRead c = map (λ (r : Reading). answerOutcome (r .answer)) (walk (settings Off) fresh (octetsOf c) (marksOf c))
+outcomesRead c = map (λ (r : Reading). answerOutcome (r .answer)) (walk (settings Off) 0 nobody fresh (octetsOf c) (marksOf c))
 
 -- behind a number of tags, with a field: of data the rule takes n octets and the 46 of before, and none of their neighbours
 unfoldable pub takes : ℕ → ℕ → ℕ → Bool
@@ -124,6 +131,31 @@ gapsInRow lengths = map (λ (f : Frame). f .idles + 1) (rowFrames (settings Off)
 
 unfoldable pub afterRow : List ℕ → List ℕ
 afterRow lengths = let x = sendRow (settings Off) roomy (rowOf lengths) in x .given .place ∷ x .given .state .deficit ∷ []
+
+-- document 02, item 10: a group address, a table with an entry that a job lists it by, and one whose first n entries a job holds
+unfoldable pub group : ℕ → List ℕ
+group n = 0x03 ∷ 0 ∷ 0 ∷ 0 ∷ 0 ∷ n ∷ []
+
+unfoldable pub put : ℕ → ℕ → ℕ → List ℕ → List ℕ
+put entry job n t = putEntry t entry (taken job (record { 0 = group n }))
+
+unfoldable pub heldBy : ℕ → ℕ → List ℕ
+heldBy job zero = emptyTable
+heldBy job (suc n) = put n job n (heldBy job n)
+
+-- a frame to it, and of a job's reading of that frame the refusal's number, the outcome's and that of the address that let it in
+unfoldable pub toGroup : ℕ → List Symbol
+toGroup n = onLine plainIdles (group n ++ (station ++ (highFirst 0x0800 ++ replicate 46 0xA5)))
+
+unfoldable pub heard : ℕ → List ℕ → ℕ → List ℕ
+heard job t n =
+    let a = reading (settings Off) job (entriesOf t) fresh (octetsOf (toGroup n)) (marksOf (toGroup n)) 0 .answer in
+    answerRefusal a ∷ answerOutcome a ∷ answerWay a ∷ []
+
+-- the refusal of a reading with a limit M, by a job, with a table, of so many octets and marks, at a place
+unfoldable pub refusedBy : ℕ → ℕ → List ℕ → ℕ → ℕ → ℕ → ℕ
+refusedBy limit job t octets marks place =
+    answerRefusal (reading (limitedTo limit Off) job (entriesOf t) fresh (replicate octets 0) (replicate marks 0) place .answer)
 
 -- ---- the cases, in the order of the document
 
@@ -195,6 +227,29 @@ starred =
     ∷ sameOctets (afterRow (64 ∷ 65 ∷ [])) (168 ∷ 1 ∷ [])
     ∷ sameOctets (afterRow (64 ∷ 65 ∷ 66 ∷ [])) (252 ∷ 3 ∷ [])
     ∷ sameOctets (afterRow (64 ∷ 65 ∷ 66 ∷ 67 ∷ [])) (340 ∷ 2 ∷ [])
+    -- document 02, item 10: an own entry accepts, the other job's does not; "16 plus the entry", from entry 0 to 15
+    ∷ sameOctets (heard 0 emptyTable 1) (0 ∷ 7 ∷ 0 ∷ [])
+    ∷ sameOctets (heard 0 (put 0 0 1 emptyTable) 1) (0 ∷ 11 ∷ 16 ∷ [])
+    ∷ sameOctets (heard 1 (put 0 0 1 emptyTable) 1) (0 ∷ 7 ∷ 0 ∷ [])
+    ∷ sameOctets (heard 0 (put 15 1 1 emptyTable) 1) (0 ∷ 7 ∷ 0 ∷ [])
+    ∷ sameOctets (heard 1 (put 15 1 1 emptyTable) 1) (0 ∷ 11 ∷ 31 ∷ [])
+    -- "Both may list the same address."
+    ∷ sameOctets (heard 0 (put 0 1 1 (put 2 0 1 emptyTable)) 1) (0 ∷ 11 ∷ 18 ∷ [])
+    ∷ sameOctets (heard 1 (put 0 1 1 (put 2 0 1 emptyTable)) 1) (0 ∷ 11 ∷ 16 ∷ [])
+    -- "14 job above 1"
+    ∷ sameOctets (heard 2 emptyTable 1) (14 ∷ 0 ∷ 0 ∷ [])
+    -- "20 a table where a job holds above 12 or has an address twice", whichever job reads
+    ∷ sameOctets (heard 0 (heldBy 0 12) 11) (0 ∷ 11 ∷ 27 ∷ [])
+    ∷ sameOctets (heard 0 (heldBy 0 13) 11) (20 ∷ 0 ∷ 0 ∷ [])
+    ∷ sameOctets (heard 0 (heldBy 1 13) 11) (20 ∷ 0 ∷ 0 ∷ [])
+    ∷ sameOctets (heard 1 (put 0 0 1 (put 15 0 1 emptyTable)) 1) (20 ∷ 0 ∷ 0 ∷ [])
+    -- "14 …, tested right after 1", and 20 after 3: with all of them, and from the front on one less each time
+    ∷ eqb (refusedBy 1517 2 (heldBy 0 13) 4 5 5) 1
+    ∷ eqb (refusedBy 1518 2 (heldBy 0 13) 4 5 5) 14
+    ∷ eqb (refusedBy 1518 1 (heldBy 0 13) 4 5 5) 2
+    ∷ eqb (refusedBy 1518 1 (heldBy 0 13) 4 4 5) 3
+    ∷ eqb (refusedBy 1518 1 (heldBy 0 13) 4 4 4) 20
+    ∷ eqb (refusedBy 1518 1 (heldBy 0 12) 4 4 4) 0
     ∷ []
 
 unfoldable pub allTrue : List Bool → Bool

@@ -18,8 +18,8 @@ isFourLane FourLane = true
 
 -- a call sends a frame on this port
 unfoldable pub onPort : Call → Bool
-onPort (reads s os ms p) = false
-onPort (walks s os ms) = false
+onPort (reads s job es os ms p) = false
+onPort (walks s job es os ms) = false
 onPort (sendsClient s port os ms p c d) = isFourLane port
 onPort (sendsPause s port os ms p q) = isFourLane port
 onPort (sendsPfc s port os ms p k) = isFourLane port
@@ -27,8 +27,8 @@ onPort (fillsIdle os ms p n) = false
 
 -- the place from which on a call writes; a reading and a walk write nothing
 unfoldable pub placeOf : Call → ℕ
-placeOf (reads s os ms p) = p
-placeOf (walks s os ms) = 0
+placeOf (reads s job es os ms p) = p
+placeOf (walks s job es os ms) = 0
 placeOf (sendsClient s port os ms p c d) = p
 placeOf (sendsPause s port os ms p q) = p
 placeOf (sendsPfc s port os ms p k) = p

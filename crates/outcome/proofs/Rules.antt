@@ -4,6 +4,7 @@ use native.Mathlib.Omega.{arith}
 use mathlib.Core.Path.{_≡_, refl, sym, ap, ap₂, _∙_, subst}
 use mathlib.Core.Bool.{Bool, true, false, not, _||_, or-true}
 use mathlib.Core.List.{List, [], _∷_}
+use mathlib.Core.Option.{Option}
 use lib.ListN.{length, getD, take, drop, drop-of-length-le}
 use lib.Dec.{eqb, ltb}
 use borrow.Author.Tests.{lt-ltb, le-ltb, eq-eqb, ne-eqb}
@@ -12,15 +13,17 @@ use Rattle.line.specs.Octets.{sameOctets}
 use Rattle.line.specs.Table.{Table, otherwise, _∣_, _⇒_, first}
 use Rattle.line.proofs.Octets.{front-differs, front-same}
 use Rattle.line.proofs.Tables.{first-here, first-next, first-other}
+use Rattle.station.specs.declared.Address.{Address}
 use Rattle.station.specs.declared.Settings.{Settings}
 use Rattle.station.specs.declared.Outcome.{Outcome}
-use Rattle.station.specs.declared.Outcome.the-variants.{Cut, BadPreamble, Undersized, Oversized, WrongFcs}
+use Rattle.station.specs.declared.Outcome.the-variants.{Cut, BadPreamble, Undersized, Oversized, WrongFcs, WrongLength, Filtered, PauseTaken, PfcTaken, ControlDropped, HandedOut}
 use Rattle.station.specs.Numbers.{outcomeNumber}
 use Rattle.fcs.specs.Fcs.{fcsOf}
 use Rattle.fields.specs.declared.Layout.{Layout}
 use Rattle.fields.specs.Places.{layoutOf}
 use Rattle.frame.specs.Frame.{undersized, oversized, covered, wrongFcs}
 use Rattle.frame.specs.Length.{wrongLength}
+use Rattle.control.specs.Control.{filtered, takesPause, takesPfc, dropsControl}
 use Rattle.outcome.specs.declared.Early.{Early}
 use Rattle.outcome.specs.declared.Early.the-variants.{Decided, Framed}
 use Rattle.outcome.specs.declared.Judged.{Judged}
@@ -102,24 +105,24 @@ agrees-row false o e t k w =
       framed = λ h. first-next o t refl ∙ w .framed (sym (first-next (Decided o) e refl) ∙ h);
     }
 
-module _ (s : Settings) (run : List ℕ) (by : ℕ) where
+module _ (s : Settings) (own : List (Option Address)) (run : List ℕ) (by : ℕ) where
   abbrev f : List ℕ
   f = frameOf run
 
   -- the rows that rules 1 to 3 leave
   abbrev pub late : Table Outcome
-  late = oversized (s .limit) f ⇒ Oversized ∣ wrongFcs f ⇒ WrongFcs ∣ lateOutcomes s f (layoutOf f)
+  late = oversized (s .limit) f ⇒ Oversized ∣ wrongFcs f ⇒ WrongFcs ∣ lateOutcomes s own f (layoutOf f)
 
-  agrees : Agrees (earlyOutcomes run by) (outcomes s run by f) late
+  agrees : Agrees (earlyOutcomes run by) (outcomes s own run by f) late
   unfolding earlyOutcomes outcomes lateOutcomes wrongLength
   agrees =
       agrees-row (cut by) Cut _ _ late (agrees-row (badPreamble run) BadPreamble _ _ late (agrees-row (undersized f) Undersized _ _ late (agrees-end late)))
 
-  pub outcome-decided : (o : Outcome) → first (earlyOutcomes run by) ≡ Decided o → outcome s run by ≡ o
+  pub outcome-decided : (o : Outcome) → first (earlyOutcomes run by) ≡ Decided o → outcome s own run by ≡ o
   unfolding outcome
   outcome-decided o h = agrees .decided o h
 
-  pub outcome-framed : first (earlyOutcomes run by) ≡ Framed → outcome s run by ≡ first late
+  pub outcome-framed : first (earlyOutcomes run by) ≡ Framed → outcome s own run by ≡ first late
   unfolding outcome
   outcome-framed h = agrees .framed h
 
@@ -150,9 +153,9 @@ early-made run by o g h =
     subst (NoneMade g) h
     (gives-first (NoneMade g) (earlyOutcomes run by) (unfold Gives earlyOutcomes checkMade in (refl, (refl, (refl, tt)))))
 
-pub late-made : (s : Settings) (f : List ℕ) (l : Layout) → fcsOf (covered f) ≡ checkMade (first (lateOutcomes s f l)) f
-late-made s g l =
-    gives-first (λ (o : Outcome). fcsOf (covered g) ≡ checkMade o g) (lateOutcomes s g l)
+pub late-made : (s : Settings) (own : List (Option Address)) (f : List ℕ) (l : Layout) → fcsOf (covered f) ≡ checkMade (first (lateOutcomes s own f l)) f
+late-made s own g l =
+    gives-first (λ (o : Outcome). fcsOf (covered g) ≡ checkMade o g) (lateOutcomes s own g l)
     (unfold Gives lateOutcomes checkMade in (refl, (refl, (refl, (refl, (refl, refl))))))
 
 pub none-made : (f : List ℕ) → 0 ≡ checkMade Oversized f
@@ -164,16 +167,40 @@ unfolding checkMade
 wrong-made f = refl
 
 -- what is told is what is judged
-pub told : (s : Settings) (run : List ℕ) (by : ℕ) (o : Outcome) (n : ℕ) → o ≡ outcome s run by → n ≡ checkMade o (frameOf run)
-    → _≡_ {A = Judged} (record { outcome = o; check = n }) (judged s run by)
+pub told : (s : Settings) (own : List (Option Address)) (run : List ℕ) (by : ℕ) (o : Outcome) (n : ℕ) → o ≡ outcome s own run by → n ≡ checkMade o (frameOf run)
+    → _≡_ {A = Judged} (record { outcome = o; check = n }) (judged s own run by)
 unfolding judged
-told s run by o n e m =
+told s own run by o n e m =
     ap₂ (λ (p : Outcome) (k : ℕ). record { outcome = p; check = k }) e (m ∙ ap (λ (p : Outcome). checkMade p (frameOf run)) e)
 
 -- so of what is judged the outcome is the table's
-pub judged-outcome : (s : Settings) (run : List ℕ) (by : ℕ) {j : Judged} → j ≡ judged s run by → j .outcome ≡ outcome s run by
+pub judged-outcome : (s : Settings) (own : List (Option Address)) (run : List ℕ) (by : ℕ) {j : Judged} → j ≡ judged s own run by
+    → j .outcome ≡ outcome s own run by
 unfolding judged
-judged-outcome s run by e = ap (λ (k : Judged). k .outcome) e
+judged-outcome s own run by e = ap (λ (k : Judged). k .outcome) e
+
+-- ---- of the job's entries, the table asks rule 7 alone
+
+pub outcome-alike : (s : Settings) (own own′ : List (Option Address)) → ((f : List ℕ) → filtered s own f ≡ filtered s own′ f) → (run : List ℕ) (by : ℕ)
+    → outcome s own run by ≡ outcome s own′ run by
+unfolding outcome outcomes
+outcome-alike s own own′ same run by =
+    let f = frameOf run in
+    ap (λ (b : Bool).
+    first (
+    cut by ⇒ Cut
+    ∣ badPreamble run ⇒ BadPreamble
+    ∣ undersized f ⇒ Undersized
+    ∣ oversized (s .limit) f ⇒ Oversized
+    ∣ wrongFcs f ⇒ WrongFcs
+    ∣ wrongLength (s .checking) f ⇒ WrongLength
+    ∣ b ⇒ Filtered
+    ∣ takesPause s f ⇒ PauseTaken
+    ∣ takesPfc s f ⇒ PfcTaken
+    ∣ dropsControl s f ⇒ ControlDropped
+    ∣ otherwise HandedOut
+    ))
+    (same f)
 
 -- ---- the table bears document 01's numbers, in order
 
@@ -181,6 +208,7 @@ unfoldable pub numbersIn : Table Outcome → List ℕ
 numbersIn (otherwise o) = outcomeNumber o ∷ []
 numbersIn (r ∣ rows) = outcomeNumber (r .gives) ∷ numbersIn rows
 
-pub outcomes-in-order : (s : Settings) (run : List ℕ) (by : ℕ) (f : List ℕ) → numbersIn (outcomes s run by f) ≡ 1 ∷ 2 ∷ 3 ∷ 4 ∷ 5 ∷ 6 ∷ 7 ∷ 8 ∷ 9 ∷ 10 ∷ 11 ∷ []
+pub outcomes-in-order : (s : Settings) (own : List (Option Address)) (run : List ℕ) (by : ℕ) (f : List ℕ)
+    → numbersIn (outcomes s own run by f) ≡ 1 ∷ 2 ∷ 3 ∷ 4 ∷ 5 ∷ 6 ∷ 7 ∷ 8 ∷ 9 ∷ 10 ∷ 11 ∷ []
 unfolding numbersIn outcomes
-outcomes-in-order s run by f = refl
+outcomes-in-order s own run by f = refl

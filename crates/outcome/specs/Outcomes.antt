@@ -1,12 +1,14 @@
--- Document 01, "Reading one Start": the table of outcomes.
+-- Document 01, "Reading one Start": the table of outcomes. `own` is what a job has of the address table (document 02, item 10).
 use Prim.Native.Nat.{ℕ}
 use mathlib.Core.Bool.{Bool, not, _||_, cond}
 use mathlib.Core.List.{List}
+use mathlib.Core.Option.{Option}
 use lib.ListN.{length, take, drop}
 use lib.Dec.{eqb, ltb, leb}
 use Rattle.line.specs.Line.{terminate, preamble}
 use Rattle.line.specs.Octets.{sameOctets}
 use Rattle.line.specs.Table.{Table, _⇒_, _∣_, otherwise, first}
+use Rattle.station.specs.declared.Address.{Address}
 use Rattle.station.specs.declared.Settings.{Settings}
 use Rattle.station.specs.declared.Outcome.{Outcome}
 use Rattle.station.specs.declared.Outcome.the-variants.{Cut, BadPreamble, Undersized, Oversized, WrongFcs, WrongLength, Filtered, PauseTaken, PfcTaken, ControlDropped, HandedOut}
@@ -30,27 +32,27 @@ unfoldable pub frameOf : List ℕ → List ℕ
 frameOf run = drop 7 run
 
 -- the table, for a run ended by the control octet `by`, whose frame is `f`
-unfoldable pub outcomes : Settings → List ℕ → ℕ → List ℕ → Table Outcome
-outcomes s run by f =
+unfoldable pub outcomes : Settings → List (Option Address) → List ℕ → ℕ → List ℕ → Table Outcome
+outcomes s own run by f =
     cut by ⇒ Cut
     ∣ badPreamble run ⇒ BadPreamble
     ∣ undersized f ⇒ Undersized
     ∣ oversized (s .limit) f ⇒ Oversized
     ∣ wrongFcs f ⇒ WrongFcs
     ∣ wrongLength (s .checking) f ⇒ WrongLength
-    ∣ filtered s f ⇒ Filtered
+    ∣ filtered s own f ⇒ Filtered
     ∣ takesPause s f ⇒ PauseTaken
     ∣ takesPfc s f ⇒ PfcTaken
     ∣ dropsControl s f ⇒ ControlDropped
     ∣ otherwise HandedOut
 
 -- "the first rule that holds gives the outcome"
-unfoldable pub outcome : Settings → List ℕ → ℕ → Outcome
-outcome s run by = first (outcomes s run by (frameOf run))
+unfoldable pub outcome : Settings → List (Option Address) → List ℕ → ℕ → Outcome
+outcome s own run by = first (outcomes s own run by (frameOf run))
 
 -- the outcome with the check that rule 5 compared with, of a frame that came so far, else 0
 unfoldable pub checkMade : Outcome → List ℕ → ℕ
 checkMade o f = cond (leb 5 (outcomeNumber o)) (fcsOf (covered f)) 0
 
-unfoldable pub judged : Settings → List ℕ → ℕ → Judged
-judged s run by = record { outcome = outcome s run by; check = checkMade (outcome s run by) (frameOf run) }
+unfoldable pub judged : Settings → List (Option Address) → List ℕ → ℕ → Judged
+judged s own run by = record { outcome = outcome s own run by; check = checkMade (outcome s own run by) (frameOf run) }

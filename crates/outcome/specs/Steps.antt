@@ -2,7 +2,9 @@
 -- caller needs it.
 use Prim.Native.Nat.{ℕ}
 use mathlib.Core.List.{List}
+use mathlib.Core.Option.{Option}
 use Rattle.line.specs.Table.{Table, _⇒_, _∣_, otherwise}
+use Rattle.station.specs.declared.Address.{Address}
 use Rattle.station.specs.declared.Settings.{Settings}
 use Rattle.station.specs.declared.Outcome.{Outcome}
 use Rattle.station.specs.declared.Outcome.the-variants.{Cut, BadPreamble, Undersized, WrongLength, Filtered, PauseTaken, PfcTaken, ControlDropped, HandedOut}
@@ -23,10 +25,10 @@ earlyOutcomes run by =
     ∣ otherwise Framed
 
 -- rules 6 to 11, of a frame laid out as l says
-unfoldable pub lateOutcomes : Settings → List ℕ → Layout → Table Outcome
-lateOutcomes s f l =
+unfoldable pub lateOutcomes : Settings → List (Option Address) → List ℕ → Layout → Table Outcome
+lateOutcomes s own f l =
     breaksLength (s .checking) l f ⇒ WrongLength
-    ∣ filtered s f ⇒ Filtered
+    ∣ filtered s own f ⇒ Filtered
     ∣ takesPause s f ⇒ PauseTaken
     ∣ takesPfc s f ⇒ PfcTaken
     ∣ dropsControl s f ⇒ ControlDropped

@@ -11,6 +11,7 @@ ghost use Rattle.fcs.specs.Lent.{Lent};
 ghost use Rattle.station.specs.Station.{isGroup};
 ghost use Rattle.fields.specs.Fields.{destination};
 ghost use Rattle.fields.specs.Places.{laidOut};
+ghost use Rattle.table.specs.Entries.{ownEntries};
 ghost use Rattle.frame.specs.Frame.{dataFrom};
 ghost use Rattle.outcome.specs.Outcomes.{badPreamble, frameOf, outcome, judged};
 ghost use Rattle.outcome.specs.Steps.{earlyOutcomes, lateOutcomes};
@@ -75,14 +76,14 @@ fn before_tags(run: &[u8], by: u8) -> Early
     Early::Framed
 }
 
-// Rules 6 to 11, in their order, of a frame with so many tags.
-fn after_fcs(s: Settings, f: &[u8], tags: u8) -> Outcome
-    ensures { λ r. ⌜ r ≡ first (lateOutcomes s (now (f .entry)) (laidOut tags (now (f .entry)))) ⌝ }
+// Rules 6 to 11, in their order, of a frame with so many tags; rule 7 by a job's own entries of the address table.
+fn after_fcs(s: Settings, job: u8, table: &[u8; 128], f: &[u8], tags: u8) -> Outcome
+    ensures { λ r. ⌜ r ≡ first (lateOutcomes s (ownEntries job (now (table .entry))) (now (f .entry)) (laidOut tags (now (f .entry)))) ⌝ }
 {
     if frame::wrong_length(s.checking, f, tags) {
         return Outcome::WrongLength;
     }
-    if control::filtered(s, f) {
+    if control::filtered(s, job, table, f) {
         return Outcome::Filtered;
     }
     if control::takes_pause(s, f) {
@@ -99,9 +100,9 @@ fn after_fcs(s: Settings, f: &[u8], tags: u8) -> Outcome
 
 // What becomes of a run ended by the control octet `by`: the first rule that holds. In steps, so that a run which rules 1 to 3 decide costs no look at
 // the settings, and tags are counted once for rules 4 and 6. The FCS by tables if they are lent, and so public for this repository's crates only.
-pub fn judge(t: &[u32], s: Settings, run: &[u8], by: u8) -> Judged
+pub fn judge(t: &[u32], s: Settings, job: u8, table: &[u8; 128], run: &[u8], by: u8) -> Judged
     requires { ⌜ Lent (now t) ⌝ }
-    ensures { λ r. ⌜ r ≡ judged s (now (run .entry)) by ⌝ }
+    ensures { λ r. ⌜ r ≡ judged s (ownEntries job (now (table .entry))) (now (run .entry)) by ⌝ }
 {
     let e = before_tags(run, by);
     if let Early::Decided(o) = e {
@@ -125,7 +126,7 @@ pub fn judge(t: &[u32], s: Settings, run: &[u8], by: u8) -> Judged
             check,
         };
     }
-    let late = after_fcs(s, f, tags);
+    let late = after_fcs(s, job, table, f, tags);
     Judged {
         outcome: late,
         check,

@@ -18,6 +18,7 @@ use Rattle.line.proofs.Symbols.{by-test, run-data, run-control}
 use Rattle.line.proofs.Tables.{first-here, first-next, first-other}
 use Rattle.line.proofs.Words.{Octets}
 use Rattle.fcs.specs.Fcs.{fcsOf, fcsOctets}
+use Rattle.station.specs.declared.Address.{Address}
 use Rattle.station.specs.declared.Settings.{Settings}
 use Rattle.station.specs.declared.State.{State}
 use Rattle.station.specs.declared.Outcome.{Outcome}
@@ -31,6 +32,8 @@ use Rattle.fields.specs.Places.{layoutOf}
 use Rattle.frame.specs.Frame.{undersized, overLimit, oversized, wrongFcs, covered, lastFour, frameData}
 use Rattle.frame.specs.Length.{breaksLength, wrongLength}
 use Rattle.frame.proofs.Fcs.{last-number, wrong-by}
+use Rattle.table.specs.declared.Entry.{Entry}
+use Rattle.table.specs.Entries.{mine}
 use Rattle.control.specs.Control.{filtered, takesPause, takesPfc, dropsControl}
 use Rattle.outcome.proofs.Rules.{not-cut}
 use Rattle.outcome.specs.Outcomes.{cut, badPreamble, frameOf, outcomes, outcome}
@@ -125,7 +128,7 @@ module _ {A : Type 0} where
 
 -- ---- the facts
 
-module _ (s : Settings) (i : ℕ) (run : List ℕ) (by : ℕ) where
+module _ (s : Settings) (own : List (Option Address)) (i : ℕ) (run : List ℕ) (by : ℕ) where
   abbrev f : List ℕ
   f = frameOf run
 
@@ -137,25 +140,25 @@ module _ (s : Settings) (i : ℕ) (run : List ℕ) (by : ℕ) where
       ∷ oversized (s .limit) f
       ∷ wrongFcs f
       ∷ wrongLength (s .checking) f
-      ∷ filtered s f
+      ∷ filtered s own f
       ∷ takesPause s f
       ∷ takesPfc s f
       ∷ dropsControl s f
       ∷ []
 
-  all-rules : tests (outcomes s run by f) ≡ rules
+  all-rules : tests (outcomes s own run by f) ≡ rules
   unfolding tests outcomes
   all-rules = refl
 
-  cut-fact : cut by ≡ true → Fact s i run by (reasonFor s i run by Cut)
+  cut-fact : cut by ≡ true → Fact s own i run by (reasonFor s i run by Cut)
   unfolding Fact reasonFor
   cut-fact h = (refl, refl, λ q. false≢true (sym (not-cut by q) ∙ h))
 
-  short-fact : length run < 7 → Fact s i run by (ShortRun (length run))
+  short-fact : length run < 7 → Fact s own i run by (ShortRun (length run))
   unfolding Fact
   short-fact l = (refl, l)
 
-  preamble-fact : badPreamble run ≡ true → Fact s i run by (preambleReason (i + 1) run)
+  preamble-fact : badPreamble run ≡ true → Fact s own i run by (preambleReason (i + 1) run)
   preamble-fact h =
       by-test (ltb (length run) 7)
       (λ t. let l = ltb-true (length run) 7 t in rw (preamble-short (i + 1) run l) (short-fact l))
@@ -168,16 +171,16 @@ module _ (s : Settings) (i : ℕ) (run : List ℕ) (by : ℕ) where
       wrong-seven t = unfold preamble badPreamble in (not-true _ (rw t at h))
 
       at-place : 7 ≤ length run → i + 1 + rightOnes run preamble - (i + 1) ≡ rightOnes run preamble → Wrong run preamble (rightOnes run preamble)
-          → Fact s i run by (WrongOctet (i + 1 + rightOnes run preamble))
+          → Fact s own i run by (WrongOctet (i + 1 + rightOnes run preamble))
       at-place l e w =
           unfold Fact Wrong preamble in
           (l, omega arith, record { inside = rw e (w .0); wrong = rw e (w .1); before = rw e (w .2) })
 
-  size-fact : undersized f ≡ true → Fact s i run by (reasonFor s i run by Undersized)
+  size-fact : undersized f ≡ true → Fact s own i run by (reasonFor s i run by Undersized)
   unfolding Fact reasonFor undersized
   size-fact h = (refl, refl, ltb-true (length f) 64 h)
 
-  limit-fact : oversized (s .limit) f ≡ true → Fact s i run by (reasonFor s i run by Oversized)
+  limit-fact : oversized (s .limit) f ≡ true → Fact s own i run by (reasonFor s i run by Oversized)
   unfolding Fact reasonFor longReason oversized overLimit
   limit-fact h = (refl, refl, ltb-true (s .limit + 4 * tagCount f) (length f) h)
 
@@ -192,14 +195,14 @@ module _ (s : Settings) (i : ℕ) (run : List ℕ) (by : ℕ) where
       let same : sameOctets (lastFour f) (fcsOctets n) ≡ true = last-number f n h o (omega arith) ∙ eq-eqb _ n e in
       false≢true (sym (ap not same) ∙ wrong-by f n refl ∙ w)
 
-  fcs-fact : Octets run → undersized f ≡ false → wrongFcs f ≡ true → Fact s i run by (reasonFor s i run by WrongFcs)
+  fcs-fact : Octets run → undersized f ≡ false → wrongFcs f ≡ true → Fact s own i run by (reasonFor s i run by WrongFcs)
   unfolding Fact reasonFor fcsReason
   fcs-fact o u h = (refl, refl, values-differ (octets-of o) (let l = long u in omega arith) h)
     where
       octets-of : Octets run → Octets f
       octets-of w k = unfold frameOf in rw (getD-drop 7 run k 0) (w (7 + k))
 
-  length-fact : wrongLength (s .checking) f ≡ true → Fact s i run by (reasonFor s i run by WrongLength)
+  length-fact : wrongLength (s .checking) f ≡ true → Fact s own i run by (reasonFor s i run by WrongLength)
   unfolding Fact reasonFor lengthReason wrongLength breaksLength layoutOf frameData
   length-fact h = by-test (s .checking) (λ t. (refl, refl, t, not-true _ (rw t at h))) (λ t. absurd (false≢true (rw t at h)))
 
@@ -216,35 +219,35 @@ module _ (s : Settings) (i : ℕ) (run : List ℕ) (by : ℕ) where
       ∙ ap (λ (l : List ℕ). l ++ (getD f 2 0 ∷ []))
       (take-suc f 1 0 (omega arith) ∙ ap (λ (l : List ℕ). l ++ (getD f 1 0 ∷ [])) (take-suc f 0 0 (omega arith)))))))
 
-  address-fact : undersized f ≡ false → filtered s f ≡ true → Fact s i run by (reasonFor s i run by Filtered)
+  address-fact : undersized f ≡ false → filtered s own f ≡ true → Fact s own i run by (reasonFor s i run by Filtered)
   unfolding Fact reasonFor
   address-fact u h = (six-fact (let l = long u in omega arith), h)
 
-  pause-fact : takesPause s f ≡ true → Fact s i run by (reasonFor s i run by PauseTaken)
+  pause-fact : takesPause s f ≡ true → Fact s own i run by (reasonFor s i run by PauseTaken)
   unfolding Fact reasonFor
   pause-fact h = (refl, h)
 
-  pfc-fact : takesPfc s f ≡ true → Fact s i run by (reasonFor s i run by PfcTaken)
+  pfc-fact : takesPfc s f ≡ true → Fact s own i run by (reasonFor s i run by PfcTaken)
   unfolding Fact reasonFor
   pfc-fact h = (refl, h)
 
-  control-fact : dropsControl s f ≡ true → Fact s i run by (reasonFor s i run by ControlDropped)
+  control-fact : dropsControl s f ≡ true → Fact s own i run by (reasonFor s i run by ControlDropped)
   unfolding Fact reasonFor
   control-fact h = (refl, h)
 
-  handed-fact : Fact s i run by (reasonFor s i run by HandedOut)
+  handed-fact : Fact s own i run by (reasonFor s i run by HandedOut)
   unfolding Fact reasonFor handedReason
   handed-fact = (refl, refl)
 
   -- ---- the reason, by the number of the first rule that holds
 
   -- outcome o, whose rule is that one
-  true-by : (o : Outcome) → Stops rules (outcomeNumber o - 1) → givenAt (outcomes s run by f) (outcomeNumber o - 1) ≡ o
-      → Fact s i run by (reasonFor s i run by o)
-      → IsTrue s i run by (reasonOf s i run by)
+  true-by : (o : Outcome) → Stops rules (outcomeNumber o - 1) → givenAt (outcomes s own run by f) (outcomeNumber o - 1) ≡ o
+      → Fact s own i run by (reasonFor s i run by o)
+      → IsTrue s own i run by (reasonOf s own i run by)
   unfolding reasonOf outcome
   true-by o w given fact =
-      let e : first (outcomes s run by f) ≡ o = first-stops (outcomes s run by f) (outcomeNumber o - 1) (rw all-rules w) ∙ given in
+      let e : first (outcomes s own run by f) ≡ o = first-stops (outcomes s own run by f) (outcomeNumber o - 1) (rw all-rules w) ∙ given in
       rw e
       record {
         fact = fact;
@@ -258,7 +261,7 @@ module _ (s : Settings) (i : ℕ) (run : List ℕ) (by : ℕ) where
   sized-too : take 6 rules ≡ replicate 6 false → undersized f ≡ false
   sized-too e = ap (λ (l : List Bool). getD l 2 true) e
 
-  true-at : Octets run → (k : ℕ) → Stops rules k → IsTrue s i run by (reasonOf s i run by)
+  true-at : Octets run → (k : ℕ) → Stops rules k → IsTrue s own i run by (reasonOf s own i run by)
   unfolding outcomes givenAt
   true-at o zero w = true-by Cut w refl (cut-fact (w .holds))
   true-at o (suc zero) w = true-by BadPreamble w refl (unfold reasonFor in preamble-fact (w .holds))
@@ -274,7 +277,7 @@ module _ (s : Settings) (i : ℕ) (run : List ℕ) (by : ℕ) where
   true-at o (suc (suc (suc (suc (suc (suc (suc (suc (suc (suc (suc k))))))))))) w = absurd (let i = w .inside in omega arith)
 
   -- "The reason must be true: its fact holds …, and no earlier rule held."
-  pub reason-true : Octets run → IsTrue s i run by (reasonOf s i run by)
+  pub reason-true : Octets run → IsTrue s own i run by (reasonOf s own i run by)
   reason-true o = let w = stops-first rules in true-at o (w .0) (w .1)
 
 -- ---- the call and the reading
@@ -299,32 +302,34 @@ part-for-each s i run by PfcTaken = refl
 part-for-each s i run by ControlDropped = refl
 part-for-each s i run by HandedOut = refl
 
-same-start : (s : Settings) (st : State) (i : ℕ) (a : AfterStart) → SameAs (explainStart s i a) (readStart s st i a)
+same-start : (s : Settings) (own : List (Option Address)) (st : State) (i : ℕ) (a : AfterStart) → SameAs (explainStart s own i a) (readStart s own st i a)
 unfolding explainStart readStart readRun
-same-start s st i unended = record { start = refl; next = refl; given = refl; outcome = refl; refusal = refl; part = refl }
-same-start s st i (ended run by) =
+same-start s own st i unended = record { start = refl; next = refl; given = refl; outcome = refl; refusal = refl; part = refl }
+same-start s own st i (ended run by) =
     record {
       start = refl;
       next = refl;
       given = refl;
-      outcome = unfold reasonOf in reason-for-each s i run by (outcome s run by);
+      outcome = unfold reasonOf in reason-for-each s i run by (outcome s own run by);
       refusal = refl;
-      part = unfold reasonOf in part-for-each s i run by (outcome s run by);
+      part = unfold reasonOf in part-for-each s i run by (outcome s own run by);
     }
 
-same-found : (s : Settings) (st : State) (c : List Symbol) (x : Found) → SameAs (explainFound s c x) (readFound s st c x)
+same-found : (s : Settings) (own : List (Option Address)) (st : State) (c : List Symbol) (x : Found) → SameAs (explainFound s own c x) (readFound s own st c x)
 unfolding explainFound readFound
-same-found s st c Found.Nothing = record { start = refl; next = refl; given = refl; outcome = refl; refusal = refl; part = refl }
-same-found s st c (At i) = same-start s st i (afterStart (drop (i + 1) c))
+same-found s own st c Found.Nothing = record { start = refl; next = refl; given = refl; outcome = refl; refusal = refl; part = refl }
+same-found s own st c (At i) = same-start s own st i (afterStart (drop (i + 1) c))
 
-same-checked : (k : Checked) (s : Settings) (st : State) (os ms : List ℕ) (p : ℕ) → SameAs (explainChecked k s os ms p) (readChecked k s st os ms p)
+same-checked : (k : Checked) (s : Settings) (own : List (Option Address)) (st : State) (os ms : List ℕ) (p : ℕ)
+    → SameAs (explainChecked k s own os ms p) (readChecked k s own st os ms p)
 unfolding explainChecked readChecked readAt
-same-checked Fine s st os ms p = same-found s st (capture os ms) (findStart (capture os ms) p)
-same-checked (Refused x) s st os ms p = record { start = refl; next = refl; given = refl; outcome = refl; refusal = refl; part = refl }
+same-checked Fine s own st os ms p = same-found s own st (capture os ms) (findStart (capture os ms) p)
+same-checked (Refused x) s own st os ms p = record { start = refl; next = refl; given = refl; outcome = refl; refusal = refl; part = refl }
 
-pub explain-reads : (s : Settings) (st : State) (os ms : List ℕ) (p : ℕ) → SameAs (explained s os ms p) (reading s st os ms p)
+pub explain-reads : (s : Settings) (job : ℕ) (es : List Entry) (st : State) (os ms : List ℕ) (p : ℕ)
+    → SameAs (explained s job es os ms p) (reading s job es st os ms p)
 unfolding explained reading
-explain-reads s st os ms p = same-checked (first (readRefusals s os ms p)) s st os ms p
+explain-reads s job es st os ms p = same-checked (first (readRefusals s job es os ms p)) s (mine job es) st os ms p
 
 -- ---- the reason that the call gives, in that capture
 
@@ -371,27 +376,30 @@ ended-run l r by h = go (ending l) h
     go none q = unfold endedBy in (let z : _≡_ {A = ℕ} 0 1 = cc in absurd (let x : ⊥ = omega arith in x))
     go (some y) q = unfold endedBy in cc
 
-module _ (s : Settings) (os ms : List ℕ) (o : AllOctets os) where
-  shown-start : (i : ℕ) (a : AfterStart) (r : Reason) → afterStart (drop (i + 1) (capture os ms)) ≡ a → explainStart s i a .answer ≡ Because r
-      → Shown s os ms (explainStart s i a .start) r
+module _ (s : Settings) (own : List (Option Address)) (os ms : List ℕ) (o : AllOctets os) where
+  shown-start : (i : ℕ) (a : AfterStart) (r : Reason) → afterStart (drop (i + 1) (capture os ms)) ≡ a → explainStart s own i a .answer ≡ Because r
+      → Shown s own os ms (explainStart s own i a .start) r
   unfolding explainStart
   shown-start i unended r f h = let z : _≡_ {A = ℕ} 0 1 = cc in absurd (let x : ⊥ = omega arith in x)
   shown-start i (ended run by) r f h =
-      let e : reasonOf s i run by ≡ r = cc in
+      let e : reasonOf s own i run by ≡ r = cc in
       let rest = drop (i + 1) (capture os ms) in
       let small : Octets run = subst Octets (ended-run rest run by f) (run-octets rest (drop-small (i + 1) (capture os ms) (capture-small os ms o))) in
-      record { run = run; by = by; follows = f; isTrue = subst (IsTrue s i run by) e (reason-true s i run by small) }
+      record { run = run; by = by; follows = f; isTrue = subst (IsTrue s own i run by) e (reason-true s own i run by small) }
 
-  shown-found : (x : Found) (r : Reason) → explainFound s (capture os ms) x .answer ≡ Because r → Shown s os ms (explainFound s (capture os ms) x .start) r
+  shown-found : (x : Found) (r : Reason) → explainFound s own (capture os ms) x .answer ≡ Because r
+      → Shown s own os ms (explainFound s own (capture os ms) x .start) r
   unfolding explainFound
   shown-found Found.Nothing r h = let z : _≡_ {A = ℕ} 0 1 = cc in absurd (let x : ⊥ = omega arith in x)
   shown-found (At i) r h = shown-start i (afterStart (drop (i + 1) (capture os ms))) r refl h
 
-  shown-checked : (k : Checked) (p : ℕ) (r : Reason) → explainChecked k s os ms p .answer ≡ Because r → Shown s os ms (explainChecked k s os ms p .start) r
+  shown-checked : (k : Checked) (p : ℕ) (r : Reason) → explainChecked k s own os ms p .answer ≡ Because r
+      → Shown s own os ms (explainChecked k s own os ms p .start) r
   unfolding explainChecked
   shown-checked Fine p r h = shown-found (findStart (capture os ms) p) r h
   shown-checked (Refused x) p r h = let z : _≡_ {A = ℕ} 0 1 = cc in absurd (let y : ⊥ = omega arith in y)
 
-  pub explain-true : (p : ℕ) (r : Reason) → explained s os ms p .answer ≡ Because r → Shown s os ms (explained s os ms p .start) r
-  unfolding explained
-  explain-true p r h = shown-checked (first (readRefusals s os ms p)) p r h
+pub explain-true : (s : Settings) (job : ℕ) (es : List Entry) (os ms : List ℕ) → AllOctets os → (p : ℕ) (r : Reason)
+    → explained s job es os ms p .answer ≡ Because r → Shown s (mine job es) os ms (explained s job es os ms p .start) r
+unfolding explained
+explain-true s job es os ms o p r h = shown-checked s (mine job es) os ms o (first (readRefusals s job es os ms p)) p r h

@@ -4,6 +4,7 @@ use native.Mathlib.Omega.{arith}
 use native.Mathlib.Numerals.{add-one}
 use mathlib.Core.Path.{_≡_, refl, ap, _∙_}
 use mathlib.Core.List.{List, [], _∷_}
+use mathlib.Core.Option.{Option}
 use lib.ListN.{length, getD, drop, drop-of-length-le}
 use lib.Seq.{drop-cons}
 use borrow.Author.Tests.{eq-eqb, ne-eqb, lt-ltb, le-ltb}
@@ -15,10 +16,13 @@ use Rattle.line.specs.Octets.{lowFirst}
 use Rattle.line.specs.Table.{first}
 use Rattle.line.proofs.Buffers.{length-capture}
 use Rattle.line.proofs.Places.{after-found, after-nothing}
+use Rattle.station.specs.declared.Address.{Address}
 use Rattle.station.specs.declared.Settings.{Settings}
 use Rattle.station.specs.declared.Refusal.{Refusal}
 use Rattle.station.specs.declared.Checked.{Checked}
 use Rattle.station.specs.declared.Checked.the-variants.{Fine, Refused}
+use Rattle.table.specs.declared.Entry.{Entry}
+use Rattle.table.specs.Entries.{mine}
 use Rattle.receive.specs.Reading.{readRefusals}
 use Rattle.receive.proofs.Refusals.{passed}
 use Rattle.reason.specs.declared.Reason.the-variants.{ShortRun, WrongOctet}
@@ -78,29 +82,34 @@ low-four l e =
 
 -- ---- the call, case by case
 
-module _ (s : Settings) (os ms : List ℕ) (p : ℕ) where
-  pub explain-refused : (x : Refusal) → first (readRefusals s os ms p) ≡ Refused x
-      → explained s os ms p ≡ record { answer = Why.Refused x; start = p; next = p }
+module _ (s : Settings) (job : ℕ) (es : List Entry) (os ms : List ℕ) (p : ℕ) where
+  abbrev own : List (Option Address)
+  own = mine job es
+
+  pub explain-refused : (x : Refusal) → first (readRefusals s job es os ms p) ≡ Refused x
+      → explained s job es os ms p ≡ record { answer = Why.Refused x; start = p; next = p }
   unfolding explained explainChecked
-  explain-refused x h = ap (λ (k : Checked). explainChecked k s os ms p) h
+  explain-refused x h = ap (λ (k : Checked). explainChecked k s own os ms p) h
 
-  module _ (fine : first (readRefusals s os ms p) ≡ Fine) where
-    goes-on : (f : Found) → findStart (capture os ms) p ≡ f → explained s os ms p ≡ explainFound s (capture os ms) f
+  module _ (fine : first (readRefusals s job es os ms p) ≡ Fine) where
+    goes-on : (f : Found) → findStart (capture os ms) p ≡ f → explained s job es os ms p ≡ explainFound s own (capture os ms) f
     unfolding explained explainChecked
-    goes-on f h = ap (λ (k : Checked). explainChecked k s os ms p) fine ∙ ap (explainFound s (capture os ms)) h
+    goes-on f h = ap (λ (k : Checked). explainChecked k s own os ms p) fine ∙ ap (explainFound s own (capture os ms)) h
 
-    pub explain-none : findStart (capture os ms) p ≡ Found.Nothing → explained s os ms p ≡ record { answer = Why.Nothing; start = length os; next = length os }
+    pub explain-none : findStart (capture os ms) p ≡ Found.Nothing
+        → explained s job es os ms p ≡ record { answer = Why.Nothing; start = length os; next = length os }
     unfolding explainFound
     explain-none h =
         goes-on Found.Nothing h
-        ∙ ap (λ (n : ℕ). record { answer = Why.Nothing; start = n; next = n }) (length-capture os ms (passed s os ms p fine .even))
+        ∙ ap (λ (n : ℕ). record { answer = Why.Nothing; start = n; next = n }) (length-capture os ms (passed s job es os ms p fine .even))
 
     module _ (i : ℕ) (found : findStart (capture os ms) p ≡ At i) where
-      pub explain-open : findControl (capture os ms) (i + 1) ≡ Found.Nothing → explained s os ms p ≡ record { answer = Open; start = i; next = i }
+      pub explain-open : findControl (capture os ms) (i + 1) ≡ Found.Nothing → explained s job es os ms p ≡ record { answer = Open; start = i; next = i }
       unfolding explainFound explainStart
-      explain-open h = goes-on (At i) found ∙ ap (explainStart s i) (after-nothing os ms (i + 1) h)
+      explain-open h = goes-on (At i) found ∙ ap (explainStart s own i) (after-nothing os ms (i + 1) h)
 
       pub explain-ended : (e : ℕ) → findControl (capture os ms) (i + 1) ≡ At e
-          → let r = between os (i + 1) e in explained s os ms p ≡ record { answer = Because (reasonOf s i r (getD os e 0)); start = i; next = i + 1 + length r }
+          → let r = between os (i + 1) e in
+          explained s job es os ms p ≡ record { answer = Because (reasonOf s own i r (getD os e 0)); start = i; next = i + 1 + length r }
       unfolding explainFound explainStart
-      explain-ended e h = goes-on (At i) found ∙ ap (explainStart s i) (after-found os ms (passed s os ms p fine .even) (i + 1) e h)
+      explain-ended e h = goes-on (At i) found ∙ ap (explainStart s own i) (after-found os ms (passed s job es os ms p fine .even) (i + 1) e h)

@@ -1,7 +1,8 @@
--- Document 02, item 8: why a Start has its outcome, with the evidence.
+-- Document 02, item 8: why a Start has its outcome, with the evidence. `own` is what the job has of the address table (item 10).
 use Prim.Native.Nat.{ℕ, _+_, _-_, _*_}
 use mathlib.Core.Bool.{Bool, true, false}
 use mathlib.Core.List.{List, [], _∷_}
+use mathlib.Core.Option.{Option}
 use lib.ListN.{length, getD, drop}
 use lib.Dec.{eqb, ltb}
 use Rattle.line.specs.declared.Found.{Found}
@@ -10,6 +11,7 @@ use Rattle.line.specs.Line.{Symbol, capture, findStart, AfterStart, unended, en
 use Rattle.line.specs.Octets.{lowFirst}
 use Rattle.line.specs.Table.{first}
 use Rattle.fcs.specs.Fcs.{fcsOf}
+use Rattle.station.specs.declared.Address.{Address}
 use Rattle.station.specs.declared.Settings.{Settings}
 use Rattle.station.specs.declared.Outcome.{Outcome}
 use Rattle.station.specs.declared.Outcome.the-variants.{Cut, BadPreamble, Undersized, Oversized, WrongFcs, WrongLength, Filtered, PauseTaken, PfcTaken, ControlDropped, HandedOut}
@@ -19,6 +21,8 @@ use Rattle.fields.specs.Tags.{tagCount}
 use Rattle.fields.specs.Fields.{field, dataPlace}
 use Rattle.frame.specs.Frame.{frameData, covered}
 use Rattle.frame.specs.Length.{handedLength}
+use Rattle.table.specs.declared.Entry.{Entry}
+use Rattle.table.specs.Entries.{mine}
 use Rattle.control.specs.Control.{opcode}
 use Rattle.outcome.specs.Outcomes.{outcome, frameOf}
 use Rattle.receive.specs.Reading.{readRefusals}
@@ -81,24 +85,24 @@ reasonFor s i run by ControlDropped = DroppedControl (opcode (frameOf run))
 reasonFor s i run by HandedOut = handedReason (s .checking) (i + 8) (frameOf run)
 
 -- "a tool names the outcome's reason"
-unfoldable pub reasonOf : Settings → ℕ → List ℕ → ℕ → Reason
-reasonOf s i run by = reasonFor s i run by (outcome s run by)
+unfoldable pub reasonOf : Settings → List (Option Address) → ℕ → List ℕ → ℕ → Reason
+reasonOf s own i run by = reasonFor s i run by (outcome s own run by)
 
 -- ---- The call: "The Start is found from a place as in reading", "with the next place equal to the reading's"
 
 -- "`none` and `open` have no reason"
-unfoldable pub explainStart : Settings → ℕ → AfterStart → Explained
-explainStart s i unended = record { answer = Open; start = i; next = i }
-explainStart s i (ended run by) = record { answer = Because (reasonOf s i run by); start = i; next = i + 1 + length run }
+unfoldable pub explainStart : Settings → List (Option Address) → ℕ → AfterStart → Explained
+explainStart s own i unended = record { answer = Open; start = i; next = i }
+explainStart s own i (ended run by) = record { answer = Because (reasonOf s own i run by); start = i; next = i + 1 + length run }
 
-unfoldable pub explainFound : Settings → List Symbol → Found → Explained
-explainFound s c Found.Nothing = record { answer = Why.Nothing; start = length c; next = length c }
-explainFound s c (At i) = explainStart s i (afterStart (drop (i + 1) c))
+unfoldable pub explainFound : Settings → List (Option Address) → List Symbol → Found → Explained
+explainFound s own c Found.Nothing = record { answer = Why.Nothing; start = length c; next = length c }
+explainFound s own c (At i) = explainStart s own i (afterStart (drop (i + 1) c))
 
--- "Refusals: 1 to 3 as in reading."
-unfoldable pub explainChecked : Checked → Settings → List ℕ → List ℕ → ℕ → Explained
-explainChecked (Checked.Refused x) s os ms place = record { answer = Why.Refused x; start = place; next = place }
-explainChecked Fine s os ms place = explainFound s (capture os ms) (findStart (capture os ms) place)
+-- "Refusals: 1 to 3 as in reading." Item 10: "Item 8's tool gives 14 and 20 as reading does."
+unfoldable pub explainChecked : Checked → Settings → List (Option Address) → List ℕ → List ℕ → ℕ → Explained
+explainChecked (Checked.Refused x) s own os ms place = record { answer = Why.Refused x; start = place; next = place }
+explainChecked Fine s own os ms place = explainFound s own (capture os ms) (findStart (capture os ms) place)
 
-unfoldable pub explained : Settings → List ℕ → List ℕ → ℕ → Explained
-explained s os ms place = explainChecked (first (readRefusals s os ms place)) s os ms place
+unfoldable pub explained : Settings → ℕ → List Entry → List ℕ → List ℕ → ℕ → Explained
+explained s job es os ms place = explainChecked (first (readRefusals s job es os ms place)) s (mine job es) os ms place

@@ -1,4 +1,4 @@
-// Why a Start has its outcome (document 02, item 8). Meaning: specs/.
+// Why a Start has its outcome (document 02, item 8), in a reading of a job (item 10). Meaning: specs/.
 use line::Found;
 use outcome::Judged;
 use station::Checked;
@@ -11,6 +11,7 @@ ghost use lib.ListN.{length};
 ghost use Rattle.line.specs.Line.{preamble};
 ghost use Rattle.line.specs.Octets.{lowFirst};
 ghost use Rattle.fcs.specs.Fcs.{fcsOf};
+ghost use Rattle.table.specs.Entries.{entriesOf};
 ghost use Rattle.frame.specs.Frame.{covered};
 ghost use Rattle.outcome.specs.Outcomes.{frameOf, checkMade};
 ghost use Rattle.reason.specs.Reasons.{rightOnes, preambleReason, sixOf, longReason, fcsReason, lengthReason, handedReason, reasonFor, explained};
@@ -184,10 +185,17 @@ fn reason_of(s: Settings, start: usize, run: &[u8], by: u8, j: Judged) -> Reason
 // ---- the call
 
 // Why the first Start at a place or later has its outcome, and the places that its reading gives. No state has a part in it.
-pub fn explain(s: Settings, octets: &[u8], marks: &[u8], place: usize) -> Explained
-    ensures { λ r. ⌜ r ≡ explained s (now (octets .entry)) (now (marks .entry)) place ⌝ }
+pub fn explain(
+    s: Settings,
+    job: u8,
+    table: &[u8; 128],
+    octets: &[u8],
+    marks: &[u8],
+    place: usize,
+) -> Explained
+    ensures { λ r. ⌜ r ≡ explained s job (entriesOf (now (table .entry))) (now (octets .entry)) (now (marks .entry)) place ⌝ }
 {
-    let checked = receive::check_read(s, octets, marks, place);
+    let checked = receive::check_read(s, job, table, octets, marks, place);
     if let Checked::Refused(x) = checked {
         return Explained {
             answer: Why::Refused(x),
@@ -212,7 +220,7 @@ pub fn explain(s: Settings, octets: &[u8], marks: &[u8], place: usize) -> Explai
     };
     // one Start has no time to make tables
     let none = [0u32; 1];
-    let j = outcome::judge(&none[..0], s, &octets[from..end], octets[end]);
+    let j = outcome::judge(&none[..0], s, job, table, &octets[from..end], octets[end]);
     let why = reason_of(s, start, &octets[from..end], octets[end], j);
     Explained {
         answer: Why::Because(why),

@@ -1,11 +1,13 @@
 -- A reading in two steps: what is seen of a run is its reading (`sight-read`), and only a Start that is counted changes the state. Assumes nothing.
 use Prim.Native.Nat.{ℕ, _+_}
-use mathlib.Core.Path.{_≡_, refl, ap}
+use mathlib.Core.Path.{_≡_, refl, ap₂}
 use mathlib.Core.List.{List, [], _∷_}
+use mathlib.Core.Option.{Option}
 use lib.ListN.{length}
 use denote.Enum.Declared.{tagOf}
 use types.Run.{OneOf, miss}
 use Rattle.line.specs.Octets.{between}
+use Rattle.station.specs.declared.Address.{Address}
 use Rattle.station.specs.declared.Settings.{Settings}
 use Rattle.station.specs.declared.Slots.{Slots}
 use Rattle.station.specs.declared.State.{State}
@@ -25,16 +27,16 @@ use Rattle.receive.specs.Steps.{sightOf, afterSight, readOf}
 abbrev pub at-state : ℕ → List ℕ → List Slots → State
 at-state count cs ts = record { counters = cs; timers = ts; deficit = count }
 
-pub sight-read : (s : Settings) (os : List ℕ) (i : ℕ) (run : List ℕ) (o : Outcome) (st : State)
-    → between os (i + 1) (i + 1 + length run) ≡ run → readOf os (sightOf s i run o) st ≡ readRun s st i run o
+pub sight-read : (s : Settings) (own : List (Option Address)) (os : List ℕ) (i : ℕ) (run : List ℕ) (o : Outcome) (way : ℕ) (st : State)
+    → between os (i + 1) (i + 1 + length run) ≡ run → way ≡ wayCarried s own o (frameOf run) → readOf os (sightOf s i run o way) st ≡ readRun s own st i run o
 unfolding sightOf readOf afterSight readRun
-sight-read s os i run o st h =
-    ap (λ (r : List ℕ). record {
-      answer = Counted o (status s o (frameOf run)) (handedPart s o (i + 8) (frameOf run)) (wayCarried s o (frameOf run));
+sight-read s own os i run o way st h w =
+    ap₂ (λ (r : List ℕ) (v : ℕ). record {
+      answer = Counted o (status s o (frameOf run)) (handedPart s o (i + 8) (frameOf run)) v;
       start = i;
       next = i + 1 + length run;
       state = stateAfter o (frameOf r) st;
-    }) h
+    }) h w
 
 abbrev others : List ℕ
 others = 0 ∷ 1 ∷ 2 ∷ []

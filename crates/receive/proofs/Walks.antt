@@ -15,6 +15,7 @@ use Rattle.line.specs.Table.{first}
 use Rattle.line.proofs.Starts.{skip-run, met-nothing, met-found, where-range, ending-inside}
 use Rattle.line.proofs.Buffers.{length-capture}
 use Rattle.line.proofs.Places.{run-found, after-found, after-nothing}
+use Rattle.station.specs.declared.Address.{Address}
 use Rattle.station.specs.declared.Settings.{Settings}
 use Rattle.station.specs.declared.State.{State}
 use Rattle.station.specs.declared.Checked.{Checked}
@@ -26,6 +27,8 @@ use Rattle.receive.specs.declared.Reading.{Reading}
 use Rattle.receive.specs.declared.Walked.{Walked}
 use Rattle.receive.specs.declared.Walked.the-variants.{Ended}
 use Rattle.receive.specs.declared.WalkEnd.{WalkEnd}
+use Rattle.table.specs.declared.Entry.{Entry}
+use Rattle.table.specs.Entries.{mine}
 use Rattle.outcome.specs.Outcomes.{outcome, frameOf}
 use Rattle.receive.specs.Reading.{stateAfter, readRun, readStart, readFound, readAt, readRefusals, readChecked, reading}
 use Rattle.receive.specs.Values.{isCounted}
@@ -35,65 +38,71 @@ use Rattle.receive.proofs.Refusals.{passed, still-fine}
 -- ---- the walk over the Starts that a capture has
 
 -- the reading of each Start in turn, and `none` at the end; an open one is the last
-unfoldable pub through : Settings → State → ℕ → List MetStart → List Reading
-through s st n [] = record { answer = Nothing; start = n; next = n; state = st } ∷ []
-through s st n (m ∷ ms) =
-    let r : Reading = readStart s st (m .place) (m .follows) in
-    r ∷ elim (isCounted (r .answer)) [ true ↦ through s (r .state) n ms | false ↦ [] ]
+unfoldable pub through : Settings → List (Option Address) → State → ℕ → List MetStart → List Reading
+through s own st n [] = record { answer = Nothing; start = n; next = n; state = st } ∷ []
+through s own st n (m ∷ ms) =
+    let r : Reading = readStart s own st (m .place) (m .follows) in
+    r ∷ elim (isCounted (r .answer)) [ true ↦ through s own (r .state) n ms | false ↦ [] ]
 
 -- the reading of a Start whose run is ended, and of one whose run is not
-module _ (s : Settings) (st : State) (n : ℕ) where
+module _ (s : Settings) (own : List (Option Address)) (st : State) (n : ℕ) where
   pub through-ended : (i : ℕ) (r : List ℕ) (by : ℕ) (ms : List MetStart)
-      → through s st n (record { place = i; follows = ended r by } ∷ ms) ≡ readStart s st i (ended r by) ∷ through s (readStart s st i (ended r by) .state) n ms
+      → through s own st n (record { place = i; follows = ended r by } ∷ ms)
+      ≡ readStart s own st i (ended r by) ∷ through s own (readStart s own st i (ended r by) .state) n ms
   unfolding through readStart readRun
   through-ended i r by ms = refl
 
   pub through-unended : (i : ℕ) (ms : List MetStart)
-      → through s st n (record { place = i; follows = unended } ∷ ms) ≡ record { answer = Open; start = i; next = i; state = st } ∷ []
+      → through s own st n (record { place = i; follows = unended } ∷ ms) ≡ record { answer = Open; start = i; next = i; state = st } ∷ []
   unfolding through readStart
   through-unended i ms = refl
 
-module _ (s : Settings) (os ms : List ℕ) (fine : first (readRefusals s os ms 0) ≡ Fine) where
+module _ (s : Settings) (job : ℕ) (es : List Entry) (os ms : List ℕ) (fine : first (readRefusals s job es os ms 0) ≡ Fine) where
+  abbrev own : List (Option Address)
+  own = mine job es
+
   abbrev c : List Symbol
   c = capture os ms
 
   same-length : length c ≡ length os
-  same-length = length-capture os ms (passed s os ms 0 fine .even)
+  same-length = length-capture os ms (passed s job es os ms 0 fine .even)
 
   -- a reading that is not refused
-  reading-is : (st : State) (p : ℕ) → p ≤ length os → reading s st os ms p ≡ readAt s st c p
+  reading-is : (st : State) (p : ℕ) → p ≤ length os → reading s job es st os ms p ≡ readAt s own st c p
   unfolding reading readChecked
-  reading-is st p h = ap (λ (k : Checked). readChecked k s st os ms p) (still-fine s os ms 0 p fine h)
+  reading-is st p h = ap (λ (k : Checked). readChecked k s own st os ms p) (still-fine s job es os ms 0 p fine h)
 
   -- the readings that follow a reading r
   abbrev then : ℕ → Reading → List Reading
-  then most r = r ∷ elim (isCounted (r .answer)) [ true ↦ readingsFrom most s (r .state) os ms (r .next) | false ↦ [] ]
+  then most r = r ∷ elim (isCounted (r .answer)) [ true ↦ readingsFrom most s job es (r .state) os ms (r .next) | false ↦ [] ]
 
   abbrev Rest : ℕ → Type 0
-  Rest most = (st : State) (p : ℕ) → p ≤ length c → length c < p + most → readingsFrom most s st os ms p ≡ through s st (length c) (metStarts p (drop p c))
+  Rest most =
+      (st : State) (p : ℕ) → p ≤ length c → length c < p + most
+      → readingsFrom most s job es st os ms p ≡ through s own st (length c) (metStarts p (drop p c))
 
   at-start : (most : ℕ) → Rest most → (st : State) (i : ℕ) → length c < i + suc most → (e : Option Symbol) → ending (drop (i + 1) c) ≡ e
-      → then most (readStart s st i (endedBy (run (drop (i + 1) c)) e))
-      ≡ through s st (length c) (record { place = i; follows = endedBy (run (drop (i + 1) c)) e } ∷ metStarts (i + 1) (drop (i + 1) c))
+      → then most (readStart s own st i (endedBy (run (drop (i + 1) c)) e))
+      ≡ through s own st (length c) (record { place = i; follows = endedBy (run (drop (i + 1) c)) e } ∷ metStarts (i + 1) (drop (i + 1) c))
   unfolding endedBy through readStart readRun
   at-start most ih st i enough none h = refl
   at-start most ih st i enough (some y) h =
       let t : List Symbol = drop (i + 1) c in
-      let r : Reading = readStart s st i (ended (run t) (y .octet)) in
+      let r : Reading = readStart s own st i (ended (run t) (y .octet)) in
       let inside = ending-inside t y h in
       let left = length-drop (i + 1) c in
       let skipped : metStarts (i + 1) t ≡ metStarts (i + 1 + length (run t)) (drop (i + 1 + length (run t)) c) =
       skip-run (i + 1) t ∙ ap (metStarts (i + 1 + length (run t))) (drop-drop (length (run t)) (i + 1) c) in
       ap (λ (l : List Reading). r ∷ l)
-      (ih (r .state) (i + 1 + length (run t)) (omega arith) (omega arith) ∙ ap (through s (r .state) (length c)) (sym skipped))
+      (ih (r .state) (i + 1 + length (run t)) (omega arith) (omega arith) ∙ ap (through s own (r .state) (length c)) (sym skipped))
 
   found : (most : ℕ) → Rest most → (st : State) (p : ℕ) → length c < p + suc most → (f : Found) → findStart c p ≡ f
-      → then most (readFound s st c f) ≡ through s st (length c) (metStarts p (drop p c))
+      → then most (readFound s own st c f) ≡ through s own st (length c) (metStarts p (drop p c))
   unfolding readFound findStart afterStart through
-  found most ih st p enough Found.Nothing e = sym (ap (through s st (length c)) (met-nothing p (drop p c) e))
+  found most ih st p enough Found.Nothing e = sym (ap (through s own st (length c)) (met-nothing p (drop p c) e))
   found most ih st p enough (At i) e =
       let k = where-range isStart p (drop p c) i e in
-      at-start most ih st i (omega arith) (ending (drop (i + 1) c)) refl ∙ sym (ap (through s st (length c)) (met-found c p (drop p c) i refl e))
+      at-start most ih st i (omega arith) (ending (drop (i + 1) c)) refl ∙ sym (ap (through s own st (length c)) (met-found c p (drop p c) i refl e))
 
   from-place : (most : ℕ) → Rest most
   unfolding readingsFrom readAt
@@ -102,15 +111,15 @@ module _ (s : Settings) (os ms : List ℕ) (fine : first (readRefusals s os ms 0
       ap (then most) (reading-is st p (let e = same-length in omega arith)) ∙ found most (from-place most) st p enough (findStart c p) refl
 
   -- the walk is the reading of each Start in turn
-  pub walk-through : (st : State) → walk s st os ms ≡ through s st (length c) (metStarts 0 c)
+  pub walk-through : (st : State) → walk s job es st os ms ≡ through s own st (length c) (metStarts 0 c)
   unfolding walk
   walk-through st = let e = same-length in from-place (length os + 1) st 0 (omega arith) (omega arith)
 
 -- ---- one turn of a loop
 
 -- what is left of a walk at place p, with n Starts counted
-abbrev pub left : Settings → List ℕ → List ℕ → ℕ → State → ℕ → WalkEnd
-left s os ms n st p = walkOf n st (through s st (length (capture os ms)) (metStarts p (drop p (capture os ms))))
+abbrev pub left : Settings → List (Option Address) → List ℕ → List ℕ → ℕ → State → ℕ → WalkEnd
+left s own os ms n st p = walkOf n st (through s own st (length (capture os ms)) (metStarts p (drop p (capture os ms))))
 
 -- no Start stands between a Start and the end of its run
 to-the-end : (os ms : List ℕ) → length os ≡ length ms → (i e : ℕ) → findControl (capture os ms) (i + 1) ≡ At e → i + 1 ≤ e → e < length os
@@ -123,45 +132,48 @@ to-the-end os ms same i e h low high =
     ∙ ap (λ (k : ℕ). metStarts (i + 1 + k) (drop k t)) n
     ∙ ap₂ metStarts place (drop-drop (e - (i + 1)) (i + 1) (capture os ms) ∙ ap (λ (k : ℕ). drop k (capture os ms)) place)
 
-module _ (s : Settings) (os ms : List ℕ) (n : ℕ) (st : State) (p : ℕ) where
-  pub turn-none : findStart (capture os ms) p ≡ Found.Nothing → left s os ms n st p ≡ record { answer = Ended n false; state = st }
+module _ (s : Settings) (own : List (Option Address)) (os ms : List ℕ) (n : ℕ) (st : State) (p : ℕ) where
+  pub turn-none : findStart (capture os ms) p ≡ Found.Nothing → left s own os ms n st p ≡ record { answer = Ended n false; state = st }
   unfolding findStart walkOf through
-  turn-none h = ap (λ (l : List MetStart). walkOf n st (through s st (length (capture os ms)) l)) (met-nothing p (drop p (capture os ms)) h)
+  turn-none h = ap (λ (l : List MetStart). walkOf n st (through s own st (length (capture os ms)) l)) (met-nothing p (drop p (capture os ms)) h)
 
   module _ (i : ℕ) (found : findStart (capture os ms) p ≡ At i) where
     -- the walk over a Start at i, by what follows it
     abbrev over : AfterStart → WalkEnd
-    over f = walkOf n st (through s st (length (capture os ms)) (record { place = i; follows = f } ∷ metStarts (i + 1) (drop (i + 1) (capture os ms))))
+    over f = walkOf n st (through s own st (length (capture os ms)) (record { place = i; follows = f } ∷ metStarts (i + 1) (drop (i + 1) (capture os ms))))
 
-    at-found : (f : AfterStart) → afterStart (drop (i + 1) (capture os ms)) ≡ f → left s os ms n st p ≡ over f
+    at-found : (f : AfterStart) → afterStart (drop (i + 1) (capture os ms)) ≡ f → left s own os ms n st p ≡ over f
     unfolding findStart
     at-found f e =
-        ap (λ (l : List MetStart). walkOf n st (through s st (length (capture os ms)) l)) (met-found (capture os ms) p (drop p (capture os ms)) i refl found) ∙ ap over e
+        ap (λ (l : List MetStart). walkOf n st (through s own st (length (capture os ms)) l))
+        (met-found (capture os ms) p (drop p (capture os ms)) i refl found)
+        ∙ ap over e
 
-    pub turn-open : findControl (capture os ms) (i + 1) ≡ Found.Nothing → left s os ms n st p ≡ record { answer = Ended n true; state = st }
+    pub turn-open : findControl (capture os ms) (i + 1) ≡ Found.Nothing → left s own os ms n st p ≡ record { answer = Ended n true; state = st }
     unfolding walkOf through readStart
     turn-open h = at-found unended (after-nothing os ms (i + 1) h)
 
     pub turn-ended : (same : length os ≡ length ms) (e : ℕ) → findControl (capture os ms) (i + 1) ≡ At e → i + 1 ≤ e → e < length os
-        → let r : List ℕ = between os (i + 1) e in left s os ms n st p ≡ left s os ms (n + 1) (stateAfter (outcome s r (getD os e 0)) (frameOf r) st) e
+        → let r : List ℕ = between os (i + 1) e in
+        left s own os ms n st p ≡ left s own os ms (n + 1) (stateAfter (outcome s own r (getD os e 0)) (frameOf r) st) e
     unfolding walkOf through readStart readRun
     turn-ended same e h low high =
         let r : List ℕ = between os (i + 1) e in
-        let st′ : State = stateAfter (outcome s r (getD os e 0)) (frameOf r) st in
+        let st′ : State = stateAfter (outcome s own r (getD os e 0)) (frameOf r) st in
         at-found (ended r (getD os e 0)) (after-found os ms same (i + 1) e h)
-        ∙ ap (λ (l : List MetStart). walkOf (n + 1) st′ (through s st′ (length (capture os ms)) l)) (to-the-end os ms same i e h low high)
+        ∙ ap (λ (l : List MetStart). walkOf (n + 1) st′ (through s own st′ (length (capture os ms)) l)) (to-the-end os ms same i e h low high)
 
 -- the walk in one call, from its first turn
-pub walked-from : (s : Settings) (st : State) (os ms : List ℕ) → first (readRefusals s os ms 0) ≡ Fine
-    → left s os ms 0 st 0 ≡ walked s st os ms
+pub walked-from : (s : Settings) (job : ℕ) (es : List Entry) (st : State) (os ms : List ℕ) → first (readRefusals s job es os ms 0) ≡ Fine
+    → left s (mine job es) os ms 0 st 0 ≡ walked s job es st os ms
 unfolding walked
-walked-from s st os ms fine = sym (ap (walkOf 0 st) (walk-through s os ms fine st))
+walked-from s job es st os ms fine = sym (ap (walkOf 0 st) (walk-through s job es os ms fine st))
 
 -- a walk whose first reading is refused
-pub walked-refused : (s : Settings) (st : State) (os ms : List ℕ) (x : Refusal) → first (readRefusals s os ms 0) ≡ Refused x
-    → walked s st os ms ≡ record { answer = Walked.Refused x; state = st }
+pub walked-refused : (s : Settings) (job : ℕ) (es : List Entry) (st : State) (os ms : List ℕ) (x : Refusal) → first (readRefusals s job es os ms 0) ≡ Refused x
+    → walked s job es st os ms ≡ record { answer = Walked.Refused x; state = st }
 unfolding walked walk reading readingsFrom walkOf readChecked
-walked-refused s st os ms x e =
-    ap (λ (n : ℕ). walkOf 0 st (readingsFrom n s st os ms 0)) (add-one (length os))
-    ∙ ap (λ (r : Reading). walkOf 0 st (r ∷ elim (isCounted (r .answer)) [ true ↦ readingsFrom (length os) s (r .state) os ms (r .next) | false ↦ [] ]))
-    (ap (λ (k : Checked). readChecked k s st os ms 0) e)
+walked-refused s job es st os ms x e =
+    ap (λ (n : ℕ). walkOf 0 st (readingsFrom n s job es st os ms 0)) (add-one (length os))
+    ∙ ap (λ (r : Reading). walkOf 0 st (r ∷ elim (isCounted (r .answer)) [ true ↦ readingsFrom (length os) s job es (r .state) os ms (r .next) | false ↦ [] ]))
+    (ap (λ (k : Checked). readChecked k s (mine job es) st os ms 0) e)

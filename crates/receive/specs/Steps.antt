@@ -14,7 +14,7 @@ use Rattle.station.specs.Numbers.{byOutcome}
 use Rattle.fields.specs.declared.Layout.{Layout}
 use Rattle.frame.specs.Frame.{dataFrom}
 use Rattle.frame.specs.Length.{handedOf}
-use Rattle.control.specs.Control.{wayCarried}
+use Rattle.table.specs.declared.Entry.{Entry}
 use Rattle.outcome.specs.Outcomes.{frameOf}
 use Rattle.outcome.specs.Status.{status}
 use Rattle.receive.specs.declared.Answer.the-variants.{Refused, Nothing, Open, Counted}
@@ -29,11 +29,11 @@ partAt checking o at f l =
     byOutcome o emptyPart emptyPart emptyPart emptyPart
     (record { at = at + l .place; len = length (handedOf checking (l .field) (dataFrom (l .place) f)) })
 
--- what is seen of a Start at place i, and the outcome of its run
-unfoldable pub sightOf : Settings → ℕ → List ℕ → Outcome → Sight
-sightOf s i run o =
+-- what is seen of a Start at place i, the outcome of its run, and the number of the address that let the frame in
+unfoldable pub sightOf : Settings → ℕ → List ℕ → Outcome → ℕ → Sight
+sightOf s i run o way =
     record {
-      answer = Counted o (status s o (frameOf run)) (handedPart s o (i + 8) (frameOf run)) (wayCarried s o (frameOf run));
+      answer = Counted o (status s o (frameOf run)) (handedPart s o (i + 8) (frameOf run)) way;
       start = i;
       next = i + 1 + length run;
     }
@@ -56,5 +56,5 @@ abbrev pub Inside : List ℕ → Sight → Type 0
 Inside os l = isCounted (l .answer) ≡ true → (l .start + 1 ≤ l .next) × (l .next ≤ length os)
 
 -- l is what a reading sees, whatever the state is
-abbrev pub Seen : Settings → List ℕ → List ℕ → ℕ → Sight → Type 0
-Seen s os ms place l = ((st : State) → readOf os l st ≡ reading s st os ms place) × Inside os l
+abbrev pub Seen : Settings → ℕ → List Entry → List ℕ → List ℕ → ℕ → Sight → Type 0
+Seen s job es os ms place l = ((st : State) → readOf os l st ≡ reading s job es st os ms place) × Inside os l

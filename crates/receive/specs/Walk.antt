@@ -7,6 +7,7 @@ use Rattle.station.specs.declared.Settings.{Settings}
 use Rattle.station.specs.declared.State.{State}
 use Rattle.station.specs.declared.Part.{Part}
 use Rattle.station.specs.Numbers.{byOutcome}
+use Rattle.table.specs.declared.Entry.{Entry}
 use Rattle.receive.specs.declared.Answer.{Answer}
 use Rattle.receive.specs.declared.Answer.the-variants.{Nothing, Open, Counted}
 use Rattle.receive.specs.declared.Reading.{Reading}
@@ -18,15 +19,15 @@ use Rattle.receive.specs.Values.{isCounted}
 
 -- the readings made from a place on, each at the next place of the one before and with the state that it left, up to the first that counts no
 -- Start; `most` of them at most
-unfoldable pub readingsFrom : ℕ → Settings → State → List ℕ → List ℕ → ℕ → List Reading
-readingsFrom zero s st os ms place = []
-readingsFrom (suc most) s st os ms place =
-    let r : Reading = reading s st os ms place in
-    r ∷ elim (isCounted (r .answer)) [ true ↦ readingsFrom most s (r .state) os ms (r .next) | false ↦ [] ]
+unfoldable pub readingsFrom : ℕ → Settings → ℕ → List Entry → State → List ℕ → List ℕ → ℕ → List Reading
+readingsFrom zero s job es st os ms place = []
+readingsFrom (suc most) s job es st os ms place =
+    let r : Reading = reading s job es st os ms place in
+    r ∷ elim (isCounted (r .answer)) [ true ↦ readingsFrom most s job es (r .state) os ms (r .next) | false ↦ [] ]
 
 -- the whole walk: no capture has more Starts than symbols
-unfoldable pub walk : Settings → State → List ℕ → List ℕ → List Reading
-walk s st os ms = readingsFrom (length os + 1) s st os ms 0
+unfoldable pub walk : Settings → ℕ → List Entry → State → List ℕ → List ℕ → List Reading
+walk s job es st os ms = readingsFrom (length os + 1) s job es st os ms 0
 
 -- what readings come to: how many counted a Start, whether the last one was `open`, or its refusal; and the state that they left
 unfoldable pub walkOf : ℕ → State → List Reading → WalkEnd
@@ -40,8 +41,8 @@ walkOf n st (r ∷ rs) =
     ]
 
 -- the whole walk in one call
-unfoldable pub walked : Settings → State → List ℕ → List ℕ → WalkEnd
-walked s st os ms = walkOf 0 st (walk s st os ms)
+unfoldable pub walked : Settings → ℕ → List Entry → State → List ℕ → List ℕ → WalkEnd
+walked s job es st os ms = walkOf 0 st (walk s job es st os ms)
 
 -- what an answer hands out: nothing, or by outcome 11 the octets of its part
 unfoldable pub handedBy : List ℕ → Answer → List (List ℕ)

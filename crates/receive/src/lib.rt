@@ -1,4 +1,5 @@
-// Reading (document 01, "Reading one Start", "Refusals and their order"). Meaning: specs/.
+// Reading (document 01, "Reading one Start", "Refusals and their order"), of a job, by the address table that two jobs share (document 02, item 10).
+// Meaning: specs/.
 use fields::Layout;
 use line::Found;
 use station::Checked;
@@ -12,8 +13,7 @@ ghost use Prim.Native.Nat.{_+_, _≤_};
 ghost use lib.ListN.{length};
 ghost use Rattle.line.specs.Table.{first};
 ghost use Rattle.fcs.specs.Lent.{Lent};
-ghost use Rattle.control.specs.Control.{wayCarried};
-ghost use Rattle.outcome.specs.Outcomes.{frameOf};
+ghost use Rattle.table.specs.Entries.{entriesOf};
 ghost use Rattle.station.specs.declared.Checked.the-variants.{Fine};
 ghost use Rattle.receive.specs.Reading.{readRefusals, reading, partOf};
 ghost use Rattle.receive.specs.Steps.{partAt, sightOf, Inside, Seen, afterSight};
@@ -77,8 +77,8 @@ fn handed_part(checking: bool, o: Outcome, at: usize, f: &[u8], l: Layout) -> Pa
 
 // What is seen of a Start at place `start` whose run has this outcome and carries this number of the address that let the frame in.
 fn look_run(s: Settings, start: usize, run: &[u8], o: Outcome, way: u8) -> Sight
-    requires { ⌜ (start ≤ 65536) × (length (now run) ≤ 65536) × (way ≡ wayCarried s o (frameOf (now run))) ⌝ }
-    ensures { λ r. ⌜ r ≡ sightOf s start (now (run .entry)) o ⌝ }
+    requires { ⌜ (start ≤ 65536) × (length (now run) ≤ 65536) ⌝ }
+    ensures { λ r. ⌜ r ≡ sightOf s start (now (run .entry)) o way ⌝ }
 {
     let f = outcome::frame_of(run);
     let l = fields::layout_of(f);
@@ -91,12 +91,22 @@ fn look_run(s: Settings, start: usize, run: &[u8], o: Outcome, way: u8) -> Sight
     }
 }
 
-// The refusals of a reading, lowest number first.
-pub fn check_read(s: Settings, octets: &[u8], marks: &[u8], place: usize) -> Checked
-    ensures { λ r. ⌜ r ≡ first (readRefusals s (now (octets .entry)) (now (marks .entry)) place) ⌝ }
+// The refusals of a reading, in the order of their table.
+pub fn check_read(
+    s: Settings,
+    job: u8,
+    table: &[u8; 128],
+    octets: &[u8],
+    marks: &[u8],
+    place: usize,
+) -> Checked
+    ensures { λ r. ⌜ r ≡ first (readRefusals s job (entriesOf (now (table .entry))) (now (octets .entry)) (now (marks .entry)) place) ⌝ }
 {
     if station::bad_settings(s) {
         return Checked::Refused(Refusal::BadSettings);
+    }
+    if table::bad_job(job) {
+        return Checked::Refused(Refusal::BadJob);
     }
     if station::bad_buffers(octets, marks) {
         return Checked::Refused(Refusal::BadBuffers);
@@ -104,14 +114,17 @@ pub fn check_read(s: Settings, octets: &[u8], marks: &[u8], place: usize) -> Che
     if station::bad_place(octets, place) {
         return Checked::Refused(Refusal::BadPlace);
     }
+    if table::bad_table(table) {
+        return Checked::Refused(Refusal::BadTable);
+    }
     Checked::Fine
 }
 
 // What a reading sees: the first Start at a place or later, and its outcome. No state has a part in it.
-fn look(s: Settings, octets: &[u8], marks: &[u8], place: usize) -> Sight
-    ensures { λ r. ⌜ Seen s (now (octets .entry)) (now (marks .entry)) place r ⌝ }
+fn look(s: Settings, job: u8, table: &[u8; 128], octets: &[u8], marks: &[u8], place: usize) -> Sight
+    ensures { λ r. ⌜ Seen s job (entriesOf (now (table .entry))) (now (octets .entry)) (now (marks .entry)) place r ⌝ }
 {
-    let checked = check_read(s, octets, marks, place);
+    let checked = check_read(s, job, table, octets, marks, place);
     if let Checked::Refused(x) = checked {
         return Sight {
             answer: Answer::Refused(x),
@@ -136,12 +149,12 @@ fn look(s: Settings, octets: &[u8], marks: &[u8], place: usize) -> Sight
     };
     // a single reading has no time to make tables
     let none = [0u32; 1];
-    let judged = outcome::judge(&none[..0], s, &octets[from..end], octets[end]);
+    let judged = outcome::judge(&none[..0], s, job, table, &octets[from..end], octets[end]);
     let o = judged.outcome;
     // here and not in `look_run`: settings that are lent on from one place only are not taken apart, which is a sixth of a short reading
     let way = match o {
         Outcome::PauseTaken | Outcome::PfcTaken | Outcome::ControlDropped | Outcome::HandedOut =>
-            control::frame_way(s, outcome::frame_of(&octets[from..end])),
+            control::frame_way(s, job, table, outcome::frame_of(&octets[from..end])),
         _ => 0,
     };
     look_run(s, start, &octets[from..end], o, way)
@@ -173,10 +186,18 @@ fn state_after(seen: Sight, octets: &[u8], state: State) -> State
 }
 
 // A reading: the first Start at a place or later, its outcome, and the state after it.
-pub fn read(s: Settings, state: State, octets: &[u8], marks: &[u8], place: usize) -> Reading
-    ensures { λ r. ⌜ r ≡ reading s state (now (octets .entry)) (now (marks .entry)) place ⌝ }
+pub fn read(
+    s: Settings,
+    job: u8,
+    table: &[u8; 128],
+    state: State,
+    octets: &[u8],
+    marks: &[u8],
+    place: usize,
+) -> Reading
+    ensures { λ r. ⌜ r ≡ reading s job (entriesOf (now (table .entry))) state (now (octets .entry)) (now (marks .entry)) place ⌝ }
 {
-    let seen = look(s, octets, marks, place);
+    let seen = look(s, job, table, octets, marks, place);
     let answer = seen.answer;
     let after = state_after(seen, octets, state);
     Reading {
@@ -206,9 +227,17 @@ pub fn client_data(octets: &[u8], part: Part) -> &[u8]
 // ---- the walk
 
 // The walk over a capture that is not refused, the FCS by tables if they are lent. Counters and timers stay where they are; most Starts set no timer.
-fn walk_on(t: &[u32], s: Settings, state: State, octets: &[u8], marks: &[u8]) -> WalkEnd
-    requires { ⌜ Lent (now t) × (first (readRefusals s (now octets) (now marks) 0) ≡ Fine) ⌝ }
-    ensures { λ r. ⌜ r ≡ walked s state (now (octets .entry)) (now (marks .entry)) ⌝ }
+fn walk_on(
+    t: &[u32],
+    s: Settings,
+    job: u8,
+    table: &[u8; 128],
+    state: State,
+    octets: &[u8],
+    marks: &[u8],
+) -> WalkEnd
+    requires { ⌜ Lent (now t) × (first (readRefusals s job (entriesOf (now table)) (now octets) (now marks) 0) ≡ Fine) ⌝ }
+    ensures { λ r. ⌜ r ≡ walked s job (entriesOf (now (table .entry))) state (now (octets .entry)) (now (marks .entry)) ⌝ }
 {
     let mut counters = state.counters;
     let mut timers = state.timers;
@@ -236,7 +265,7 @@ fn walk_on(t: &[u32], s: Settings, state: State, octets: &[u8], marks: &[u8]) ->
                 },
             };
         };
-        let judged = outcome::judge(t, s, &octets[from..end], octets[end]);
+        let judged = outcome::judge(t, s, job, table, &octets[from..end], octets[end]);
         let o = judged.outcome;
         station::count(o, &mut counters);
         if flow::sets_timers(o) {
@@ -250,10 +279,17 @@ fn walk_on(t: &[u32], s: Settings, state: State, octets: &[u8], marks: &[u8]) ->
 }
 
 // The whole walk in one call: every Start in its order. In a long capture the tables of the FCS are made once and lent.
-pub fn walk(s: Settings, state: State, octets: &[u8], marks: &[u8]) -> WalkEnd
-    ensures { λ r. ⌜ r ≡ walked s state (now (octets .entry)) (now (marks .entry)) ⌝ }
+pub fn walk(
+    s: Settings,
+    job: u8,
+    table: &[u8; 128],
+    state: State,
+    octets: &[u8],
+    marks: &[u8],
+) -> WalkEnd
+    ensures { λ r. ⌜ r ≡ walked s job (entriesOf (now (table .entry))) state (now (octets .entry)) (now (marks .entry)) ⌝ }
 {
-    let checked = check_read(s, octets, marks, 0);
+    let checked = check_read(s, job, table, octets, marks, 0);
     if let Checked::Refused(x) = checked {
         return WalkEnd {
             answer: Walked::Refused(x),
@@ -262,9 +298,9 @@ pub fn walk(s: Settings, state: State, octets: &[u8], marks: &[u8]) -> WalkEnd
     }
     if octets.len() < 8192 {
         let none = [0u32; 1];
-        return walk_on(&none[..0], s, state, octets, marks);
+        return walk_on(&none[..0], s, job, table, state, octets, marks);
     }
     let mut t = [0u32; 4096];
     fcs::make_tables(&mut t);
-    walk_on(&t, s, state, octets, marks)
+    walk_on(&t, s, job, table, state, octets, marks)
 }

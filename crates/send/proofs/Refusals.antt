@@ -71,8 +71,8 @@ goes g (Refused y) h e = (cc, cc)
 pub limit-from : (s : Settings) → badSettings s ≡ false → (1518 ≤ s .limit) × (s .limit ≤ 9618)
 unfolding badSettings
 limit-from s h =
-    let high = or-false (isGroup (s .own .0) || ltb 4 (s .count) || ltb (s .limit) 1518) (ltb 9618 (s .limit)) h in
-    let low = or-false (isGroup (s .own .0) || ltb 4 (s .count)) (ltb (s .limit) 1518) (high .0) in
+    let high = or-false (isGroup (s .own .0) || ltb (s .limit) 1518) (ltb 9618 (s .limit)) h in
+    let low = or-false (isGroup (s .own .0)) (ltb (s .limit) 1518) (high .0) in
     (ltb-false (s .limit) 1518 (low .1), ltb-false 9618 (s .limit) (high .1))
 
 pub same-length : (os ms : List ℕ) → badBuffers os ms ≡ false → (length os ≡ length ms) × (length os ≤ 65536)

@@ -3,7 +3,7 @@ use Prim.Native.Nat.{ℕ}
 use Rattle.station.specs.declared.Outcome.{Outcome}
 use Rattle.station.specs.declared.Outcome.the-variants.{Cut, BadPreamble, Undersized, Oversized, WrongFcs, WrongLength, Filtered, PauseTaken, PfcTaken, ControlDropped, HandedOut}
 use Rattle.station.specs.declared.Refusal.{Refusal}
-use Rattle.station.specs.declared.Refusal.the-variants.{BadSettings, BadBuffers, BadPlace, OtherFlow, BadClass, BadType, LongData, NoRoom, Held, ManyTags, HighDeficit, WrongTotals, HighTotal}
+use Rattle.station.specs.declared.Refusal.the-variants.{BadSettings, BadBuffers, BadPlace, OtherFlow, BadClass, BadType, LongData, NoRoom, Held, ManyTags, BadJob, HoldsTwelve, AllInUse, AlreadyListed, NotListed, HighDeficit, BadTable, WrongTotals, HighTotal}
 use Rattle.station.specs.declared.Checked.{Checked}
 use Rattle.station.specs.declared.Checked.the-variants.{Fine, Refused}
 
@@ -31,7 +31,13 @@ refusalNumber LongData = 7
 refusalNumber NoRoom = 8
 refusalNumber Held = 9
 refusalNumber ManyTags = 10
+refusalNumber BadJob = 14
+refusalNumber HoldsTwelve = 15
+refusalNumber AllInUse = 16
+refusalNumber AlreadyListed = 17
+refusalNumber NotListed = 18
 refusalNumber HighDeficit = 19
+refusalNumber BadTable = 20
 refusalNumber WrongTotals = 21
 refusalNumber HighTotal = 22
 

@@ -76,9 +76,9 @@ isPfcMode Pfc = true
 unfoldable pub isGroup : List ℕ → Bool
 isGroup address = eqb (getD address 0 0 % 2) 1
 
--- 1: "own address has its group bit …, listed count above 4, or M outside 1518 to 9618"
+-- 1: "own address has its group bit …, or M outside 1518 to 9618"; document 02, item 10: "In refusal 1 the listed count falls away."
 unfoldable pub badSettings : Settings → Bool
-badSettings s = isGroup (s .own .0) || ltb 4 (s .count) || ltb (s .limit) 1518 || ltb 9618 (s .limit)
+badSettings s = isGroup (s .own .0) || ltb (s .limit) 1518 || ltb 9618 (s .limit)
 
 -- 2: "octet and mark buffers differ in length, or exceed 65,536"
 unfoldable pub badBuffers : List ℕ → List ℕ → Bool

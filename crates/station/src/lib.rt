@@ -16,9 +16,6 @@ pub enum Flow {
 
 pub struct Settings {
     pub own: Address,
-    pub listed: [Address; 4],
-    // how many of `listed` count, from the front
-    pub count: u8,
     pub broadcast: bool,
     pub promiscuous: bool,
     // lengths are checked
@@ -65,7 +62,7 @@ pub enum Outcome {
     HandedOut,
 }
 
-// Refusals 1 to 10 by number, 19, and 21 and 22; their place among the tests is the affair of each call's table.
+// Refusals by number, 1 to 10 and 14 to 22; their place among the tests is the affair of each call's table.
 pub enum Refusal {
     BadSettings,
     BadBuffers,
@@ -77,7 +74,13 @@ pub enum Refusal {
     NoRoom,
     Held,
     ManyTags,
+    BadJob,
+    HoldsTwelve,
+    AllInUse,
+    AlreadyListed,
+    NotListed,
     HighDeficit,
+    BadTable,
     WrongTotals,
     HighTotal,
 }
@@ -102,9 +105,6 @@ pub fn bad_settings(s: Settings) -> bool
     let octets = own.0;
     let lead = octets[0];
     if lead % 2 == 1 {
-        return true;
-    }
-    if 4 < s.count {
         return true;
     }
     if s.limit < 1518 {
@@ -158,7 +158,13 @@ pub fn refusal_number(r: Refusal) -> u8
         Refusal::NoRoom => 8,
         Refusal::Held => 9,
         Refusal::ManyTags => 10,
+        Refusal::BadJob => 14,
+        Refusal::HoldsTwelve => 15,
+        Refusal::AllInUse => 16,
+        Refusal::AlreadyListed => 17,
+        Refusal::NotListed => 18,
         Refusal::HighDeficit => 19,
+        Refusal::BadTable => 20,
         Refusal::WrongTotals => 21,
         Refusal::HighTotal => 22,
     }

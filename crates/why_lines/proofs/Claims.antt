@@ -7,6 +7,7 @@ use mathlib.Core.List.{List, [], _∷_}
 use lib.ListN.{length}
 use Rattle.station.specs.declared.Settings.{Settings}
 use Rattle.station.specs.declared.State.{State}
+use Rattle.table.specs.declared.Entry.{Entry}
 use Rattle.receive.specs.declared.Reading.{Reading}
 use Rattle.receive.specs.Reading.{reading}
 use Rattle.receive.specs.Walk.{readingsFrom, walk}
@@ -24,14 +25,14 @@ more-same true false es rs h w = absurd (true≢false h)
 more-same false true es rs h w = absurd (false≢true h)
 more-same false false es rs h w = tt
 
-all-same : (left : ℕ) (s : Settings) (st : State) (os ms : List ℕ) (p : ℕ) → AllSame (explainedFrom left s os ms p) (readingsFrom left s st os ms p)
+all-same : (left : ℕ) (s : Settings) (job : ℕ) (table : List Entry) (st : State) (os ms : List ℕ) (p : ℕ) → AllSame (explainedFrom left s job table os ms p) (readingsFrom left s job table st os ms p)
 unfolding AllSame explainedFrom readingsFrom
-all-same zero s st os ms p = tt
-all-same (suc left) s st os ms p =
-    let same = explain-reads s st os ms p in
-    let r = reading s st os ms p in
-    (same, more-same _ _ _ _ (same .given) (rw (same .next) (all-same left s (r .state) os ms (r .next))))
+all-same zero s job table st os ms p = tt
+all-same (suc left) s job table st os ms p =
+    let same = explain-reads s job table st os ms p in
+    let r = reading s job table st os ms p in
+    (same, more-same _ _ _ _ (same .given) (rw (same .next) (all-same left s job table (r .state) os ms (r .next))))
 
-pub whys-walk : (s : Settings) (st : State) (os ms : List ℕ) → AllSame (explainedFrom (length os + 1) s os ms 0) (walk s st os ms)
+pub whys-walk : (s : Settings) (job : ℕ) (table : List Entry) (st : State) (os ms : List ℕ) → AllSame (explainedFrom (length os + 1) s job table os ms 0) (walk s job table st os ms)
 unfolding walk
-whys-walk s st os ms = all-same (length os + 1) s st os ms 0
+whys-walk s job table st os ms = all-same (length os + 1) s job table st os ms 0

@@ -7,7 +7,10 @@ use native.Mathlib.Omega.{arith}
 use lib.ListN.{length}
 use Rattle.station.specs.declared.Settings.{Settings}
 use Rattle.station.specs.declared.Refusal.{Refusal}
-use Rattle.lines.specs.Lines.{programSettings, lastLine, badInput, recordOctets, recordMarks}
+use Rattle.table.specs.declared.Entry.{Entry}
+use Rattle.table.specs.Entries.{entriesOf}
+use Rattle.table.specs.Calls.{emptyTable}
+use Rattle.lines.specs.Lines.{programSettings, programTable, lastLine, badInput, recordOctets, recordMarks}
 use Rattle.reason.specs.declared.Reason.{Reason}
 use Rattle.reason.specs.declared.Why.the-variants.{Refused, Nothing, Open, Because}
 use Rattle.reason.specs.declared.Explained.{Explained}
@@ -32,41 +35,41 @@ module _ (n : ℕ) (e : Explained) (es : List Explained) where
   unfolding whysOf
   why-open h = rw h
 
-module _ (n : ℕ) (s : Settings) (os ms : List ℕ) (p left : ℕ) (more : 0 < left) (e : Explained) (is : e ≡ explained s os ms p) where
+module _ (n : ℕ) (s : Settings) (job : ℕ) (es : List Entry) (os ms : List ℕ) (p left : ℕ) (more : 0 < left) (e : Explained) (is : e ≡ explained s job es os ms p) where
   abbrev after : List Explained
-  after = elim (hasReason (e .answer)) [ true ↦ explainedFrom (left - 1) s os ms (e .next) | false ↦ [] ]
+  after = elim (hasReason (e .answer)) [ true ↦ explainedFrom (left - 1) s job es os ms (e .next) | false ↦ [] ]
 
-  from-here : explainedFrom left s os ms p ≡ e ∷ after
+  from-here : explainedFrom left s job es os ms p ≡ e ∷ after
   unfolding explainedFrom
   from-here =
       let k : left ≡ suc (left - 1) = omega arith in
-      ap (λ (m : ℕ). explainedFrom m s os ms p) k
-      ∙ ap (λ (q : Explained). q ∷ elim (hasReason (q .answer)) [ true ↦ explainedFrom (left - 1) s os ms (q .next) | false ↦ [] ]) (sym is)
+      ap (λ (m : ℕ). explainedFrom m s job es os ms p) k
+      ∙ ap (λ (q : Explained). q ∷ elim (hasReason (q .answer)) [ true ↦ explainedFrom (left - 1) s job es os ms (q .next) | false ↦ [] ]) (sym is)
 
   pub whys-given : (r : Reason) → e .answer ≡ Because r
-      → whysOf n (explainedFrom left s os ms p) ≡ whyLine (e .start) r ++ whysOf (n + 1) (explainedFrom (left - 1) s os ms (e .next))
+      → whysOf n (explainedFrom left s job es os ms p) ≡ whyLine (e .start) r ++ whysOf (n + 1) (explainedFrom (left - 1) s job es os ms (e .next))
   whys-given r h =
       let has : hasReason (e .answer) ≡ true = ap hasReason h in
-      ap (whysOf n) (from-here ∙ ap (λ (b : Bool). e ∷ elim b [ true ↦ explainedFrom (left - 1) s os ms (e .next) | false ↦ [] ]) has)
-      ∙ why-given n e (explainedFrom (left - 1) s os ms (e .next)) r h
+      ap (whysOf n) (from-here ∙ ap (λ (b : Bool). e ∷ elim b [ true ↦ explainedFrom (left - 1) s job es os ms (e .next) | false ↦ [] ]) has)
+      ∙ why-given n e (explainedFrom (left - 1) s job es os ms (e .next)) r h
 
-  pub whys-refused : (x : Refusal) → e .answer ≡ Refused x → whysOf n (explainedFrom left s os ms p) ≡ lastLine n 0
+  pub whys-refused : (x : Refusal) → e .answer ≡ Refused x → whysOf n (explainedFrom left s job es os ms p) ≡ lastLine n 0
   whys-refused x h = ap (whysOf n) from-here ∙ why-refused n e after x h
 
-  pub whys-nothing : e .answer ≡ Nothing → whysOf n (explainedFrom left s os ms p) ≡ lastLine n 0
+  pub whys-nothing : e .answer ≡ Nothing → whysOf n (explainedFrom left s job es os ms p) ≡ lastLine n 0
   whys-nothing h = ap (whysOf n) from-here ∙ why-nothing n e after h
 
-  pub whys-open : e .answer ≡ Open → whysOf n (explainedFrom left s os ms p) ≡ lastLine n 1
+  pub whys-open : e .answer ≡ Open → whysOf n (explainedFrom left s job es os ms p) ≡ lastLine n 1
   whys-open h = ap (whysOf n) from-here ∙ why-open n e after h
 
 -- no call is left
-pub whys-none : (n : ℕ) (s : Settings) (os ms : List ℕ) (p : ℕ) → whysOf n (explainedFrom 0 s os ms p) ≡ lastLine n 0
+pub whys-none : (n : ℕ) (s : Settings) (job : ℕ) (es : List Entry) (os ms : List ℕ) (p : ℕ) → whysOf n (explainedFrom 0 s job es os ms p) ≡ lastLine n 0
 unfolding explainedFrom whysOf
-whys-none n s os ms p = refl
+whys-none n s job es os ms p = refl
 
 -- the lines of a capture, from the first call on
-pub whys-all : (os ms : List ℕ) → whysOf 0 (explainedFrom (length os + 1) programSettings os ms 0) ≡ captureWhys os ms
-unfolding captureWhys
+pub whys-all : (os ms : List ℕ) → whysOf 0 (explainedFrom (length os + 1) programSettings 0 (entriesOf emptyTable) os ms 0) ≡ captureWhys os ms
+unfolding captureWhys programTable
 whys-all os ms = refl
 
 -- an input that is not bad, and one that is

@@ -8,11 +8,12 @@ use Rattle.line.specs.Line.{idle, start}
 use Rattle.line.specs.Table.{_⇒_, _∣_, otherwise, first}
 use Rattle.station.specs.declared.Settings.{Settings}
 use Rattle.lines.specs.Decimal.{decimal}
-use Rattle.lines.specs.Lines.{space, newline, programSettings, followed, lastLine, badInput, recordOctets, recordMarks}
+use Rattle.lines.specs.Lines.{space, newline, programSettings, programJob, programTable, followed, lastLine, badInput, recordOctets, recordMarks}
 use Rattle.reason.specs.declared.Reason.{Reason}
 use Rattle.reason.specs.declared.Reason.the-variants.{CutAt, ShortRun, WrongOctet, TooShort, TooLong, FcsDiffers, LengthBroken, NotForUs, TookPause, TookPfc, DroppedControl, Handed}
 use Rattle.reason.specs.declared.Why.the-variants.{Refused, Nothing, Open, Because}
 use Rattle.reason.specs.declared.Explained.{Explained}
+use Rattle.table.specs.declared.Entry.{Entry}
 use Rattle.reason.specs.Reasons.{explained}
 use Rattle.reason.specs.Values.{hasReason}
 use Rattle.why_lines.specs.Hex.{hexOctet, hex16, hex32}
@@ -107,11 +108,14 @@ whyLine i r = followed i space ++ reasonText r
 -- ---- the lines of a capture
 
 -- "Given a capture and a Start": Start by Start, each searched from the next place of the one before, until one has no reason; `left` at most
-unfoldable pub explainedFrom : ℕ → Settings → List ℕ → List ℕ → ℕ → List Explained
-explainedFrom zero s os ms p = []
-explainedFrom (suc left) s os ms p =
-    explained s os ms p
-    ∷ elim (hasReason (explained s os ms p .answer)) [ true ↦ explainedFrom left s os ms (explained s os ms p .next) | false ↦ [] ]
+unfoldable pub explainedFrom : ℕ → Settings → ℕ → List Entry → List ℕ → List ℕ → ℕ → List Explained
+explainedFrom zero s job es os ms p = []
+explainedFrom (suc left) s job es os ms p =
+    explained s job es os ms p
+    ∷ elim (hasReason (explained s job es os ms p .answer)) [
+      | true ↦ explainedFrom left s job es os ms (explained s job es os ms p .next)
+      | false ↦ []
+    ]
 
 -- a line for each reason, where n Starts are counted already, and the last line, as the printing program has it. No call of the program is refused.
 unfoldable pub whysOf : ℕ → List Explained → List ℕ
@@ -126,7 +130,7 @@ whysOf n (e ∷ es) =
 
 -- what is printed of a capture: there are no more Starts than symbols
 unfoldable pub captureWhys : List ℕ → List ℕ → List ℕ
-captureWhys os ms = whysOf 0 (explainedFrom (length os + 1) programSettings os ms 0)
+captureWhys os ms = whysOf 0 (explainedFrom (length os + 1) programSettings programJob programTable os ms 0)
 
 -- and of an input: "bad input" alone, or the lines of its records
 unfoldable pub printedWhys : List ℕ → List ℕ

@@ -262,12 +262,13 @@ fn put_whys(octets: &[u8], marks: &[u8], out: &mut [u8]) -> usize
     ensures { λ r. ⌜ r ≤ length (now (out .entry)) ⌝ }
 {
     let s = lines::settings();
+    let none = table::empty();
     let mut place: usize = 0;
     let mut n: u64 = 0;
     let mut at: usize = 0;
     let mut left = octets.len() + 1;
     while 0 < left {
-        let e = reason::explain(s, octets, marks, place);
+        let e = reason::explain(s, 0, &none, octets, marks, place);
         let a = e.answer;
         match a {
             Why::Refused(_) => return put_last(out, at, n, 0),

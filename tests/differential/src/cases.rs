@@ -1,28 +1,32 @@
 //! Cases: a few calls on the same settings, state and symbols. Each is drawn by its own number
 //! alone.
 use crate::compare::{Bench, Difference, Lent};
+use crate::compare_jobs::LentTable;
 use crate::compare_log::LentLog;
 use crate::compare_totals::{Counted, LentTotals};
 use crate::generate::{self, Sending, Symbols, IDLE, START, SYMBOLS, TERMINATE};
 use crate::prng::Prng;
+use crate::seen_jobs::TableCall;
 use crate::{raw, records};
 use reference::{Client, Flow, Form, Port, Settings};
 
 /// Makes the calls of one case of a seed.
 pub fn run(bench: &mut Bench, seed: u64, case: u64) -> Result<(), Difference> {
     let mut prng = bench.begin(seed, case);
-    match prng.below(24) {
+    match prng.below(27) {
         0..=7 => reading(bench, &mut prng),
         8..=13 => sending(bench, &mut prng),
         14 => holding(bench, &mut prng),
         15 => checking(bench, &mut prng),
-        16..=17 => records(bench, &mut prng),
-        18 => logging(bench, &mut prng),
-        19 => keeping(bench, &mut prng),
-        20 => reasons(bench, &mut prng),
-        21 => lanes(bench, &mut prng),
-        22 => counting(bench, &mut prng),
-        _ => counted_line(bench, &mut prng),
+        16..=18 => records(bench, &mut prng),
+        19 => logging(bench, &mut prng),
+        20 => keeping(bench, &mut prng),
+        21 => reasons(bench, &mut prng),
+        22 => lanes(bench, &mut prng),
+        23 => counting(bench, &mut prng),
+        24 => counted_line(bench, &mut prng),
+        25 => table_calls(bench, &mut prng),
+        _ => screens(bench, &mut prng),
     }
 }
 
@@ -35,20 +39,21 @@ fn lend(prng: &mut Prng, symbols: &Symbols) -> Lent {
 /// A capture is walked, iterated over and read here and there.
 fn reading(bench: &mut Bench, prng: &mut Prng) -> Result<(), Difference> {
     let s = generate::settings(prng);
+    let l = generate::listener(prng, &s);
     let state = generate::state(prng);
-    let symbols = generate::capture(prng, &s);
+    let symbols = generate::capture(prng, &s, &l);
     let lent = lend(prng, &symbols);
-    bench.walk(&s, &mut state.clone(), &lent)?;
+    bench.walk(&s, &l, &mut state.clone(), &lent)?;
     let place = if prng.coin() {
         0
     } else {
         generate::place(prng, &symbols)
     };
-    bench.readings(&s, &mut state.clone(), &lent, place)?;
+    bench.readings(&s, &l, &mut state.clone(), &lent, place)?;
     let mut going_on = state;
     for _ in 0..prng.between(1, 6) {
         let place = generate::place(prng, &symbols);
-        bench.read(&s, &mut going_on, &lent, place)?;
+        bench.read(&s, &l, &mut going_on, &lent, place)?;
     }
     Ok(())
 }
@@ -61,25 +66,28 @@ fn reasons(bench: &mut Bench, prng: &mut Prng) -> Result<(), Difference> {
         generate::spoil(prng, &mut settings.0);
     }
     let s = records::settings(&settings);
-    for _ in 0..prng.between(8, 16) {
-        let symbols = generate::explained_capture(prng, &s);
+    let l = generate::listener(prng, &s);
+    for _ in 0..prng.between(12, 24) {
+        let symbols = generate::explained_capture(prng, &s, &l);
         let lent = lend(prng, &symbols);
         let place = match prng.below(3) {
             0 => generate::place(prng, &symbols),
             _ => 0,
         };
         if prng.coin() {
-            bench.explain(&s, &lent, place)?;
+            bench.explain(&s, &l, &lent, place)?;
         } else {
-            bench.c_explain(&settings, &lent, place)?;
+            let l = generate::misnumbered(prng, &l);
+            bench.c_explain(&settings, &l, &lent, place)?;
         }
     }
-    let symbols = generate::capture(prng, &s);
+    let symbols = generate::capture(prng, &s, &l);
     let lent = lend(prng, &symbols);
     for _ in 0..prng.between(1, 4) {
         let place = generate::place(prng, &symbols);
-        bench.explain(&s, &lent, place)?;
-        bench.c_explain(&settings, &lent, place)?;
+        bench.explain(&s, &l, &lent, place)?;
+        let l = generate::misnumbered(prng, &l);
+        bench.c_explain(&settings, &l, &lent, place)?;
     }
     Ok(())
 }
@@ -102,7 +110,8 @@ fn sending(bench: &mut Bench, prng: &mut Prng) -> Result<(), Difference> {
         let after = bench.send(&s, (&mut state, port), &mut lent, place, &call)?;
         last = after.unwrap_or(last);
     }
-    bench.walk(&s, &mut state, &lent)
+    let l = generate::listener(prng, &s);
+    bench.walk(&s, &l, &mut state, &lent)
 }
 
 /// A pause or PFC frame is sent and read, and holds a client frame until its slots are written, and
@@ -126,6 +135,7 @@ fn holding(bench: &mut Bench, prng: &mut Prng) -> Result<(), Difference> {
     };
     let client = Sending::Client(client, prng.octets(3));
 
+    let l = generate::sound_listener(prng, &s);
     let mut state = generate::state(prng);
     let n = prng.between(600, 700);
     let symbols = Symbols {
@@ -134,7 +144,7 @@ fn holding(bench: &mut Bench, prng: &mut Prng) -> Result<(), Difference> {
     };
     let mut lent = lend(prng, &symbols);
     bench.send(&s, (&mut state, Port::Plain), &mut lent, 0, &hold)?;
-    bench.read(&s, &mut state, &lent, 0)?;
+    bench.read(&s, &l, &mut state, &lent, 0)?;
     let mut place = 84;
     // all slots but one, then that one
     let slots = usize::from(quanta) * 64;
@@ -144,7 +154,7 @@ fn holding(bench: &mut Bench, prng: &mut Prng) -> Result<(), Difference> {
         place += idles.1;
         bench.send(&s, (&mut state, Port::Plain), &mut lent, place, &client)?;
     }
-    bench.walk(&s, &mut state, &lent)
+    bench.walk(&s, &l, &mut state, &lent)
 }
 
 /// The FCS of any octets, in one piece and in two.
@@ -181,17 +191,20 @@ fn records(bench: &mut Bench, prng: &mut Prng) -> Result<(), Difference> {
     }
     let s = records::settings(&settings);
     if prng.coin() {
-        let symbols = generate::capture(prng, &s);
+        let drawn = generate::listener(prng, &s);
+        let symbols = generate::capture(prng, &s, &drawn);
         let lent = lend(prng, &symbols);
         for _ in 0..prng.between(3, 6) {
             let state = generate::state(prng);
             let mut numbers = generate::state_record(prng, &state);
             let place = generate::place(prng, &symbols);
-            bench.c_read(&settings, &mut numbers, &lent, place)?;
+            let l = generate::misnumbered(prng, &drawn);
+            bench.c_read(&settings, &l, &mut numbers, &lent, place)?;
         }
         let state = generate::state(prng);
         let mut numbers = generate::state_record(prng, &state);
-        return bench.c_walk(&settings, &mut numbers, &lent);
+        let l = generate::misnumbered(prng, &drawn);
+        return bench.c_walk(&settings, &l, &mut numbers, &lent);
     }
     let symbols = generate::blank_line(prng, &s);
     let mut lent = lend(prng, &symbols);
@@ -283,7 +296,22 @@ fn logging(bench: &mut Bench, prng: &mut Prng) -> Result<(), Difference> {
     }
     let from = generate::record_number(prng, records);
     bench.log_read_on(&log, from)?;
-    bench.log_read_on(&log, 0)
+    bench.log_read_on(&log, 0)?;
+    all_appended(bench, prng)
+}
+
+/// The reading of each of a few Starts is appended to a fresh log.
+fn all_appended(bench: &mut Bench, prng: &mut Prng) -> Result<(), Difference> {
+    let s = generate::settings(prng);
+    let l = generate::sound_listener(prng, &s);
+    let state = generate::state(prng);
+    let symbols = generate::shown_capture(prng, &s, &l);
+    let lent = lend(prng, &symbols);
+    let mut log = LentLog::new(prng, &[0; 8 * raw::RECORD]);
+    for place in generate::start_places(&symbols).take(6) {
+        bench.append_reading(&mut log, &lent, (&s, &l, &state), place)?;
+    }
+    Ok(())
 }
 
 /// Readings here and there in a capture are appended to a log.
@@ -293,12 +321,13 @@ fn readings_appended(
     log: &mut LentLog,
 ) -> Result<(), Difference> {
     let s = generate::settings(prng);
+    let l = generate::listener(prng, &s);
     let state = generate::state(prng);
-    let symbols = generate::capture(prng, &s);
+    let symbols = generate::capture(prng, &s, &l);
     let lent = lend(prng, &symbols);
     for _ in 0..prng.between(1, 3) {
         let place = generate::place(prng, &symbols);
-        bench.append_reading(log, &lent, (&s, &state), place)?;
+        bench.append_reading(log, &lent, (&s, &l, &state), place)?;
     }
     Ok(())
 }
@@ -307,10 +336,11 @@ fn readings_appended(
 fn keeping(bench: &mut Bench, prng: &mut Prng) -> Result<(), Difference> {
     let drawn = generate::settings(prng);
     let settings = generate::settings_record(prng, &drawn);
+    let listener = generate::listener(prng, &drawn);
     let symbols = match prng.below(48) {
         0 => generate::longest_capture(prng),
-        1..=2 => generate::tabled_capture(prng, &drawn),
-        _ => generate::capture(prng, &drawn),
+        1..=2 => generate::tabled_capture(prng, &drawn, &listener),
+        _ => generate::capture(prng, &drawn, &listener),
     };
     let lent = lend(prng, &symbols);
     let starts = generate::starts(&symbols);
@@ -330,14 +360,16 @@ fn keeping(bench: &mut Bench, prng: &mut Prng) -> Result<(), Difference> {
             generate::log(prng, (starts + more).saturating_sub(1))
         };
         let mut log = LentLog::new(prng, &log);
-        bench.walk_log(&settings, &mut numbers, &lent, place, &mut log)?;
+        let l = generate::misnumbered(prng, &listener);
+        bench.walk_log(&settings, &l, &mut numbers, &lent, place, &mut log)?;
     }
     let state = generate::state(prng);
     let numbers = generate::state_record(prng, &state);
     let place = place(prng);
     // some six logs take all
     let capacity = starts.div_ceil(prng.between(1, 6));
-    bench.going_on(prng, &settings, &numbers, &lent, (place, capacity))
+    let on = (&settings, &listener);
+    bench.going_on(prng, on, &numbers, &lent, (place, capacity))
 }
 
 /// Captures with totals: these are asked and filled, and a call keeps them that is often refused.
@@ -412,6 +444,57 @@ fn counted_line(bench: &mut Bench, prng: &mut Prng) -> Result<(), Difference> {
             let place = generate::asked_place(prng, counted.symbols());
             bench.starts_before(&counted, place)?;
         }
+    }
+    Ok(())
+}
+
+/// Calls on one table, one after the other, by both jobs.
+fn table_calls(bench: &mut Bench, prng: &mut Prng) -> Result<(), Difference> {
+    let s = generate::settings(prng);
+    let broken = prng.one_in(6);
+    let octets = match broken {
+        true => generate::broken_table(prng, &s),
+        false => generate::sound_table(prng, &s),
+    };
+    let mut table = LentTable::new(prng, &octets, s.own);
+    if prng.one_in(16) {
+        bench.table_empty(&mut table)?;
+    }
+    // one that adds more than it removes fills up
+    let removals = prng.pick(&[1, 2, 4, 7]);
+    let calls = match broken {
+        true => prng.between(2, 4),
+        false => prng.between(4, 24),
+    };
+    for _ in 0..calls {
+        let job = generate::table_job(prng);
+        let address = generate::named_address(prng, &s, table.octets());
+        let call = match prng.below(8) < removals {
+            true => TableCall::Remove,
+            false => TableCall::Add,
+        };
+        bench.table_call(&mut table, call, job, address)?;
+    }
+    Ok(())
+}
+
+/// Both jobs' captures are shown, with one table.
+fn screens(bench: &mut Bench, prng: &mut Prng) -> Result<(), Difference> {
+    let drawn = generate::settings(prng);
+    let settings = generate::settings_record(prng, &drawn);
+    let listener = generate::listener(prng, &drawn);
+    let both = [
+        generate::shown_capture(prng, &drawn, &listener.of(0)),
+        generate::shown_capture(prng, &drawn, &listener.of(1)),
+    ];
+    let lent = [lend(prng, &both[0]), lend(prng, &both[1])];
+    for _ in 0..prng.between(4, 8) {
+        let job = prng.below(2);
+        let l = generate::misnumbered(prng, &listener.of(job as u8));
+        // a place of this capture, or at times of the other
+        let of = if prng.one_in(4) { 1 - job } else { job };
+        let place = generate::place(prng, &both[of]);
+        bench.screen_data(&settings, &l, &lent, place)?;
     }
     Ok(())
 }

@@ -1,8 +1,9 @@
 //! Makes a call on both sides, on the same inputs, and compares all that comes out.
 use crate::coverage::Coverage;
-use crate::generate::{Sending, Symbols};
+use crate::generate::{Listener, Sending, Symbols};
 use crate::prng::Prng;
 use crate::seen::{By, FcsSeen, ReadingSeen, SendingSeen, WalkSeen};
+use crate::seen_jobs::TableOf;
 use crate::{face, names, show};
 use fenhamper::{Capture, Counted, Fcs, Refusal, Sender, Way};
 use reference::{Answer, Check, Port, Reading, Sent, Settings, State};
@@ -216,6 +217,7 @@ impl Bench {
     pub fn read(
         &mut self,
         s: &Settings,
+        l: &Listener,
         state: &mut State,
         lent: &Lent,
         place: usize,
@@ -223,12 +225,14 @@ impl Bench {
         self.calls += 1;
         let before = *state;
         let (octets, marks) = (lent.octets(), lent.marks());
-        let expected = reference::read(self.check, s, state, octets, marks, place);
+        let expected = by_reference_read(self.check, (s, l), state, lent, place);
         let mut library_state = face::state(&before);
         let capture = Capture::new(octets, marks);
-        let answer = capture.read(&face::settings(s), &mut library_state, place);
+        let table = face::table(l);
+        let listener = face::listener(s, l, &table);
+        let answer = capture.read(listener, &mut library_state, place);
 
-        let inputs = || inputs(s, &before, lent, place, self.whole);
+        let inputs = || heard(s, l, &before, lent, place, self.whole);
         let readings = (face::reading(place, &answer), expected);
         self.same(("read", "reading"), readings, inputs)?;
         match &answer {
@@ -243,7 +247,7 @@ impl Bench {
         let states = (library_state, face::state(state));
         self.same(("read", "state"), states, inputs)?;
         let (symbols, states) = ((octets, marks, place), (&before, &*state));
-        let seen = ReadingSeen::new(By::Read, s, symbols, states, expected);
+        let seen = ReadingSeen::new(By::Read, (s, l), symbols, states, expected);
         self.coverage.reading(&seen);
         Ok(())
     }
@@ -252,6 +256,7 @@ impl Bench {
     pub fn readings(
         &mut self,
         s: &Settings,
+        l: &Listener,
         state: &mut State,
         lent: &Lent,
         place: usize,
@@ -259,16 +264,17 @@ impl Bench {
         self.calls += 1;
         let (before, whole) = (*state, self.whole);
         let (octets, marks) = (lent.octets(), lent.marks());
-        let inputs = || inputs(s, &before, lent, place, whole);
+        let inputs = || heard(s, l, &before, lent, place, whole);
         let mut library_state = face::state(&before);
         let capture = Capture::new(octets, marks);
-        let mut readings = capture
-            .readings(&face::settings(s), &mut library_state)
-            .at(place);
+        let table = face::table(l);
+        let listener = face::listener(s, l, &table);
+        let readings = capture.readings(listener, &mut library_state);
+        let mut readings = readings.at(place);
         let mut at = place;
         let last = loop {
             let earlier = *state;
-            let expected = reference::read(self.check, s, state, octets, marks, at);
+            let expected = by_reference_read(self.check, (s, l), state, lent, at);
             let item = readings.next();
             let handed = item.as_ref().map(|item| match item {
                 Ok(counted) => face::counted(counted),
@@ -285,7 +291,7 @@ impl Bench {
                 None => {}
             }
             let (symbols, states) = ((octets, marks, at), (&earlier, &*state));
-            let seen = ReadingSeen::new(By::Readings, s, symbols, states, expected);
+            let seen = ReadingSeen::new(By::Readings, (s, l), symbols, states, expected);
             self.coverage.reading(&seen);
             at = expected.next;
             if !matches!(expected.answer, Answer::Counted { .. }) {
@@ -302,16 +308,24 @@ impl Bench {
     }
 
     /// A walk; the state goes on to that after it.
-    pub fn walk(&mut self, s: &Settings, state: &mut State, lent: &Lent) -> Result<(), Difference> {
+    pub fn walk(
+        &mut self,
+        s: &Settings,
+        l: &Listener,
+        state: &mut State,
+        lent: &Lent,
+    ) -> Result<(), Difference> {
         self.calls += 1;
         let before = *state;
         let (octets, marks) = (lent.octets(), lent.marks());
-        let expected = reference::walk(self.check, s, state, octets, marks);
+        let expected = reference::walk(self.check, s, state, l.job, &l.table, octets, marks);
         let mut library_state = face::state(&before);
         let capture = Capture::new(octets, marks);
-        let answer = capture.walk(&face::settings(s), &mut library_state);
+        let table = face::table(l);
+        let listener = face::listener(s, l, &table);
+        let answer = capture.walk(listener, &mut library_state);
 
-        let inputs = || inputs(s, &before, lent, 0, self.whole);
+        let inputs = || heard(s, l, &before, lent, 0, self.whole);
         let walks = (face::walked(answer), expected);
         self.same(("walk", "walk"), walks, inputs)?;
         if let Err(refusal) = answer {
@@ -323,6 +337,8 @@ impl Bench {
         self.same(("walk", "state"), states, inputs)?;
         self.coverage.walk(&WalkSeen {
             s,
+            job: l.job,
+            table: TableOf(&l.octets),
             lengths: (octets.len(), marks.len()),
             before: &before,
             after: state,
@@ -425,6 +441,31 @@ pub(crate) fn inputs(
 ) -> String {
     let symbols = show::symbols(lent.octets(), lent.marks(), whole);
     format!("{s:?}\n{state:?}\nplace {place}\nsymbols: {symbols}")
+}
+
+/// The same of a call that reads.
+pub(crate) fn heard(
+    s: &Settings,
+    l: &Listener,
+    state: &State,
+    lent: &Lent,
+    place: usize,
+    whole: bool,
+) -> String {
+    let others = inputs(s, state, lent, place, whole);
+    format!("{}\n{others}", show::listener(l))
+}
+
+/// A reading by the reference.
+pub(crate) fn by_reference_read(
+    check: Check,
+    (s, l): (&Settings, &Listener),
+    state: &mut State,
+    lent: &Lent,
+    place: usize,
+) -> Reading {
+    let (octets, marks) = (lent.octets(), lent.marks());
+    reference::read(check, s, state, l.job, &l.table, octets, marks, place)
 }
 
 /// The octets that the library handed out and those that the reference names, each as its place in

@@ -1,8 +1,9 @@
 //! Calls through the C face, with any records, compared with the reference's on what they mean.
-use crate::compare::{by_reference, inputs, Bench, Difference, Lent};
-use crate::generate::{Sending, BEYOND_32_BITS, SYMBOLS};
+use crate::compare::{by_reference, by_reference_read, heard, inputs, Bench, Difference, Lent};
+use crate::generate::{Listener, Sending, BEYOND_32_BITS, SYMBOLS};
 use crate::prng::Prng;
 use crate::seen::{By, CCall, CSeen, ReadingSeen, SendingSeen, WalkSeen};
+use crate::seen_jobs::TableOf;
 use crate::{raw, records, show};
 use reference::{Answer, Sent, State, Walked};
 
@@ -20,6 +21,7 @@ impl Bench {
     pub(crate) fn c_read(
         &mut self,
         settings: &raw::Settings,
+        l: &Listener,
         numbers: &mut raw::State,
         lent: &Lent,
         place: usize,
@@ -29,11 +31,11 @@ impl Bench {
         let state_before = records::state(&before);
         let mut state = state_before;
         let (octets, marks) = (lent.octets(), lent.marks());
-        let expected = reference::read(self.check, &s, &mut state, octets, marks, place);
-        let answer = raw::read(settings, numbers, (octets, marks), place);
+        let expected = by_reference_read(self.check, (&s, l), &mut state, lent, place);
+        let answer = raw::read(settings, l.raw(), numbers, (octets, marks), place);
 
         let inputs = || {
-            let meant = inputs(&s, &state_before, lent, place, self.whole);
+            let meant = heard(&s, l, &state_before, lent, place, self.whole);
             format!("{settings:?}\nstate {before:X?}\nmeant: {meant}")
         };
         let readings = (answer, records::reading(expected));
@@ -43,8 +45,24 @@ impl Bench {
         self.same(("read in C", "state"), states, inputs)?;
         let screens = (raw::screen(numbers), reference::screen(&state));
         self.same(("read in C", "screen"), screens, inputs)?;
+        if expected.answer != Answer::Refused(20) {
+            // "a job's readings depend on .. own entries"
+            let mut other_numbers = before;
+            let by_itself = l.by_itself();
+            let symbols = (octets, marks);
+            let other = raw::read(
+                settings,
+                by_itself.raw(),
+                &mut other_numbers,
+                symbols,
+                place,
+            );
+            let thing = "reading and state, and those without the other job's entries";
+            let sides = ((answer, *numbers), (other, other_numbers));
+            self.same(("read in C", thing), sides, inputs)?;
+        }
         let (symbols, states) = ((octets, marks, place), (&state_before, &state));
-        let seen = ReadingSeen::new(By::Read, &s, symbols, states, expected);
+        let seen = ReadingSeen::new(By::Read, (&s, l), symbols, states, expected);
         self.coverage.c(&CSeen {
             settings,
             client: None,
@@ -60,6 +78,7 @@ impl Bench {
     pub(crate) fn c_walk(
         &mut self,
         settings: &raw::Settings,
+        l: &Listener,
         numbers: &mut raw::State,
         lent: &Lent,
     ) -> Result<(), Difference> {
@@ -68,11 +87,12 @@ impl Bench {
         let state_before = records::state(&before);
         let mut state = state_before;
         let (octets, marks) = (lent.octets(), lent.marks());
-        let expected = reference::walk(self.check, &s, &mut state, octets, marks);
-        let answer = raw::walk(settings, numbers, (octets, marks));
+        let (job, table) = (l.job, &l.table);
+        let expected = reference::walk(self.check, &s, &mut state, job, table, octets, marks);
+        let answer = raw::walk(settings, l.raw(), numbers, (octets, marks));
 
         let inputs = || {
-            let meant = inputs(&s, &state_before, lent, 0, self.whole);
+            let meant = heard(&s, l, &state_before, lent, 0, self.whole);
             format!("{settings:?}\nstate {before:X?}\nmeant: {meant}")
         };
         let walks = (answer, records::walked(expected));
@@ -82,6 +102,8 @@ impl Bench {
         self.same(("walk in C", "state"), states, inputs)?;
         let seen = WalkSeen {
             s: &s,
+            job: l.job,
+            table: TableOf(&l.octets),
             lengths: (octets.len(), marks.len()),
             before: &state_before,
             after: &state,

@@ -1,7 +1,8 @@
 //! Calls on a log and walks that keep their readings, through both faces, compared with the
 //! reference's.
-use crate::compare::{first_other, inputs, Bench, Difference, Lent, AROUND};
+use crate::compare::{by_reference_read, first_other, heard, Bench, Difference, Lent, AROUND};
 use crate::compare_c::after;
+use crate::generate::Listener;
 use crate::prng::Prng;
 use crate::seen::{CCall, CSeen};
 use crate::seen_log::{appended, GoingOnSeen, KeepSeen, LogCall, LogOf, LogSeen};
@@ -105,14 +106,16 @@ impl Bench {
         &mut self,
         log: &mut LentLog,
         lent: &Lent,
-        (s, state): (&Settings, &State),
+        (s, l, state): (&Settings, &Listener, &State),
         place: usize,
     ) -> Result<(), Difference> {
         let (octets, marks) = (lent.octets(), lent.marks());
-        let reading = reference::read(self.check, s, &mut state.clone(), octets, marks, place);
+        let reading = by_reference_read(self.check, (s, l), &mut state.clone(), lent, place);
         let numbers = records::reading(reading);
         let capture = Capture::new(octets, marks);
-        let in_rust = capture.read(&face::settings(s), &mut face::state(state), place);
+        let table = face::table(l);
+        let listener = face::listener(s, l, &table);
+        let in_rust = capture.read(listener, &mut face::state(state), place);
         let sides = Sides {
             expected: log.after(|log| refusal(&reference::append_reading(log, &reading))),
             in_c: log.after(|log| raw::log_append_reading(log, &numbers)),
@@ -284,6 +287,7 @@ impl Bench {
     pub(crate) fn walk_log(
         &mut self,
         settings: &raw::Settings,
+        l: &Listener,
         numbers: &mut raw::State,
         lent: &Lent,
         place: usize,
@@ -295,17 +299,27 @@ impl Bench {
         let mut state = state_before;
         let log_before = log.clone();
         let (octets, marks) = (lent.octets(), lent.marks());
-        let expected =
-            reference::walk_log(self.check, &s, &mut state, octets, marks, place, log.lent());
+        let (job, table) = (l.job, &l.table);
+        let expected = reference::walk_log(
+            self.check,
+            &s,
+            &mut state,
+            job,
+            table,
+            octets,
+            marks,
+            place,
+            log.lent(),
+        );
         let inputs = || {
-            let meant = inputs(&s, &state_before, lent, place, self.whole);
+            let meant = heard(&s, l, &state_before, lent, place, self.whole);
             let log = show::log(log_before.octets(), self.whole);
             format!("{settings:?}\nstate {before:X?}\nmeant: {meant}\nlog: {log}")
         };
 
         let mut log_in_c = log_before.clone();
         let symbols = (octets, marks);
-        let answer = raw::walk_log(settings, numbers, symbols, place, log_in_c.lent());
+        let answer = raw::walk_log(settings, l.raw(), numbers, symbols, place, log_in_c.lent());
         let answers = (answer, records::kept(&expected));
         self.same(("walk_log in C", "answer"), answers, inputs)?;
         let is_refused = matches!(expected.end, LogEnd::Refused(_));
@@ -315,11 +329,14 @@ impl Bench {
 
         let mut log_in_rust = log_before.clone();
         let mut state_in_rust = face::state(&state_before);
-        // Rust refuses a bad length before there is a walk
-        if let Ok(mut lent_log) = Log::new(log_in_rust.lent()) {
+        // Rust refuses a bad length before there is a walk, and has no job above 1
+        let lent_log = Log::new(log_in_rust.lent()).ok().filter(|_| l.job < 2);
+        if let Some(mut lent_log) = lent_log {
             let capture = Capture::new(octets, marks);
-            let settings = face::settings(&s);
-            let answer = capture.walk_log(&settings, &mut state_in_rust, place, &mut lent_log);
+            let table = face::table(l);
+            let listener = face::listener(&s, l, &table);
+            let on = &mut state_in_rust;
+            let answer = capture.walk_log(listener, on, place, &mut lent_log);
             let answers = (face::kept(place, answer), expected);
             self.same(("walk_log", "answer"), answers, inputs)?;
             if let Err(refusal) = answer {
@@ -330,7 +347,7 @@ impl Bench {
             self.same_log("walk_log", (&log_in_rust, log), inputs)?;
         }
         let seen = KeepSeen::new(
-            &s,
+            (&s, l),
             (octets, marks, place),
             (&state_before, &state),
             (log_before.octets(), log.octets()),
@@ -353,7 +370,7 @@ impl Bench {
     pub(crate) fn going_on(
         &mut self,
         prng: &mut Prng,
-        settings: &raw::Settings,
+        (settings, l): (&raw::Settings, &Listener),
         numbers: &raw::State,
         lent: &Lent,
         (place, capacity): (usize, usize),
@@ -361,7 +378,7 @@ impl Bench {
         let (call, whole) = ("walk_log, going on", self.whole);
         let inputs = |appended: &[usize]| {
             let (s, state) = (records::settings(settings), records::state(numbers));
-            let meant = inputs(&s, &state, lent, place, whole);
+            let meant = heard(&s, l, &state, lent, place, whole);
             format!("logs of {capacity} records, to which {appended:?} were appended\n{meant}")
         };
         let (mut state, mut at) = (*numbers, place);
@@ -374,7 +391,7 @@ impl Bench {
         while seen.end == LogEnd::Full {
             let before = generate::log_with_room(prng, capacity);
             let mut log = LentLog::new(prng, &before);
-            let logged = self.walk_log(settings, &mut state, lent, at, &mut log)?;
+            let logged = self.walk_log(settings, l, &mut state, lent, at, &mut log)?;
             // or it would not end: a full log, which had room, took a Start
             let on = (logged.end != LogEnd::Full || logged.next > at, true);
             self.same((call, "goes on"), on, || inputs(&seen.appended))?;
@@ -389,7 +406,7 @@ impl Bench {
         let many: usize = seen.appended.iter().sum();
         let mut large = LentLog::new(prng, &vec![0; raw::RECORD * (many + 1)]);
         let mut at_once = *numbers;
-        let logged = self.walk_log(settings, &mut at_once, lent, place, &mut large)?;
+        let logged = self.walk_log(settings, l, &mut at_once, lent, place, &mut large)?;
         let inputs = || inputs(&seen.appended);
         let answers = (
             (seen.end, at, many),

@@ -1,5 +1,6 @@
 //! Why a Start has its outcome, by both faces, compared with the reference's reason.
-use crate::compare::{inputs, Bench, Difference, Lent};
+use crate::compare::{by_reference_read, heard, Bench, Difference, Lent};
+use crate::generate::Listener;
 use crate::seen::{By, ReadingSeen};
 use crate::seen_reason::{Face, ReasonSeen};
 use crate::{face, raw, records};
@@ -142,13 +143,21 @@ fn record(explained: Explained) -> [u64; raw::EXPLAINED] {
 
 impl Bench {
     /// The reason of the first Start at a place or later.
-    pub fn explain(&mut self, s: &Settings, lent: &Lent, place: usize) -> Result<(), Difference> {
+    pub fn explain(
+        &mut self,
+        s: &Settings,
+        l: &Listener,
+        lent: &Lent,
+        place: usize,
+    ) -> Result<(), Difference> {
         self.calls += 1;
         let (octets, marks) = (lent.octets(), lent.marks());
-        let expected = reference::explain(self.check, s, octets, marks, place);
-        let answer = Capture::new(octets, marks).explain(&face::settings(s), place);
+        let expected = reference::explain(self.check, s, l.job, &l.table, octets, marks, place);
+        let table = face::table(l);
+        let listener = face::listener(s, l, &table);
+        let answer = Capture::new(octets, marks).explain(listener, place);
 
-        let inputs = || inputs(s, &FRESH, lent, place, self.whole);
+        let inputs = || heard(s, l, &FRESH, lent, place, self.whole);
         let sides = (explained(place, answer), expected);
         self.same(("explain", "reason"), sides, inputs)?;
         match answer {
@@ -162,46 +171,69 @@ impl Bench {
             }
             Err(refusal) => self.refused("explain", refusal, inputs)?,
         }
-        self.seen(Face::Rust, s, lent, place, expected)
+        self.seen(Face::Rust, (s, l), lent, place, expected)
     }
 
     /// The same through the C face, with any settings.
     pub(crate) fn c_explain(
         &mut self,
         settings: &raw::Settings,
+        l: &Listener,
         lent: &Lent,
         place: usize,
     ) -> Result<(), Difference> {
         self.calls += 1;
         let s = records::settings(settings);
         let (octets, marks) = (lent.octets(), lent.marks());
-        let expected = reference::explain(self.check, &s, octets, marks, place);
-        let answer = raw::explain(settings, (octets, marks), place);
+        let expected = reference::explain(self.check, &s, l.job, &l.table, octets, marks, place);
+        let answer = raw::explain(settings, l.raw(), (octets, marks), place);
         let inputs = || {
-            let meant = inputs(&s, &FRESH, lent, place, self.whole);
+            let meant = heard(&s, l, &FRESH, lent, place, self.whole);
             format!("{settings:?}\nmeant: {meant}")
         };
         let sides = (answer, record(expected));
         self.same(("explain in C", "numbers"), sides, inputs)?;
-        self.seen(Face::C, &s, lent, place, expected)
+        self.seen(Face::C, (&s, l), lent, place, expected)
     }
 
     /// Both places and, for 11, the part are those of a reading there; then the table.
     fn seen(
         &mut self,
         by: Face,
-        s: &Settings,
+        (s, l): (&Settings, &Listener),
         lent: &Lent,
         place: usize,
         explained: Explained,
     ) -> Result<(), Difference> {
-        let (octets, marks) = (lent.octets(), lent.marks());
+        if l.job < 2 {
+            self.as_read((s, l), lent, place, explained)?;
+        }
         let mut state = FRESH;
-        let reading = reference::read(self.check, s, &mut state, octets, marks, place);
-        let mut library_state = face::state(&FRESH);
-        let capture = Capture::new(octets, marks);
-        let read = capture.read(&face::settings(s), &mut library_state, place);
-        let inputs = || inputs(s, &FRESH, lent, place, self.whole);
+        let reading = by_reference_read(self.check, (s, l), &mut state, lent, place);
+        let symbols = (lent.octets(), lent.marks(), place);
+        let reading = ReadingSeen::new(By::Read, (s, l), symbols, (&FRESH, &state), reading);
+        self.coverage.reason(&ReasonSeen {
+            face: by,
+            reading,
+            explained,
+        });
+        Ok(())
+    }
+
+    /// The same by a reading of the Rust face, which has no job above 1.
+    fn as_read(
+        &self,
+        (s, l): (&Settings, &Listener),
+        lent: &Lent,
+        place: usize,
+        explained: Explained,
+    ) -> Result<(), Difference> {
+        let capture = Capture::new(lent.octets(), lent.marks());
+        let mut state = face::state(&FRESH);
+        let table = face::table(l);
+        let listener = face::listener(s, l, &table);
+        let read = capture.read(listener, &mut state, place);
+        let inputs = || heard(s, l, &FRESH, lent, place, self.whole);
         let by_library = face::reading(place, &read);
         let places = (by_library.start, by_library.next);
         let both = (places, (explained.start, explained.next));
@@ -218,13 +250,6 @@ impl Bench {
                 self.same(("read, explain", "part"), parts, inputs)?;
             }
         }
-        let symbols = (octets, marks, place);
-        let reading = ReadingSeen::new(By::Read, s, symbols, (&FRESH, &state), reading);
-        self.coverage.reason(&ReasonSeen {
-            face: by,
-            reading,
-            explained,
-        });
         Ok(())
     }
 }

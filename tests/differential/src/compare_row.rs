@@ -79,8 +79,11 @@ impl Bench {
 
         let capture = Capture::new(lent.octets(), lent.marks());
         let mut library_state = face::state(&state);
-        let settings = face::settings(s);
-        let readings = capture.readings(&settings, &mut library_state);
+        // "a job of 0 or 1 and a table that gives no 20"
+        let l = generate::sound_listener(prng, s);
+        let table = face::table(&l);
+        let listener = face::listener(s, &l, &table);
+        let readings = capture.readings(listener, &mut library_state);
         let handed = readings.filter_map(|item| {
             let counted = item.ok()?;
             let data = counted.data.to_vec();
@@ -93,6 +96,6 @@ impl Bench {
         let counts = (library_state.deficit(), u64::from(seen.count));
         self.same(("row", "count after reading"), counts, symbols)?;
         self.coverage.row(&seen);
-        self.walk(s, &mut state, &lent)
+        self.walk(s, &l, &mut state, &lent)
     }
 }

@@ -1,5 +1,6 @@
 //! The coverage table: what has to be hit, and how often it was.
 use crate::seen::{CSeen, FcsSeen, ReadingSeen, RowSeen, SendingSeen, WalkSeen};
+use crate::seen_jobs::{ScreenSeen, TableSeen};
 use crate::seen_log::{GoingOnSeen, KeepSeen, LogSeen};
 use crate::seen_reason::ReasonSeen;
 use crate::seen_totals::TotalsSeen;
@@ -26,6 +27,10 @@ pub(crate) enum When {
     GoingOn(Box<dyn Fn(&GoingOnSeen) -> bool>),
     /// By a call over the totals of a capture.
     Totals(Box<dyn Fn(&TotalsSeen) -> bool>),
+    /// By a call on a table.
+    Table(Box<dyn Fn(&TableSeen) -> bool>),
+    /// By a screen call.
+    Screen(Box<dyn Fn(&ScreenSeen) -> bool>),
     /// By a call through the C face.
     C(Box<dyn Fn(&CSeen) -> bool>),
     /// By an FCS.
@@ -44,6 +49,8 @@ enum Sort {
     Keep,
     GoingOn,
     Totals,
+    Table,
+    Screen,
     C,
     Fcs,
 }
@@ -63,6 +70,8 @@ impl When {
             When::Keep(_) => Sort::Keep,
             When::GoingOn(_) => Sort::GoingOn,
             When::Totals(_) => Sort::Totals,
+            When::Table(_) => Sort::Table,
+            When::Screen(_) => Sort::Screen,
             When::C(_) => Sort::C,
             When::Fcs(_) => Sort::Fcs,
         }
@@ -162,6 +171,20 @@ impl Coverage {
         self.hit(
             Sort::Totals,
             |when| matches!(when, When::Totals(test) if test(seen)),
+        );
+    }
+
+    pub(crate) fn table(&mut self, seen: &TableSeen) {
+        self.hit(
+            Sort::Table,
+            |when| matches!(when, When::Table(test) if test(seen)),
+        );
+    }
+
+    pub(crate) fn screen(&mut self, seen: &ScreenSeen) {
+        self.hit(
+            Sort::Screen,
+            |when| matches!(when, When::Screen(test) if test(seen)),
         );
     }
 

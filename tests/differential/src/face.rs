@@ -1,14 +1,13 @@
 //! The reference's values as those of the library's face, and back.
+use crate::generate::Listener;
 use crate::names::StatusParts;
-use fenhamper::{Address, Counted, End, Refusal, Status, Way};
-use reference::{Answer, Client, Flow, Form, LogEnd, Logged, Reading, Record};
+use fenhamper::{Address, Counted, End, Job, Refusal, Status, Table, Way};
+use reference::{Answer, Client, Entry, Flow, Form, LogEnd, Logged, Reading, Record};
 use reference::{Port, Sent, Settings, State, Tag, TagKind, Walked};
 
 /// Settings for the library.
 pub fn settings(s: &Settings) -> fenhamper::Settings {
     fenhamper::Settings::new(Address(s.own))
-        .listed(&s.listed.map(Address))
-        .listed_count(s.count)
         .broadcast(s.broadcast)
         .promiscuous(s.promiscuous)
         .checking(s.checking)
@@ -19,6 +18,30 @@ pub fn settings(s: &Settings) -> fenhamper::Settings {
             Flow::Pfc => fenhamper::Flow::Pfc,
         })
         .pass_control(s.pass_control)
+}
+
+/// A job for the library, which has no third one.
+pub fn job(number: u8) -> Job {
+    Job::from_number(number).expect("the Rust face has no job above 1")
+}
+
+/// A table for the library.
+pub fn table(listener: &Listener) -> Table {
+    Table::from_octets(listener.octets)
+}
+
+/// Who listens, for the library.
+pub fn listener<'t>(s: &Settings, l: &Listener, table: &'t Table) -> fenhamper::Listener<'t> {
+    settings(s).listing(job(l.job), table)
+}
+
+/// What the library says of a table's entries.
+pub fn entries(table: &Table) -> reference::Table {
+    let mut entries = [Entry::Free; 16];
+    for (k, entry) in table.entries() {
+        entries[k] = Entry::held(entry.job.number(), entry.address.0);
+    }
+    reference::Table::from_entries(entries)
 }
 
 /// A state for the library. Two of them are equal only if all that the library keeps is.

@@ -1,5 +1,5 @@
 //! The proved library, through its Rust face and through its C face, against the reference
-//! implementation of document 01 and of items 1 to 9 of document 02, on drawn inputs.
+//! implementation of document 01 and of items 1 to 10 of document 02, on drawn inputs.
 #![deny(unsafe_code)]
 #![warn(missing_docs)]
 
@@ -13,6 +13,7 @@ pub mod seed;
 pub mod show;
 
 mod compare_c;
+mod compare_jobs;
 mod compare_log;
 mod compare_reason;
 mod compare_row;
@@ -21,6 +22,7 @@ mod face;
 mod raw;
 mod records;
 mod seen;
+mod seen_jobs;
 mod seen_log;
 mod seen_reason;
 mod seen_totals;

@@ -16,7 +16,7 @@ pub const OUTCOMES: [&str; 11] = [
 ];
 
 /// The header's names of the refusals, in words, behind their numbers.
-pub const REFUSALS: [(u8, &str); 16] = [
+pub const REFUSALS: [(u8, &str); 22] = [
     (1, "bad settings"),
     (2, "bad buffers"),
     (3, "bad place"),
@@ -30,7 +30,13 @@ pub const REFUSALS: [(u8, &str); 16] = [
     (11, "bad log"),
     (12, "log full"),
     (13, "not used"),
+    (14, "bad job"),
+    (15, "holds twelve"),
+    (16, "all in use"),
+    (17, "already listed"),
+    (18, "not listed"),
     (19, "high deficit"),
+    (20, "bad table"),
     (21, "wrong totals"),
     (22, "high total"),
 ];

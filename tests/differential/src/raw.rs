@@ -16,17 +16,31 @@ pub use totals::{send_client_counted, send_pause_counted, send_pfc_counted};
 pub const ADDRESS: usize = 6;
 
 /// Octets of settings, and the places in them.
-pub const SETTINGS: usize = 48;
+pub const SETTINGS: usize = 24;
 pub const OWN: usize = 0;
-pub const LISTED: usize = 6;
-pub const LISTED_COUNT: usize = 30;
-pub const BROADCAST: usize = 31;
-pub const PROMISCUOUS: usize = 32;
-pub const CHECKING: usize = 33;
-pub const PASS_CONTROL: usize = 34;
-pub const FLOW: usize = 35;
-pub const LIMIT: usize = 36;
-pub const SETTINGS_SPARE: usize = 38;
+pub const BROADCAST: usize = 6;
+pub const PROMISCUOUS: usize = 7;
+pub const CHECKING: usize = 8;
+pub const PASS_CONTROL: usize = 9;
+pub const FLOW: usize = 10;
+pub const LIMIT: usize = 12;
+/// Those that are not looked at.
+pub const SETTINGS_SPARE: [usize; 11] = [11, 14, 15, 16, 17, 18, 19, 20, 21, 22, 23];
+
+/// Octets of an entry of a table, and the places in them.
+pub const ENTRY: usize = 8;
+pub const HOLDER: usize = 0;
+pub const LISTED: usize = 1;
+pub const ENTRY_SPARE: usize = 7;
+
+/// Holders of an entry; by any other octet it is free.
+pub const FREE: u8 = 0;
+pub const JOB_0: u8 = 1;
+pub const JOB_1: u8 = 2;
+
+/// Octets of a table: entry k is at `ENTRY * k`.
+pub const ENTRIES: usize = 16;
+pub const TABLE: usize = ENTRY * ENTRIES;
 
 /// Octets of a client frame, and the places in them.
 pub const CLIENT: usize = 44;
@@ -142,6 +156,12 @@ pub struct Record(pub [u8; RECORD]);
 /// A state.
 pub type State = [u64; STATE];
 
+/// A table.
+pub type Table = [u8; TABLE];
+
+/// A job's number, and the table.
+pub type Listening<'a> = (u8, &'a Table);
+
 /// What stands in an answer before the call: every number of it is written.
 const UNWRITTEN: u64 = 0xA5A5_A5A5_A5A5_A5A5;
 /// What stands in a record and in a number before a call that gives one, which a refusal leaves.
@@ -151,6 +171,8 @@ pub const LEFT_NUMBER: usize = UNWRITTEN as usize;
 extern "C" {
     fn fenhamper_read(
         settings: &Settings,
+        job: u8,
+        table: &Table,
         state: &mut State,
         octets: *const u8,
         octets_length: usize,
@@ -161,6 +183,8 @@ extern "C" {
     );
     fn fenhamper_explain(
         settings: &Settings,
+        job: u8,
+        table: &Table,
         octets: *const u8,
         octets_length: usize,
         marks: *const u8,
@@ -170,6 +194,8 @@ extern "C" {
     );
     fn fenhamper_walk(
         settings: &Settings,
+        job: u8,
+        table: &Table,
         state: &mut State,
         octets: *const u8,
         octets_length: usize,
@@ -179,6 +205,8 @@ extern "C" {
     );
     fn fenhamper_walk_log(
         settings: &Settings,
+        job: u8,
+        table: &Table,
         state: &mut State,
         octets: *const u8,
         octets_length: usize,
@@ -209,6 +237,34 @@ extern "C" {
     ) -> u32;
     fn fenhamper_log_used(log: *const u8, log_length: usize, used: &mut usize) -> u32;
     fn fenhamper_screen(state: &State, shown: &mut [u32; OUTCOMES]);
+    fn fenhamper_table_empty(table: &mut Table);
+    fn fenhamper_table_add(
+        table: &mut Table,
+        job: u8,
+        address: &[u8; ADDRESS],
+        entry: &mut usize,
+    ) -> u32;
+    fn fenhamper_table_remove(
+        table: &mut Table,
+        job: u8,
+        address: &[u8; ADDRESS],
+        entry: &mut usize,
+    ) -> u32;
+    fn fenhamper_screen_data(
+        settings: &Settings,
+        job: u8,
+        table: &Table,
+        octets_0: *const u8,
+        octets_0_length: usize,
+        marks_0: *const u8,
+        marks_0_length: usize,
+        octets_1: *const u8,
+        octets_1_length: usize,
+        marks_1: *const u8,
+        marks_1_length: usize,
+        place: usize,
+        part: &mut [u64; 2],
+    ) -> u32;
     fn fenhamper_client_data(
         octets_length: usize,
         place: usize,
@@ -273,6 +329,7 @@ pub type Line<'a> = (&'a mut [u8], &'a mut [u8]);
 
 pub fn read(
     settings: &Settings,
+    (job, table): Listening,
     state: &mut State,
     (octets, marks): Capture,
     place: usize,
@@ -284,6 +341,8 @@ pub fn read(
     unsafe {
         fenhamper_read(
             settings,
+            job,
+            table,
             state,
             octets,
             octets_length,
@@ -296,7 +355,12 @@ pub fn read(
     reading
 }
 
-pub fn explain(settings: &Settings, (octets, marks): Capture, place: usize) -> [u64; EXPLAINED] {
+pub fn explain(
+    settings: &Settings,
+    (job, table): Listening,
+    (octets, marks): Capture,
+    place: usize,
+) -> [u64; EXPLAINED] {
     let mut explained = [UNWRITTEN; EXPLAINED];
     let (octets, octets_length) = (octets.as_ptr(), octets.len());
     let (marks, marks_length) = (marks.as_ptr(), marks.len());
@@ -304,6 +368,8 @@ pub fn explain(settings: &Settings, (octets, marks): Capture, place: usize) -> [
     unsafe {
         fenhamper_explain(
             settings,
+            job,
+            table,
             octets,
             octets_length,
             marks,
@@ -315,7 +381,12 @@ pub fn explain(settings: &Settings, (octets, marks): Capture, place: usize) -> [
     explained
 }
 
-pub fn walk(settings: &Settings, state: &mut State, (octets, marks): Capture) -> [u64; WALKED] {
+pub fn walk(
+    settings: &Settings,
+    (job, table): Listening,
+    state: &mut State,
+    (octets, marks): Capture,
+) -> [u64; WALKED] {
     let mut walked = [UNWRITTEN; WALKED];
     let (octets, octets_length) = (octets.as_ptr(), octets.len());
     let (marks, marks_length) = (marks.as_ptr(), marks.len());
@@ -323,6 +394,8 @@ pub fn walk(settings: &Settings, state: &mut State, (octets, marks): Capture) ->
     unsafe {
         fenhamper_walk(
             settings,
+            job,
+            table,
             state,
             octets,
             octets_length,
@@ -336,6 +409,7 @@ pub fn walk(settings: &Settings, state: &mut State, (octets, marks): Capture) ->
 
 pub fn walk_log(
     settings: &Settings,
+    (job, table): Listening,
     state: &mut State,
     (octets, marks): Capture,
     place: usize,
@@ -348,6 +422,8 @@ pub fn walk_log(
     unsafe {
         fenhamper_walk_log(
             settings,
+            job,
+            table,
             state,
             octets,
             octets_length,
@@ -393,6 +469,56 @@ pub fn log_used(log: &[u8]) -> (u32, usize) {
     // SAFETY: the pointer and the length are one slice's.
     let refusal = unsafe { fenhamper_log_used(log.as_ptr(), log.len(), &mut used) };
     (refusal, used)
+}
+
+/// Writes an empty table over this one.
+pub fn table_empty(table: &mut Table) {
+    // SAFETY: the table is lent alone.
+    unsafe { fenhamper_table_empty(table) };
+}
+
+/// The refusal's number or 0, with the entry, which a refusal leaves; so of a removal.
+pub fn table_add(table: &mut Table, job: u8, address: &[u8; ADDRESS]) -> (u32, usize) {
+    let mut entry = LEFT_NUMBER;
+    // SAFETY: the table and the entry are lent alone.
+    let refusal = unsafe { fenhamper_table_add(table, job, address, &mut entry) };
+    (refusal, entry)
+}
+
+pub fn table_remove(table: &mut Table, job: u8, address: &[u8; ADDRESS]) -> (u32, usize) {
+    let mut entry = LEFT_NUMBER;
+    // SAFETY: the table and the entry are lent alone.
+    let refusal = unsafe { fenhamper_table_remove(table, job, address, &mut entry) };
+    (refusal, entry)
+}
+
+/// The refusal's number or 0, with place and length in the chosen job's octets.
+pub fn screen_data(
+    settings: &Settings,
+    (job, table): Listening,
+    [(octets_0, marks_0), (octets_1, marks_1)]: [Capture; 2],
+    place: usize,
+) -> (u32, [u64; 2]) {
+    let mut part = [UNWRITTEN; 2];
+    // SAFETY: each pointer and length is one slice's, and the part is lent alone.
+    let refusal = unsafe {
+        fenhamper_screen_data(
+            settings,
+            job,
+            table,
+            octets_0.as_ptr(),
+            octets_0.len(),
+            marks_0.as_ptr(),
+            marks_0.len(),
+            octets_1.as_ptr(),
+            octets_1.len(),
+            marks_1.as_ptr(),
+            marks_1.len(),
+            place,
+            &mut part,
+        )
+    };
+    (refusal, part)
 }
 
 /// Place and length.

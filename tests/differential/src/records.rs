@@ -1,8 +1,8 @@
 //! What the records of the C face mean, by the header's words: of those that a call takes the
 //! reference's values, of those that it answers the numbers.
 use crate::raw;
-use reference::{Answer, Client, Flow, Form, LogEnd, Logged, Reading, Record};
-use reference::{Port, Sent, Settings, State, Tag, TagKind, Walked};
+use reference::{Answer, Client, Entry, Flow, Form, LogEnd, Logged, Reading, Record};
+use reference::{Port, Sent, Settings, State, Table, Tag, TagKind, Walked};
 use std::array::from_fn;
 
 /// So many octets of a record.
@@ -16,8 +16,6 @@ pub fn settings(record: &raw::Settings) -> Settings {
     let on = |at: usize| octets[at] != 0;
     Settings {
         own: part(octets, raw::OWN),
-        listed: from_fn(|i| part(octets, raw::LISTED + raw::ADDRESS * i)),
-        count: octets[raw::LISTED_COUNT],
         broadcast: on(raw::BROADCAST),
         promiscuous: on(raw::PROMISCUOUS),
         checking: on(raw::CHECKING),
@@ -29,6 +27,35 @@ pub fn settings(record: &raw::Settings) -> Settings {
         },
         pass_control: on(raw::PASS_CONTROL),
     }
+}
+
+/// Of an entry's holder "anything else" is free, whatever else it has; a spare octet means nothing.
+pub fn table(octets: &raw::Table) -> Table {
+    Table::from_entries(from_fn(|k| {
+        let entry = &octets[raw::ENTRY * k..];
+        let address = part(entry, raw::LISTED);
+        match entry[raw::HOLDER] {
+            raw::JOB_0 => Entry::Job0(address),
+            raw::JOB_1 => Entry::Job1(address),
+            _ => Entry::Free,
+        }
+    }))
+}
+
+/// A table whose entry of this number was taken or freed: its eight octets are written, a free one's
+/// as zeros, and no other octet.
+pub fn table_written(before: &raw::Table, table: &Table, k: usize) -> raw::Table {
+    let mut octets = *before;
+    let entry = &mut octets[raw::ENTRY * k..][..raw::ENTRY];
+    let (holder, address) = match table.entries()[k] {
+        Entry::Free => (raw::FREE, [0; raw::ADDRESS]),
+        Entry::Job0(address) => (raw::JOB_0, address),
+        Entry::Job1(address) => (raw::JOB_1, address),
+    };
+    entry[raw::HOLDER] = holder;
+    entry[raw::LISTED..][..raw::ADDRESS].copy_from_slice(&address);
+    entry[raw::ENTRY_SPARE] = 0;
+    octets
 }
 
 /// Of form and kind "anything but 0" is a type, and 0x88A8; tags beyond the count are not looked at.

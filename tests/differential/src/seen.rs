@@ -1,7 +1,8 @@
 //! What a call was given and answered, taken apart for the coverage table. Everything here comes
 //! from the inputs themselves, not from what the generator meant to draw.
-use crate::generate::{Sending, PREAMBLE, RESERVED_GROUP, SYMBOLS};
+use crate::generate::{Listener, Sending, PREAMBLE, RESERVED_GROUP, SYMBOLS};
 use crate::raw;
+use crate::seen_jobs::TableOf;
 use crate::seen_log::KeepSeen;
 use reference::{fcs, Answer, Check, Client, Flow, Form, Port, Reading};
 use reference::{Sent, Settings, State, Walked};
@@ -153,6 +154,10 @@ pub struct ReadingSeen<'a> {
     pub by: By,
     /// The settings.
     pub s: &'a Settings,
+    /// The job.
+    pub job: u8,
+    /// The table given.
+    pub table: TableOf<'a>,
     /// The octets given.
     pub octets: &'a [u8],
     /// The marks given.
@@ -185,7 +190,7 @@ impl<'a> ReadingSeen<'a> {
     /// Takes a reading apart.
     pub fn new(
         by: By,
-        s: &'a Settings,
+        (s, listener): (&'a Settings, &'a Listener),
         (octets, marks, place): (&'a [u8], &'a [u8], usize),
         (before, after): (&'a State, &'a State),
         reading: Reading,
@@ -193,6 +198,8 @@ impl<'a> ReadingSeen<'a> {
         let mut seen = ReadingSeen {
             by,
             s,
+            job: listener.job,
+            table: TableOf(&listener.octets),
             octets,
             marks,
             place,
@@ -241,8 +248,10 @@ impl<'a> ReadingSeen<'a> {
     pub fn holds(&self, refusal: u8) -> bool {
         match refusal {
             1 => bad_settings(self.s),
+            14 => self.job > 1,
             2 => bad_buffers(self.octets.len(), self.marks.len()),
             3 => self.place > self.octets.len(),
+            20 => self.table.broken(),
             _ => false,
         }
     }
@@ -268,17 +277,24 @@ impl<'a> ReadingSeen<'a> {
         outcomes.contains(&self.outcome) && self.framed(7, |f| f.control() && test(f))
     }
 
-    /// The places of an address among those listed.
+    /// The entries by which the job lists an address.
     pub fn listed_at(&self, address: &[u8; 6]) -> impl Iterator<Item = usize> + use<'a> {
-        let address = *address;
-        let entries = self.s.listed.iter().enumerate();
-        entries.filter_map(move |(i, entry)| (*entry == address).then_some(i))
+        self.table.listed_at(self.job, address)
     }
 
-    /// Whether an address is listed.
+    /// Whether the job lists an address.
     pub fn listed(&self, address: &[u8; 6]) -> bool {
-        let count = usize::from(self.s.count);
-        self.listed_at(address).any(|i| i < count)
+        self.listed_at(address).next().is_some()
+    }
+
+    /// The entries by which the other job lists it.
+    pub fn others_at(&self, address: &[u8; 6]) -> impl Iterator<Item = usize> + use<'a> {
+        self.table.listed_at(1 - self.job.min(1), address)
+    }
+
+    /// An address stands nowhere in the table, be it in an entry that is free.
+    pub fn nowhere(&self, address: &[u8; 6]) -> bool {
+        (0..16).all(|k| self.table.address(k) != *address)
     }
 
     /// The address rule.
@@ -309,6 +325,10 @@ pub fn only_octet(a: &[u8; 6], b: &[u8; 6]) -> Option<usize> {
 pub struct WalkSeen<'a> {
     /// The settings.
     pub s: &'a Settings,
+    /// The job.
+    pub job: u8,
+    /// The table given.
+    pub table: TableOf<'a>,
     /// The numbers of octets and marks given.
     pub lengths: (usize, usize),
     /// The state given.
@@ -324,7 +344,9 @@ impl WalkSeen<'_> {
     pub fn holds(&self, refusal: u8) -> bool {
         match refusal {
             1 => bad_settings(self.s),
+            14 => self.job > 1,
             2 => bad_buffers(self.lengths.0, self.lengths.1),
+            20 => self.table.broken(),
             _ => false,
         }
     }
@@ -569,6 +591,26 @@ impl CSeen<'_> {
         matches!(&self.call, CCall::Read(reading) if test(reading))
     }
 
+    /// Whether a refusal's condition holds by itself, for a call that reads.
+    pub fn holds(&self, refusal: u8) -> bool {
+        match &self.call {
+            CCall::Read(reading) => reading.holds(refusal),
+            CCall::Walk(walk) => walk.holds(refusal),
+            CCall::Keep(walk) => walk.holds(refusal),
+            CCall::Send(_) | CCall::Count(_) => false,
+        }
+    }
+
+    /// The job and the table, of a call that reads.
+    pub fn listening(&self) -> Option<(u8, TableOf<'_>)> {
+        match &self.call {
+            CCall::Read(reading) => Some((reading.job, reading.table)),
+            CCall::Walk(walk) => Some((walk.job, walk.table)),
+            CCall::Keep(walk) => Some((walk.job, walk.table)),
+            CCall::Send(_) | CCall::Count(_) => None,
+        }
+    }
+
     /// A sending of which this is true.
     pub fn sent(&self, test: impl FnOnce(&SendingSeen) -> bool) -> bool {
         matches!(&self.call, CCall::Send(sending) if test(sending))
@@ -612,7 +654,7 @@ pub struct FcsSeen<'a> {
 
 /// Refusal 1.
 pub fn bad_settings(s: &Settings) -> bool {
-    s.own[0] & 1 == 1 || s.count > 4 || s.limit < 1518 || s.limit > 9618
+    s.own[0] & 1 == 1 || s.limit < 1518 || s.limit > 9618
 }
 
 /// Refusal 2.

@@ -1,7 +1,9 @@
 //! What a call with a log was given and answered, taken apart for the coverage table. What a record
 //! is, stands here once more, in the words of item 4 of document 02.
+use crate::generate::Listener;
 use crate::raw;
 use crate::seen::{bad_buffers, bad_settings};
+use crate::seen_jobs::TableOf;
 use reference::{read, Answer, Check, LogEnd, Logged, Record, Settings, State};
 
 /// "One record of 16 octets".
@@ -192,6 +194,10 @@ pub struct Further {
 pub struct KeepSeen<'a> {
     /// The settings.
     pub s: &'a Settings,
+    /// The job.
+    pub job: u8,
+    /// The table given.
+    pub table: TableOf<'a>,
     /// The octets given.
     pub octets: &'a [u8],
     /// The marks given.
@@ -217,7 +223,7 @@ pub struct KeepSeen<'a> {
 impl<'a> KeepSeen<'a> {
     /// Takes a walk apart.
     pub fn new(
-        s: &'a Settings,
+        (s, l): (&'a Settings, &'a Listener),
         (octets, marks, place): (&'a [u8], &'a [u8], usize),
         (before, after): (&'a State, &'a State),
         (log, log_after): (&'a [u8], &'a [u8]),
@@ -226,7 +232,8 @@ impl<'a> KeepSeen<'a> {
         let further = || {
             let mut state = *after;
             let mut read_on = |at| {
-                let reading = read(Check::Slicing16, s, &mut state, octets, marks, at);
+                let (kind, job, table) = (Check::Slicing16, l.job, &l.table);
+                let reading = read(kind, s, &mut state, job, table, octets, marks, at);
                 (reading, state.timers != after.timers)
             };
             let (reading, sets_timers) = read_on(logged.next);
@@ -244,6 +251,8 @@ impl<'a> KeepSeen<'a> {
         let (log, log_after) = (LogOf::new(log), LogOf::new(log_after));
         KeepSeen {
             s,
+            job: l.job,
+            table: TableOf(&l.octets),
             octets,
             marks,
             place,
@@ -269,8 +278,10 @@ impl<'a> KeepSeen<'a> {
     pub fn holds(&self, refusal: u8) -> bool {
         match refusal {
             1 => bad_settings(self.s),
+            14 => self.job > 1,
             2 => bad_buffers(self.octets.len(), self.marks.len()),
             3 => self.place > self.octets.len(),
+            20 => self.table.broken(),
             11 => !self.log.whole(),
             _ => false,
         }

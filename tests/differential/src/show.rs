@@ -1,5 +1,5 @@
 //! Symbols as a short text.
-use crate::generate::Sending;
+use crate::generate::{Listener, Sending};
 use std::fmt::Write;
 
 /// Most pieces that are shown from either end of a shortened text.
@@ -53,6 +53,19 @@ pub fn log(octets: &[u8], whole: bool) -> String {
     let digits = |slot: &[u8]| slot.iter().map(|octet| format!("{octet:02X}")).collect();
     let records: Vec<String> = octets.chunks(16).map(digits).collect();
     format!("{} octets: {}", octets.len(), shortened(records, whole))
+}
+
+/// A table, a group for each entry: holder, digits of the address, spare octet.
+pub fn table(octets: &[u8]) -> String {
+    let digits = |octets: &[u8]| -> String { octets.iter().map(|o| format!("{o:02X}")).collect() };
+    let entry = |entry: &[u8]| format!("{} {} {}", entry[0], digits(&entry[1..7]), entry[7]);
+    let entries: Vec<_> = octets.chunks_exact(8).map(entry).collect();
+    format!("table: {}", entries.join(", "))
+}
+
+/// A job and the table.
+pub fn listener(listener: &Listener) -> String {
+    format!("job {}, {}", listener.job, table(&listener.octets))
 }
 
 /// Totals, `x n` behind one that stands n times.

@@ -5,7 +5,7 @@ use fenhamper::{Outcome, Refusal};
 const HEADER: &str = include_str!("../../../include/fenhamper.h");
 
 /// In the order of their numbers.
-const ALL_REFUSALS: [Refusal; 16] = [
+const ALL_REFUSALS: [Refusal; 22] = [
     Refusal::BadSettings,
     Refusal::BadBuffers,
     Refusal::BadPlace,
@@ -19,7 +19,13 @@ const ALL_REFUSALS: [Refusal; 16] = [
     Refusal::BadLog,
     Refusal::LogFull,
     Refusal::NotUsed,
+    Refusal::BadJob,
+    Refusal::HoldsTwelve,
+    Refusal::AllInUse,
+    Refusal::AlreadyListed,
+    Refusal::NotListed,
     Refusal::HighDeficit,
+    Refusal::BadTable,
     Refusal::WrongTotals,
     Refusal::HighTotal,
 ];

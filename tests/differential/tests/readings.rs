@@ -1,5 +1,5 @@
 //! The printing program against the reference's printer.
-use differential::generate::{capture, IDLE, START};
+use differential::generate::{capture, Listener, IDLE, START};
 use differential::prng::Prng;
 use differential::seed::seeds;
 use differential::show;
@@ -89,7 +89,7 @@ fn edges() -> Vec<Vec<u8>> {
 
 /// A drawn capture as records, at times with half a record too many.
 fn drawn(prng: &mut Prng) -> Vec<u8> {
-    let symbols = capture(prng, &Settings::PRINTED);
+    let symbols = capture(prng, &Settings::PRINTED, &Listener::alone());
     let mut input = records(&symbols.octets, &symbols.marks);
     if !prng.one_in(8) {
         input.truncate(2 * RECORDS);

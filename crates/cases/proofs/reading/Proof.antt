@@ -4,10 +4,10 @@ use Rattle.cases.proofs.reading.Statement.{statement}
 use Rattle.cases.proofs.reading.Tie as tie
 
 abbrev Inv-loop : tie.InvT-loop
-Inv-loop name c o m s before state₀ at₀ turns₀ state at turns = Unit
+Inv-loop name c o m state₀ at₀ turns₀ state at turns = Unit
 
 abbrev μ-loop : tie.MeasureT-loop
-μ-loop name c o m s before state₀ at₀ turns₀ state at turns = turns
+μ-loop name c o m state₀ at₀ turns₀ state at turns = turns
 
 loop-holds : tie.Need-loop-holds Inv-loop μ-loop
 loop-holds c = tt

@@ -1,5 +1,6 @@
 -- `fenhamper::address` meets its contract. Assumes nothing.
-use Rattle.fenhamper.proofs.Six.{six}
+use mathlib.Core.Path.{refl}
+use Rattle.table.specs.Entries.{addressAt}
 use borrow.Author.Needs.{needs}
 use Rattle.fenhamper.proofs.address.Statement.{statement}
 use Rattle.fenhamper.proofs.address.Tie as tie
@@ -38,7 +39,8 @@ shared-slice-read-t19 : tie.Need-shared-slice-read-t19
 shared-slice-read-t19 c = search needs
 
 returns : tie.Need-returns
-returns c = six _ _
+unfolding addressAt
+returns c = refl
 
 pub address-spec : {M : Type 1} → statement M
 address-spec =

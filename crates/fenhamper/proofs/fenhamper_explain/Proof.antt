@@ -2,6 +2,7 @@
 use denote.Ref.{now}
 use mathlib.Core.Path.{ap, _∙_}
 use Rattle.station.specs.declared.Settings.{Settings}
+use Rattle.table.specs.Entries.{entriesOf}
 use Rattle.reason.specs.Reasons.{explained}
 use Rattle.fenhamper.specs.Face.{explainNumbers}
 use borrow.Author.Needs.{needs}
@@ -24,7 +25,7 @@ returns c =
     let a = set .before .before .before .args in
     c .explain-numbers .ensures
     ∙ ap explainNumbers
-    (called .explain .ensures ∙ ap (λ (s : Settings). explained s (now (a .octets)) (now (a .marks)) (a .place)) (set .settings .ensures))
+    (called .explain .ensures ∙ ap (λ (s : Settings). explained s (a .job) (entriesOf (now (a .table))) (now (a .octets)) (now (a .marks)) (a .place)) (set .settings .ensures))
 
 pub fenhamper-explain-spec : {M : Type 1} → statement M
 fenhamper-explain-spec =

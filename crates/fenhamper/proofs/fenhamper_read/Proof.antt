@@ -3,6 +3,7 @@ use denote.Ref.{now}
 use mathlib.Core.Path.{ap₂, _∙_}
 use Rattle.station.specs.declared.State.{State}
 use Rattle.station.specs.declared.Settings.{Settings}
+use Rattle.table.specs.Entries.{entriesOf}
 use Rattle.receive.specs.Reading.{reading}
 use Rattle.fenhamper.proofs.Crossing.{read-crosses}
 use borrow.Author.Needs.{needs}
@@ -48,7 +49,7 @@ returns c =
     let a = start c .args in
     read-crosses _ (told c .reading-numbers .ensures) (c .leave .ensures)
     (called c .read .ensures
-    ∙ ap₂ (λ (s : Settings) (st : State). reading s st (now (a .octets)) (now (a .marks)) (a .place)) (set c .settings .ensures) (decoded c .state-of .ensures))
+    ∙ ap₂ (λ (s : Settings) (st : State). reading s (a .job) (entriesOf (now (a .table))) st (now (a .octets)) (now (a .marks)) (a .place)) (set c .settings .ensures) (decoded c .state-of .ensures))
 
 pub fenhamper-read-spec : {M : Type 1} → statement M
 fenhamper-read-spec =

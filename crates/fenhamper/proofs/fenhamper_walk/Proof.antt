@@ -3,6 +3,7 @@ use denote.Ref.{now}
 use mathlib.Core.Path.{ap₂, _∙_}
 use Rattle.station.specs.declared.State.{State}
 use Rattle.station.specs.declared.Settings.{Settings}
+use Rattle.table.specs.Entries.{entriesOf}
 use Rattle.receive.specs.Walk.{walked}
 use Rattle.fenhamper.proofs.Crossing.{walk-crosses}
 use borrow.Author.Needs.{needs}
@@ -48,7 +49,7 @@ returns c =
     let a = start c .args in
     walk-crosses _ (told c .walk-numbers .ensures) (c .leave .ensures)
     (called c .walk .ensures
-    ∙ ap₂ (λ (s : Settings) (st : State). walked s st (now (a .octets)) (now (a .marks))) (set c .settings .ensures) (decoded c .state-of .ensures))
+    ∙ ap₂ (λ (s : Settings) (st : State). walked s (a .job) (entriesOf (now (a .table))) st (now (a .octets)) (now (a .marks))) (set c .settings .ensures) (decoded c .state-of .ensures))
 
 pub fenhamper-walk-spec : {M : Type 1} → statement M
 fenhamper-walk-spec =

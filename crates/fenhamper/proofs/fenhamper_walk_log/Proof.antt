@@ -3,6 +3,7 @@ use denote.Ref.{now}
 use mathlib.Core.Path.{ap₂, _∙_}
 use Rattle.station.specs.declared.State.{State}
 use Rattle.station.specs.declared.Settings.{Settings}
+use Rattle.table.specs.Entries.{entriesOf}
 use Rattle.logging.specs.Walks.{walkLogged}
 use Rattle.fenhamper.proofs.Crossing.{keep-crosses}
 use borrow.Author.Needs.{needs}
@@ -51,7 +52,7 @@ returns c =
     let a = start c .args in
     keep-crosses _ (told c .keep-numbers .ensures) (c .leave .ensures)
     (called c .walk-log .ensures
-    ∙ ap₂ (λ (s : Settings) (st : State). walkLogged s st (now (a .octets)) (now (a .marks)) (a .place) (now (a .log)))
+    ∙ ap₂ (λ (s : Settings) (st : State). walkLogged s (a .job) (entriesOf (now (a .table))) st (now (a .octets)) (now (a .marks)) (a .place) (now (a .log)))
     (set c .settings .ensures) (decoded c .state-of .ensures))
 
 pub fenhamper-walk-log-spec : {M : Type 1} → statement M

@@ -15,40 +15,16 @@ abbrev on1 : tie.After-is-on4 → tie.After-is-on
 on1 c = on2 c .before .before
 
 abbrev limit : tie.After-is-on4 → tie.After-low-pair
-limit c = on1 c .before .before .before
+limit c = on1 c .before .before
 
 abbrev flow : tie.After-is-on4 → tie.After-flow-mode
 flow c = limit c .before .before
 
-abbrev fourth : tie.After-is-on4 → tie.After-address5
-fourth c = flow c .before .before
-
-abbrev third : tie.After-is-on4 → tie.After-address4
-third c = fourth c .before .before
-
-abbrev second : tie.After-is-on4 → tie.After-address3
-second c = third c .before .before
-
-abbrev first : tie.After-is-on4 → tie.After-address2
-first c = second c .before .before
-
 abbrev own : tie.After-is-on4 → tie.After-address
-own c = first c .before .before
+own c = flow c .before .before
 
 address-requires : tie.Need-address-requires
 address-requires c κs = search needs
-
-address-requires-2 : tie.Need-address-requires-2
-address-requires-2 c κs = search needs
-
-address-requires-3 : tie.Need-address-requires-3
-address-requires-3 c κs = search needs
-
-address-requires-4 : tie.Need-address-requires-4
-address-requires-4 c κs = search needs
-
-address-requires-5 : tie.Need-address-requires-5
-address-requires-5 c κs = search needs
 
 element-copy-out-flow-mode : tie.Need-element-copy-out-flow-mode
 element-copy-out-flow-mode c = search needs
@@ -58,9 +34,6 @@ flow-mode-requires c κs = search needs
 
 low-pair-requires : tie.Need-low-pair-requires
 low-pair-requires c κs = search needs
-
-element-copy-out-t22 : tie.Need-element-copy-out-t22
-element-copy-out-t22 c = search needs
 
 element-copy-out-is-on : tie.Need-element-copy-out-is-on
 element-copy-out-is-on c = search needs
@@ -96,10 +69,6 @@ returns c =
       on1 c .is-on .ensures,
       limit c .low-pair .ensures,
       flow c .flow-mode .ensures,
-      fourth c .address5 .ensures,
-      third c .address4 .ensures,
-      second c .address3 .ensures,
-      first c .address2 .ensures,
       own c .address .ensures,
     )
 
@@ -108,14 +77,9 @@ settings-spec =
     tie.close
     (tie.spec
     address-requires
-    address-requires-2
-    address-requires-3
-    address-requires-4
-    address-requires-5
     element-copy-out-flow-mode
     flow-mode-requires
     low-pair-requires
-    element-copy-out-t22
     element-copy-out-is-on
     is-on-requires
     element-copy-out-is-on-2

@@ -11,6 +11,7 @@ use Rattle.fields.proofs.Places.{layout-field, layout-place}
 use Rattle.frame.specs.Frame.{dataFrom, frameData}
 use Rattle.frame.specs.Length.{handedOf, clientData, handedLength}
 use Rattle.frame.proofs.Length.{data-length, handed-le}
+use Rattle.table.specs.Entries.{ownEntries}
 use Rattle.control.specs.Control.{wayCarried}
 use Rattle.receive.specs.Reading.{handedPart}
 use Rattle.logging.proofs.Loops.{laid-record}
@@ -55,7 +56,8 @@ record-at-requires : tie.Need-record-at-requires
 record-at-requires c κs = search needs
 
 -- the number of the address: outcome 11 carries the frame's
-way-is : (c : tie.After-frame-way) → let a = call (c .before .before) .args in c .frame-way .result ≡ wayCarried (a .s) HandedOut (now (a .f))
+way-is : (c : tie.After-frame-way) → let a = call (c .before .before) .args in
+    c .frame-way .result ≡ wayCarried (a .s) (ownEntries (a .job) (now (a .table))) HandedOut (now (a .f))
 unfolding wayCarried
 way-is c = c .frame-way .ensures
 
@@ -65,7 +67,7 @@ returns c =
     let h = w .before in
     let a = call h .args in
     c .record-at .ensures
-    ∙ laid-record (a .s) (a .start) (now (a .f)) HandedOut _ _ _ _ (call h .pre .1) (way-is (c .before)) (handed-own h) (w .status .ensures)
+    ∙ laid-record (a .s) _ (a .start) (now (a .f)) HandedOut _ _ _ _ (call h .pre .1) (way-is (c .before)) (handed-own h) (w .status .ensures)
 
 pub handed-record-spec : {M : Type 1} → statement M
 handed-record-spec =

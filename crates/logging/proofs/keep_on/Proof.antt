@@ -5,6 +5,7 @@ use native.Mathlib.Omega.{arith}
 use native.Mathlib.Nat.{lt-of-not-le}
 use mathlib.Core.Path.{_≡_, refl, sym, ap, ap₂, _∙_}
 use mathlib.Core.List.{List}
+use mathlib.Core.Option.{Option}
 use mathlib.Core.Logic.{⊎-elim}
 use lib.ListN.{length, getD}
 use denote.Ref.{now}
@@ -14,12 +15,15 @@ use Rattle.line.specs.Line.{capture, findStart, findControl, overwrite}
 use Rattle.line.specs.Octets.{between}
 use Rattle.line.specs.Table.{first}
 use Rattle.line.proofs.Places.{start-found, control-found}
+use Rattle.station.specs.declared.Address.{Address}
 use Rattle.station.specs.declared.Outcome.{Outcome}
 use Rattle.station.specs.declared.Slots.{Slots}
 use Rattle.station.specs.declared.Checked.the-variants.{Fine}
 use Rattle.station.specs.Station.{counted}
 use Rattle.flow.specs.Timers.{timersAfter}
 use Rattle.flow.proofs.Stays.{stays}
+use Rattle.table.specs.Entries.{entriesOf, ownEntries}
+use Rattle.table.proofs.Entries.{entries-sixteen}
 use Rattle.outcome.specs.Outcomes.{outcome, frameOf}
 use Rattle.outcome.proofs.Rules.{judged-outcome}
 use Rattle.log.specs.declared.Record.{Record}
@@ -41,16 +45,16 @@ use Rattle.logging.proofs.keep_on.Statement.{statement}
 use Rattle.logging.proofs.keep_on.Tie as tie
 
 abbrev Inv-loop : tie.InvT-loop
-Inv-loop t s state octets marks place log₀ records counters₀ timers₀ n₀ at₀ k₀ log counters timers n at k =
-    (keepFrom (length octets + 1 - n) s (at-state (state .deficit) counters timers) octets marks at n log
-    ≡ walkLogged s (at-state (state .deficit) counters₀ timers₀) octets marks place log₀)
+Inv-loop t s job table state octets marks place log₀ records counters₀ timers₀ n₀ at₀ k₀ log counters timers n at k =
+    (keepFrom (length octets + 1 - n) s job (entriesOf table) (at-state (state .deficit) counters timers) octets marks at n log
+    ≡ walkLogged s job (entriesOf table) (at-state (state .deficit) counters₀ timers₀) octets marks place log₀)
     × (n ≤ at)
     × (at ≤ length octets)
     × (length log ≡ length log₀)
     × (k ≡ frontCount log)
 
 abbrev μ-loop : tie.MeasureT-loop
-μ-loop t s state octets marks place log₀ records counters₀ timers₀ n₀ at₀ k₀ log counters timers n at k = length octets - at
+μ-loop t s job table state octets marks place log₀ records counters₀ timers₀ n₀ at₀ k₀ log counters timers n at k = length octets - at
 
 -- the places that others look back to: the call, from a turn of the loop; the turn, from where its Start is found; that, from where the end of its run is
 -- found; where a record is unused, from where the outcome is known; that, from where the timers are; and that, from where the record is made
@@ -72,7 +76,10 @@ settled c = c .before .before .before .before
 abbrev made : tie.After-record-of-run Inv-loop μ-loop → tie.Joined2 Inv-loop μ-loop
 made c = c .before .before .before
 
--- the octets, the log at a turn, the Start's place and that of the end of its run
+-- the job's own entries, the octets, the log at a turn, the Start's place and that of the end of its run
+abbrev own : tie.At-loop Inv-loop μ-loop → List (Option Address)
+own c = let a = call c .args in ownEntries (a .job) (now (a .table))
+
 abbrev octets : tie.At-loop Inv-loop μ-loop → List ℕ
 octets c = now (call c .args .octets)
 
@@ -87,11 +94,11 @@ end c = c .before .end .given .0 .0
 
 -- what each turn knows: it is not refused, the log's length is a multiple of 16, and readings are left
 fine : (c : tie.At-loop Inv-loop μ-loop)
-    → let a = call c .args in first (readRefusals (a .s) (now (a .octets)) (now (a .marks)) (c .loop .at)) ≡ Fine
-fine c = still-fine _ _ _ _ _ (keep-fine _ _ _ _ _ (call c .pre .1) .0) (c .loop .inv .2)
+    → let a = call c .args in first (readRefusals (a .s) (a .job) (entriesOf (now (a .table))) (now (a .octets)) (now (a .marks)) (c .loop .at)) ≡ Fine
+fine c = still-fine _ _ _ _ _ _ _ (keep-fine _ _ _ _ _ _ _ (call c .pre .1) .0) (c .loop .inv .2)
 
 good : (c : tie.At-loop Inv-loop μ-loop) → IsMultiple (log c)
-good c = let g = keep-fine _ _ _ _ _ (call c .pre .1) .1 in let e = c .loop .inv .3 in omega arith
+good c = let g = keep-fine _ _ _ _ _ _ _ (call c .pre .1) .1 in let e = c .loop .inv .3 in omega arith
 
 more : (c : tie.At-loop Inv-loop μ-loop) → 0 < length (octets c) + 1 - c .loop .n
 more c = let a = c .loop .inv .1 in let b = c .loop .inv .2 in omega arith
@@ -108,14 +115,14 @@ found-end c = sym (c .before .before .before .find-control .ensures) ∙ c .befo
 start-inside : (c : tie.After-known-told Inv-loop μ-loop)
     → (turning c .loop .at ≤ start c) × (start c < length (octets (turning c))) × (length (octets (turning c)) ≤ 65536)
 start-inside c =
-    let k = passed _ _ _ _ (fine (turning c)) in
+    let k = passed _ _ _ _ _ _ (fine (turning c)) in
     let f = start-found _ _ (k .even) _ _ (found-start c) in
     (f .0, f .1, k .small)
 
 end-inside : (c : tie.After-known-told2 Inv-loop μ-loop)
     → (start (starting c) + 1 ≤ end c) × (end c < length (octets (turning (starting c))))
 end-inside c =
-    let e = control-found _ _ (passed _ _ _ _ (fine (turning (starting c))) .even) _ _ (found-end c) in
+    let e = control-found _ _ (passed _ _ _ _ _ _ (fine (turning (starting c))) .even) _ _ (found-end c) in
     (e .0, e .1)
 
 -- where the log is not full it has record k
@@ -136,8 +143,9 @@ loop-holds c =
     let a = k .args in
     let os = now (a .octets) in
     let e : length os + 1 - 0 ≡ length os + 1 = omega arith in
-    let b = passed _ _ _ _ (keep-fine _ _ _ _ _ (k .pre .1) .0) .inside in (
-      ap (λ (m : ℕ). keepFrom m (a .s) (a .state) os (now (a .marks)) (a .place) 0 (now (a .log))) e ∙ sym (walk-fine _ _ _ _ _ _ (k .pre .1)),
+    let b = passed _ _ _ _ _ _ (keep-fine _ _ _ _ _ _ _ (k .pre .1) .0) .inside in (
+      ap (λ (m : ℕ). keepFrom m (a .s) (a .job) (entriesOf (now (a .table))) (a .state) os (now (a .marks)) (a .place) 0 (now (a .log))) e
+          ∙ sym (walk-fine _ _ _ _ _ _ _ _ (k .pre .1)),
       omega arith,
       omega arith,
       refl,
@@ -160,7 +168,7 @@ returns : tie.Need-returns Inv-loop μ-loop
 returns c =
     let l = c .before .before .before in
     let none = sym (c .before .before .find-start .ensures) ∙ c .enum-told .given .1 in
-    sym (loop-none _ _ _ _ (fine l) _ _ _ _ (more l) none) ∙ l .loop .inv .0
+    sym (loop-none _ _ _ _ _ _ (fine l) _ _ _ _ (more l) none) ∙ l .loop .inv .0
 
 add-from : tie.Need-add-from Inv-loop μ-loop
 add-from c = let k = start-inside c in omega arith
@@ -182,7 +190,7 @@ returns-2 c =
     let k = c .before .before .before in
     let l = turning k in
     let unended = sym (c .before .before .find-control .ensures) ∙ c .enum-told2 .given .1 in
-    sym (loop-open _ _ _ _ (fine l) _ _ _ _ (more l) _ (found-start k) unended) ∙ l .loop .inv .0
+    sym (loop-open _ _ _ _ _ _ (fine l) _ _ _ _ (more l) _ (found-start k) unended) ∙ l .loop .inv .0
 
 same-length-3 : tie.Need-same-length-3 Inv-loop μ-loop
 same-length-3 c = search needs
@@ -192,7 +200,7 @@ returns-3 c =
     let k = c .before in
     let l = turning (starting k) in
     let i = l .loop .inv in
-    sym (loop-full _ _ _ _ (fine l) _ (found-start (starting k)) _ (found-end k) _ _ _ _ (more l) (good l)
+    sym (loop-full _ _ _ _ _ _ (fine l) _ (found-start (starting k)) _ (found-end k) _ _ _ _ (more l) (good l)
     (sym (i .4) ∙ c .if1 .taken ∙ ap (λ (m : ℕ). m / 16) (sym (i .3))))
     ∙ i .0
 
@@ -259,7 +267,7 @@ add-unused-from c =
     let l = turning (starting (u .before)) in
     let h = inside u in
     let i = l .loop .inv .3 in
-    let g = call l .good .1 .1 .1 .1 .1 .1 .0 .0 in
+    let g = call l .good .1 .1 .1 .1 .1 .1 .1 .1 .0 .0 in
     omega arith
 
 unused-from-requires-2 : tie.Need-unused-from-requires-2 Inv-loop μ-loop
@@ -288,14 +296,14 @@ abbrev run : tie.Joined2 Inv-loop μ-loop → List ℕ
 run c = let k = ending c in between (octets (turning (starting k))) (start (starting k) + 1) (end k)
 
 abbrev becomes : tie.Joined2 Inv-loop μ-loop → Outcome
-becomes c = let k = ending c in let l = turning (starting k) in outcome (call l .args .s) (run c) (getD (octets l) (end k) 0)
+becomes c = let k = ending c in let l = turning (starting k) in outcome (call l .args .s) (own l) (run c) (getD (octets l) (end k) 0)
 
 abbrev recorded : tie.Joined2 Inv-loop μ-loop → Record
-recorded c = let k = starting (ending c) in recordOfFrame (call (turning k) .args .s) (start k) (frameOf (run c)) (becomes c)
+recorded c = let k = starting (ending c) in recordOfFrame (call (turning k) .args .s) (own (turning k)) (start k) (frameOf (run c)) (becomes c)
 
 outcome-is : (c : tie.Joined2 Inv-loop μ-loop) → settled c .judge .result .outcome ≡ becomes c
 unfolding between
-outcome-is c = judged-outcome _ _ _ (settled c .judge .ensures)
+outcome-is c = judged-outcome _ _ _ _ (settled c .judge .ensures)
 
 -- the counters and the timers after a turn, these set or left as they were
 counters-now : (c : tie.Joined2 Inv-loop μ-loop) → c .before .before .count .last .1 .0 ≡ counted (becomes c) (turning (starting (ending c)) .loop .counters)
@@ -326,7 +334,7 @@ log-now c =
     let l = turning k in
     c .write-record .ensures
     ∙ ap (λ (x : Record). overwrite (log l) (16 * l .loop .k) (octetsOfRecord x))
-    (c .before .record-of-run .ensures ∙ ap (recordOfFrame (call l .args .s) (start k) (frameOf (run j))) (outcome-is j))
+    (c .before .record-of-run .ensures ∙ ap (recordOfFrame (call l .args .s) (own l) (start k) (frameOf (run j))) (outcome-is j))
 
 loop-again : tie.Need-loop-again Inv-loop μ-loop
 unfolding stateAfter
@@ -335,6 +343,7 @@ loop-again c =
     let k = ending j in
     let l = turning (starting k) in
     let a = call l .args in
+    let es = entriesOf (now (a .table)) in
     let i = l .loop .inv in
     let x = recorded j in
     let s = start-inside (starting k) in
@@ -342,24 +351,26 @@ loop-again c =
     let g = inside (unused (settled j)) in
     let m : List ℕ = overwrite (log l) (16 * l .loop .k) (octetsOfRecord x) in
     let same = log-now (wrote c) in
+    let few : length es ≤ 16 = omega (arith, entries-sixteen (now (a .table))) in
     let start-is = found-start (starting k) in
     let end-is = found-end k in
     let fuel : length (octets l) + 1 - (l .loop .n + 1) ≡ length (octets l) + 1 - l .loop .n - 1 = omega arith in (
       ap₂ (λ (b : ℕ) (y : List ℕ).
-          keepFrom b (a .s) (at-state (a .state .deficit) (j .before .before .count .last .1 .0) (j .if2 .timers)) (octets l) (now (a .marks)) (end k)
-          (l .loop .n + 1) y)
+          keepFrom b (a .s) (a .job) es (at-state (a .state .deficit) (j .before .before .count .last .1 .0) (j .if2 .timers)) (octets l) (now (a .marks))
+          (end k) (l .loop .n + 1) y)
           fuel same
           ∙ ap₂ (λ (cs : List ℕ) (ts : List Slots).
-          keepFrom (length (octets l) + 1 - l .loop .n - 1) (a .s) (at-state (a .state .deficit) cs ts) (octets l) (now (a .marks)) (end k) (l .loop .n + 1) m)
+          keepFrom (length (octets l) + 1 - l .loop .n - 1) (a .s) (a .job) es (at-state (a .state .deficit) cs ts) (octets l) (now (a .marks)) (end k)
+          (l .loop .n + 1) m)
           (counters-now j) (timers-now j)
-          ∙ sym (loop-kept _ _ _ _ (fine l) _ start-is _ end-is _ _ _ _ (more l) (good l) _ (i .4) g)
+          ∙ sym (loop-kept _ _ _ _ _ _ (fine l) _ start-is _ end-is _ _ _ _ (more l) (good l) _ (i .4) g)
           ∙ i .0,
       omega arith,
       omega arith,
       ap length same ∙ length-written (log l) (l .loop .k) _ (length-record x) (omega arith) ∙ i .3,
       c .unused-from2 .ensures
           ∙ ap (λ (y : List ℕ). unusedFrom y (l .loop .k + 1)) same
-          ∙ loop-next _ _ _ _ (fine l) _ start-is _ end-is (log l) (l .loop .k) (omega arith) (i .4)
+          ∙ loop-next _ _ _ _ _ _ (fine l) _ start-is _ end-is few (log l) (l .loop .k) (omega arith) (i .4)
           ∙ ap frontCount (sym same),
     )
 

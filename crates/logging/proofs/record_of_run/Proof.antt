@@ -8,6 +8,7 @@ use denote.Ref.{now}
 use borrow.Author.Needs.{needs}
 use borrow.Author.Tests.{not-true}
 use Rattle.outcome.specs.Outcomes.{frameOf}
+use Rattle.table.specs.Entries.{ownEntries}
 use Rattle.logging.specs.Records.{recordAt}
 use Rattle.logging.specs.Steps.{recordOfFrame}
 use Rattle.logging.proofs.Loops.{untold}
@@ -29,7 +30,7 @@ returns c =
     let a = t .before .before .before .args in
     c .record-at .ensures
     ∙ ap (λ (n : ℕ). recordAt (a .start) n 0 0 0) (c .before .outcome-number .ensures)
-    ∙ untold (a .s) (a .start) (frameOf (now (a .run))) (a .o) (sym (t .before .tells .ensures) ∙ not-true _ (t .if1 .taken))
+    ∙ untold (a .s) _ (a .start) (frameOf (now (a .run))) (a .o) (sym (t .before .tells .ensures) ∙ not-true _ (t .if1 .taken))
 
 frame-of-requires : tie.Need-frame-of-requires
 frame-of-requires c κs = search needs
@@ -43,7 +44,8 @@ record-of-frame-requires c κs =
 returns-2 : tie.Need-returns-2
 returns-2 c =
     let a = c .before .before .before .before .before .args in
-    c .record-of-frame .ensures ∙ ap (λ (f : List ℕ). recordOfFrame (a .s) (a .start) f (a .o)) (c .before .frame-of .ensures)
+    c .record-of-frame .ensures
+    ∙ ap (λ (f : List ℕ). recordOfFrame (a .s) (ownEntries (a .job) (now (a .table))) (a .start) f (a .o)) (c .before .frame-of .ensures)
 
 pub record-of-run-spec : {M : Type 1} → statement M
 record-of-run-spec =

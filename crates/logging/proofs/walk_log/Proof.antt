@@ -4,6 +4,7 @@ use mathlib.Core.Path.{_≡_, sym, _∙_}
 use denote.Ref.{now}
 use borrow.Author.Needs.{needs}
 use Rattle.line.specs.Table.{first}
+use Rattle.table.specs.Entries.{entriesOf}
 use Rattle.receive.proofs.Refusals.{passed}
 use Rattle.logging.specs.declared.KeepChecked.the-variants.{Fine}
 use Rattle.logging.specs.Walks.{keepRefusals}
@@ -17,7 +18,8 @@ abbrev call : tie.After-enum-told → tie.Start
 call c = c .before .before .before .before .before .before .before
 
 fine : (c : tie.After-enum-told)
-    → let a = call c .args in first (keepRefusals (a .s) (now (a .octets)) (now (a .marks)) (a .place) (now (a .log))) ≡ Fine
+    → let a = call c .args in
+    first (keepRefusals (a .s) (a .job) (entriesOf (now (a .table))) (now (a .octets)) (now (a .marks)) (a .place) (now (a .log))) ≡ Fine
 fine c = sym (c .before .before .check-keep .ensures) ∙ c .enum-told .given .1
 
 check-keep-requires : tie.Need-check-keep-requires
@@ -30,13 +32,13 @@ same-length : tie.Need-same-length
 same-length c = search needs
 
 returns : tie.Need-returns
-returns c = sym (walk-refused _ _ _ _ _ _ _ (sym (c .before .before .before .check-keep .ensures) ∙ c .before .checked .given .1))
+returns c = sym (walk-refused _ _ _ _ _ _ _ _ _ (sym (c .before .before .before .check-keep .ensures) ∙ c .before .checked .given .1))
 
 enum-told : tie.Need-enum-told
 enum-told c = search needs
 
 sub-pays : tie.Need-sub-pays
-sub-pays c = let k = passed _ _ _ _ (keep-fine _ _ _ _ _ (fine c) .0) .inside in omega arith
+sub-pays c = let k = passed _ _ _ _ _ _ (keep-fine _ _ _ _ _ _ _ (fine c) .0) .inside in omega arith
 
 pays-requires : tie.Need-pays-requires
 pays-requires c κs = search needs

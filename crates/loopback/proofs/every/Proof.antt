@@ -5,10 +5,13 @@ use Rattle.loopback.proofs.every.Statement.{statement}
 use Rattle.loopback.proofs.every.Tie as tie
 
 abbrev Inv-loop : tie.InvT-loop
-Inv-loop name octets marks state₀ at₀ k₀ state at k = k ≤ 16
+Inv-loop name octets marks none state₀ at₀ k₀ state at k = k ≤ 16
 
 abbrev μ-loop : tie.MeasureT-loop
-μ-loop name octets marks state₀ at₀ k₀ state at k = 16 - k
+μ-loop name octets marks none state₀ at₀ k₀ state at k = 16 - k
+
+empty-requires : tie.Need-empty-requires Inv-loop μ-loop
+empty-requires c κs = search needs
 
 fresh-state-requires : tie.Need-fresh-state-requires Inv-loop μ-loop
 fresh-state-requires c κs = search needs
@@ -49,6 +52,7 @@ every-spec =
     (tie.spec
     Inv-loop
     μ-loop
+    empty-requires
     fresh-state-requires
     loop-holds
     settings-requires

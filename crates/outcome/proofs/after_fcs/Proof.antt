@@ -8,6 +8,7 @@ use Rattle.line.proofs.Tables.{first-other}
 use Rattle.station.specs.declared.Outcome.{Outcome}
 use Rattle.station.specs.declared.Outcome.the-variants.{WrongLength, Filtered, PauseTaken, PfcTaken, ControlDropped, HandedOut}
 use Rattle.fields.specs.Places.{laidOut}
+use Rattle.table.specs.Entries.{ownEntries}
 use Rattle.outcome.specs.Steps.{lateOutcomes}
 use Rattle.outcome.proofs.Rules.{after, row-holds, row-passed}
 use Rattle.outcome.proofs.after_fcs.Statement.{statement}
@@ -15,7 +16,7 @@ use Rattle.outcome.proofs.after_fcs.Tie as tie
 
 -- the table, seen from each place behind a row
 abbrev rows : tie.Start → Table Outcome
-rows c = let f = now (c .args .f) in lateOutcomes (c .args .s) f (laidOut (c .args .tags) f)
+rows c = let a = c .args in let f = now (a .f) in lateOutcomes (a .s) (ownEntries (a .job) (now (a .table))) f (laidOut (a .tags) f)
 
 abbrev past : ℕ → tie.Start → Type 0
 past n c = first (rows c) ≡ first (after n (rows c))

@@ -2,10 +2,12 @@
 use Prim.Native.Nat.{ℕ}
 use mathlib.Core.Path.{_≡_, sym, ap, ap₂, _∙_}
 use mathlib.Core.List.{List}
+use mathlib.Core.Option.{Option}
 use lib.ListN.{length}
 use denote.Ref.{now}
 use borrow.Author.Needs.{needs}
 use Rattle.line.specs.Table.{Table, first}
+use Rattle.station.specs.declared.Address.{Address}
 use Rattle.station.specs.declared.Outcome.{Outcome}
 use Rattle.station.specs.declared.Outcome.the-variants.{Oversized, WrongFcs}
 use Rattle.fields.specs.declared.Layout.{Layout}
@@ -15,6 +17,7 @@ use Rattle.fields.proofs.Places.{laid-own}
 use Rattle.fcs.specs.Fcs.{fcsOf, fcsOctets}
 use Rattle.line.specs.Octets.{sameOctets}
 use mathlib.Core.Bool.{not}
+use Rattle.table.specs.Entries.{ownEntries}
 use Rattle.frame.proofs.Fcs.{wrong-by}
 use Rattle.frame.specs.Frame.{overLimit, oversized, covered, lastFour, wrongFcs}
 use Rattle.outcome.specs.Outcomes.{frameOf, outcome, checkMade}
@@ -34,15 +37,18 @@ framing c = c .before .before
 abbrev counting : tie.After-differs → tie.After-tag-count
 counting c = c .before .before .before .before
 
--- the frame of the run, and the rows that rules 1 to 3 leave
+-- the job's own entries, the frame of the run, and the rows that rules 1 to 3 leave
+abbrev own : tie.After-enum-told → List (Option Address)
+own c = let a = call c .args in ownEntries (a .job) (now (a .table))
+
 abbrev frame : tie.After-tag-count → List ℕ
 frame c = frameOf (now (call (framing c) .args .run))
 
 abbrev rows : tie.After-enum-told → Table Outcome
-rows c = let a = call c .args in late (a .s) (now (a .run)) (a .by)
+rows c = let a = call c .args in late (a .s) (own c) (now (a .run)) (a .by)
 
 abbrev past : ℕ → tie.After-enum-told → Type 0
-past n c = let a = call c .args in outcome (a .s) (now (a .run)) (a .by) ≡ first (after n (rows c))
+past n c = let a = call c .args in outcome (a .s) (own c) (now (a .run)) (a .by) ≡ first (after n (rows c))
 
 -- what is found is that frame and its tags
 frame-is : (c : tie.After-tag-count) → now (c .before .frame-of .result) ≡ frame c
@@ -66,7 +72,7 @@ fcs-is c =
     ∙ wrong-by (frame (counting c)) _ (check-is c)
 
 past-0 : (c : tie.After-enum-told) → past 0 c
-past-0 c = outcome-framed _ _ _ (sym (c .before .before .before-tags .ensures) ∙ c .enum-told .given .1)
+past-0 c = outcome-framed _ _ _ _ (sym (c .before .before .before-tags .ensures) ∙ c .enum-told .given .1)
 
 past-1 : (c : tie.Else1) → past 1 (framing (c .before .before))
 past-1 c = row-passed Oversized _ (past-0 (framing (c .before .before))) (limit-is (c .before)) (c .if1 .left)
@@ -83,7 +89,7 @@ enum-known-e c = search needs
 returns : tie.Need-returns
 returns c =
     let e = sym (c .before .before .before .before-tags .ensures) ∙ c .before .e .given .1 in
-    told _ _ _ _ _ (sym (outcome-decided _ _ _ _ e)) (early-made _ _ _ _ e)
+    told _ _ _ _ _ _ (sym (outcome-decided _ _ _ _ _ e)) (early-made _ _ _ _ e)
 
 enum-told : tie.Need-enum-told
 enum-told c = search needs
@@ -99,7 +105,7 @@ oversized-requires c κs = search needs
 
 returns-2 : tie.Need-returns-2
 returns-2 c =
-    told _ _ _ _ _ (row-holds Oversized _ (past-0 (framing (c .before .before))) (limit-is (c .before)) (c .if1 .taken)) (none-made _)
+    told _ _ _ _ _ _ (row-holds Oversized _ (past-0 (framing (c .before .before))) (limit-is (c .before)) (c .if1 .taken)) (none-made _)
 
 check-of-requires : tie.Need-check-of-requires
 check-of-requires c κs = search needs
@@ -109,7 +115,7 @@ differs-requires c κs = search needs
 
 returns-3 : tie.Need-returns-3
 returns-3 c =
-    told _ _ _ _ _ (row-holds WrongFcs _ (past-1 (c .before .before .before)) (fcs-is (c .before)) (c .if2 .taken)) (check-is (c .before) ∙ wrong-made _)
+    told _ _ _ _ _ _ (row-holds WrongFcs _ (past-1 (c .before .before .before)) (fcs-is (c .before)) (c .if2 .taken)) (check-is (c .before) ∙ wrong-made _)
 
 after-fcs-requires : tie.Need-after-fcs-requires
 after-fcs-requires c κs = search needs
@@ -119,13 +125,14 @@ returns-4 c =
     let d = c .before .before in
     let p = counting d in
     let s = call (framing p) .args .s in
-    let late : c .after-fcs .result ≡ first (lateOutcomes s (frame p) (layoutOf (frame p))) =
+    let es = own (framing p) in
+    let late : c .after-fcs .result ≡ first (lateOutcomes s es (frame p) (layoutOf (frame p))) =
     c .after-fcs .ensures
-    ∙ ap₂ (λ (f : List ℕ) (n : ℕ). first (lateOutcomes s f (laidOut n f))) (frame-is p) (tags-are p)
-    ∙ ap (λ (l : Layout). first (lateOutcomes s (frame p) l)) (laid-own (frame p))
+    ∙ ap₂ (λ (f : List ℕ) (n : ℕ). first (lateOutcomes s es f (laidOut n f))) (frame-is p) (tags-are p)
+    ∙ ap (λ (l : Layout). first (lateOutcomes s es (frame p) l)) (laid-own (frame p))
     in
-    told _ _ _ _ _ (late ∙ sym (past-2 (c .before)))
-    (check-is d ∙ late-made s (frame p) (layoutOf (frame p)) ∙ ap (λ (o : Outcome). checkMade o (frame p)) (sym late))
+    told _ _ _ _ _ _ (late ∙ sym (past-2 (c .before)))
+    (check-is d ∙ late-made s es (frame p) (layoutOf (frame p)) ∙ ap (λ (o : Outcome). checkMade o (frame p)) (sym late))
 
 pub judge-spec : {M : Type 1} → statement M
 judge-spec =

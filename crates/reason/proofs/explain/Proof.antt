@@ -1,6 +1,7 @@
 -- `reason::explain` meets its contract: four ways out, each by the law of its case. Assumes nothing.
 use mathlib.Core.Path.{_≡_, sym, ap, ap₂, _∙_}
 use mathlib.Core.List.{List}
+use mathlib.Core.Option.{Option}
 use native.Mathlib.Omega.{arith}
 use Prim.Native.Nat.{ℕ, _+_, _-_, _≤_, _<_}
 use lib.ListN.{length, getD, length-take, length-drop}
@@ -10,10 +11,12 @@ use Rattle.line.specs.declared.Found.the-variants.{At}
 use Rattle.line.specs.Line.{capture, findStart, findControl}
 use Rattle.line.specs.Table.{first}
 use Rattle.line.proofs.Places.{start-found, control-found}
+use Rattle.station.specs.declared.Address.{Address}
 use Rattle.station.specs.declared.Checked.the-variants.{Fine}
 use Rattle.station.specs.declared.Outcome.{Outcome}
 use Rattle.outcome.specs.declared.Judged.{Judged}
 use Rattle.outcome.specs.Outcomes.{outcome, frameOf, checkMade, judged}
+use Rattle.table.specs.Entries.{entriesOf, ownEntries}
 use Rattle.receive.specs.Reading.{readRefusals}
 use Rattle.receive.proofs.Refusals.{passed}
 use Rattle.reason.specs.declared.Reason.{Reason}
@@ -38,7 +41,10 @@ starting c = c .before .before .before .before
 abbrev ending : tie.After-judge → tie.After-known-told3
 ending c = c .before .before .before .before
 
--- the octets, the Start's place, that of the end of its run, and the run
+-- the job's own entries, the octets, the Start's place, that of the end of its run, and the run
+abbrev own : tie.After-known-told2 → List (Option Address)
+own c = let a = call (passing c) .args in ownEntries (a .job) (now (a .table))
+
 abbrev octets : tie.After-known-told2 → List ℕ
 octets c = now (call (passing c) .args .octets)
 
@@ -52,7 +58,8 @@ abbrev run : tie.After-known-told3 → List ℕ
 run c = between (octets (starting c)) (start (starting c) + 1) (end c)
 
 -- what each branch knows: the call is not refused, where the Start is, and where its run ends
-fine : (c : tie.After-enum-told) → let a = call c .args in first (readRefusals (a .s) (now (a .octets)) (now (a .marks)) (a .place)) ≡ Fine
+fine : (c : tie.After-enum-told) → let a = call c .args in
+    first (readRefusals (a .s) (a .job) (entriesOf (now (a .table))) (now (a .octets)) (now (a .marks)) (a .place)) ≡ Fine
 fine c = sym (c .before .before .check-read .ensures) ∙ c .enum-told .given .1
 
 found-start : (c : tie.After-known-told2)
@@ -65,17 +72,17 @@ found-end c = sym (c .before .before .before .find-control .ensures) ∙ c .befo
 
 -- so both lie inside the buffers, and these are small
 start-inside : (c : tie.After-known-told2) → (length (octets c) ≤ 65536) × (start c < length (octets c))
-start-inside c = let k = passed _ _ _ _ (fine (passing c)) in (k .small, start-found _ _ (k .even) _ _ (found-start c) .1)
+start-inside c = let k = passed _ _ _ _ _ _ (fine (passing c)) in (k .small, start-found _ _ (k .even) _ _ (found-start c) .1)
 
 end-inside : (c : tie.After-known-told3) → (start (starting c) + 1 ≤ end c) × (end c < length (octets (starting c)))
 end-inside c =
-    let k = passed _ _ _ _ (fine (passing (starting c))) in
+    let k = passed _ _ _ _ _ _ (fine (passing (starting c))) in
     let e = control-found _ _ (k .even) _ _ (found-end c) in
     (e .0, e .1)
 
 -- and what is judged is the outcome, with its check
 outcome-is : (c : tie.After-judge)
-    → let k = ending c in c .judge .result .outcome ≡ outcome (call (passing (starting k)) .args .s) (run k) (getD (octets (starting k)) (end k) 0)
+    → let k = ending c in let i = starting k in c .judge .result .outcome ≡ outcome (call (passing i) .args .s) (own i) (run k) (getD (octets i) (end k) 0)
 unfolding judged between
 outcome-is c = ap (λ (j : Judged). j .outcome) (c .judge .ensures)
 
@@ -85,8 +92,8 @@ check-is c = ap (λ (j : Judged). j .check) (c .judge .ensures) ∙ ap (λ (o : 
 
 -- so the reason is that of the run, and the next place is behind it
 why-is : (c : tie.After-reason-of)
-    → let k = ending (c .before .before .before) in
-    c .reason-of .result ≡ reasonOf (call (passing (starting k)) .args .s) (start (starting k)) (run k) (getD (octets (starting k)) (end k) 0)
+    → let k = ending (c .before .before .before) in let i = starting k in
+    c .reason-of .result ≡ reasonOf (call (passing i) .args .s) (own i) (start i) (run k) (getD (octets i) (end k) 0)
 unfolding reasonOf between
 why-is c =
     let j = c .before .before .before in
@@ -108,7 +115,7 @@ enum-known-checked : tie.Need-enum-known-checked
 enum-known-checked c = search needs
 
 returns : tie.Need-returns
-returns c = sym (explain-refused _ _ _ _ _ (sym (c .before .before .before .check-read .ensures) ∙ c .before .checked .given .1))
+returns c = sym (explain-refused _ _ _ _ _ _ _ (sym (c .before .before .before .check-read .ensures) ∙ c .before .checked .given .1))
 
 enum-told : tie.Need-enum-told
 enum-told c = search needs
@@ -123,7 +130,7 @@ enum-told-2 : tie.Need-enum-told-2
 enum-told-2 c = search needs
 
 returns-2 : tie.Need-returns-2
-returns-2 c = sym (explain-none _ _ _ _ (fine (c .before .before .before)) (sym (c .before .before .find-start .ensures) ∙ c .enum-told2 .given .1))
+returns-2 c = sym (explain-none _ _ _ _ _ _ (fine (c .before .before .before)) (sym (c .before .before .find-start .ensures) ∙ c .enum-told2 .given .1))
 
 add-from : tie.Need-add-from
 add-from c = let k = start-inside c in omega arith
@@ -141,7 +148,7 @@ returns-3 : tie.Need-returns-3
 returns-3 c =
     let k = c .before .before .before in
     let unended = sym (c .before .before .find-control .ensures) ∙ c .enum-told3 .given .1 in
-    sym (explain-open _ _ _ _ (fine (passing k)) _ (found-start k) unended)
+    sym (explain-open _ _ _ _ _ _ (fine (passing k)) _ (found-start k) unended)
 
 array-share-prefix-none : tie.Need-array-share-prefix-none
 array-share-prefix-none c = search needs
@@ -189,7 +196,7 @@ returns-4 c =
     let k = ending (c .before .before .before) in
     let i = starting k in
     ap₂ (λ (r : Reason) (n : ℕ). record { answer = Because r; start = start i; next = n }) (why-is c) (next-is k)
-    ∙ sym (explain-ended _ _ _ _ (fine (passing i)) _ (found-start i) _ (found-end k))
+    ∙ sym (explain-ended _ _ _ _ _ _ (fine (passing i)) _ (found-start i) _ (found-end k))
 
 pub explain-spec : {M : Type 1} → statement M
 explain-spec =

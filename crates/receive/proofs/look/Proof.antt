@@ -2,6 +2,7 @@
 use mathlib.Core.Path.{_≡_, sym, ap, _∙_, subst}
 use mathlib.Core.Bool.{false≢true}
 use mathlib.Core.List.{List}
+use mathlib.Core.Option.{Option}
 use mathlib.Core.Logic.{⊎-elim}
 use native.Mathlib.Omega.{arith}
 use Prim.Native.Nat.{ℕ, _+_, _-_, _≤_, _<_}
@@ -12,9 +13,11 @@ use Rattle.receive.proofs.Cases.{read-refused, read-none, read-open, re
 use Rattle.line.specs.Octets.{between}
 use Rattle.line.specs.declared.Found.the-variants.{At}
 use Rattle.line.proofs.Places.{start-found, control-found}
+use Rattle.station.specs.declared.Address.{Address}
 use Rattle.station.specs.declared.Checked.the-variants.{Fine}
 use Rattle.line.specs.Line.{capture, findStart, findControl}
 use Rattle.receive.proofs.Refusals.{passed}
+use Rattle.table.specs.Entries.{entriesOf, ownEntries}
 use Rattle.control.specs.Control.{frameWay, wayCarried}
 use Rattle.control.proofs.Ways.{some-way, no-way}
 use Rattle.outcome.specs.Outcomes.{outcome, frameOf}
@@ -41,7 +44,10 @@ starting c = c .before .before .before .before
 abbrev ending : tie.After-judge → tie.After-known-told3
 ending c = c .before .before .before .before
 
--- the octets, the Start's place and that of the end of its run
+-- the job's own entries, the octets, the Start's place and that of the end of its run
+abbrev own : tie.After-known-told2 → List (Option Address)
+own c = let a = call (passing c) .args in ownEntries (a .job) (now (a .table))
+
 abbrev octets : tie.After-known-told2 → List ℕ
 octets c = now (call (passing c) .args .octets)
 
@@ -52,7 +58,8 @@ abbrev end : tie.After-known-told3 → ℕ
 end c = c .before .end .given .0 .0
 
 -- what each branch knows: the call is not refused, where the Start is, and where its run ends
-fine : (c : tie.After-enum-told) → let a = call c .args in first (readRefusals (a .s) (now (a .octets)) (now (a .marks)) (a .place)) ≡ Fine
+fine : (c : tie.After-enum-told) → let a = call c .args in
+    first (readRefusals (a .s) (a .job) (entriesOf (now (a .table))) (now (a .octets)) (now (a .marks)) (a .place)) ≡ Fine
 fine c = sym (c .before .before .check-read .ensures) ∙ c .enum-told .given .1
 
 found-start : (c : tie.After-known-told2)
@@ -65,11 +72,11 @@ found-end c = sym (c .before .before .before .find-control .ensures) ∙ c .befo
 
 -- so both lie inside the buffers, and these are small
 start-inside : (c : tie.After-known-told2) → (length (octets c) ≤ 65536) × (start c < length (octets c))
-start-inside c = let k = passed _ _ _ _ (fine (passing c)) in (k .small, start-found _ _ (k .even) _ _ (found-start c) .1)
+start-inside c = let k = passed _ _ _ _ _ _ (fine (passing c)) in (k .small, start-found _ _ (k .even) _ _ (found-start c) .1)
 
 end-inside : (c : tie.After-known-told3) → (start (starting c) + 1 ≤ end c) × (end c < length (octets (starting c)))
 end-inside c =
-    let k = passed _ _ _ _ (fine (passing (starting c))) in
+    let k = passed _ _ _ _ _ _ (fine (passing (starting c))) in
     let e = control-found _ _ (k .even) _ _ (found-end c) in
     (e .0, e .1)
 
@@ -83,7 +90,7 @@ returns : tie.Need-returns
 unfolding readOf afterSight
 returns c =
     let refused = sym (c .before .before .before .check-read .ensures) ∙ c .before .checked .given .1 in
-    (λ st. sym (read-refused _ st _ _ _ _ refused), λ h. absurd (false≢true h))
+    (λ st. sym (read-refused _ _ _ st _ _ _ _ refused), λ h. absurd (false≢true h))
 
 enum-told : tie.Need-enum-told
 enum-told c = search needs
@@ -101,7 +108,7 @@ returns-2 : tie.Need-returns-2
 unfolding readOf afterSight
 returns-2 c =
     let none = sym (c .before .before .find-start .ensures) ∙ c .enum-told2 .given .1 in
-    (λ st. sym (read-none _ st _ _ _ (fine (c .before .before .before)) none), λ h. absurd (false≢true h))
+    (λ st. sym (read-none _ _ _ st _ _ _ (fine (c .before .before .before)) none), λ h. absurd (false≢true h))
 
 add-from : tie.Need-add-from
 add-from c = let k = start-inside c in omega arith
@@ -120,7 +127,7 @@ unfolding readOf afterSight
 returns-3 c =
     let k = c .before .before .before in
     let unended = sym (c .before .before .find-control .ensures) ∙ c .enum-told3 .given .1 in
-    (λ st. sym (read-open _ st _ _ _ (fine (passing k)) _ (found-start k) unended), λ h. absurd (false≢true h))
+    (λ st. sym (read-open _ _ _ st _ _ _ (fine (passing k)) _ (found-start k) unended), λ h. absurd (false≢true h))
 
 array-share-prefix-none : tie.Need-array-share-prefix-none
 array-share-prefix-none c = search needs
@@ -159,16 +166,21 @@ frame-way-requires : tie.Need-frame-way-requires
 frame-way-requires c κs = search needs
 
 -- where the ways of the outcome meet, the number is the one that a reading carries
-way-is : (c : tie.At-match4-came) → let k = ending (c .before) in
-    c .match4 .way ≡ wayCarried (call (passing (starting k)) .args .s) (c .before .judge .result .outcome) (frameOf (between (octets (starting k)) (start (starting k) + 1) (end k)))
+abbrev Carried : tie.At-match4-came → Type 0
+Carried c =
+    let k = ending (c .before) in
+    let i = starting k in
+    c .match4 .way ≡ wayCarried (call (passing i) .args .s) (own i) (c .before .judge .result .outcome) (frameOf (between (octets i) (start i + 1) (end k)))
+
+way-is : (c : tie.At-match4-came) → Carried c
 unfolding between
 way-is c =
-    let k = ending (c .before) in
-    let s = call (passing (starting k)) .args .s in
+    let i = starting (ending (c .before)) in
+    let s = call (passing i) .args .s in
     let o = c .before .judge .result .outcome in
-    ⊎-elim
-    (λ w. w .4 ∙ w .3 .ensures ∙ ap (frameWay s) (w .2 .ensures) ∙ some-way s _ o (w .0 .keys1))
-    (λ w. w .1 ∙ no-way s _ o (w .0 .keys2))
+    ⊎-elim {C = Carried c}
+    (λ w. w .4 ∙ w .3 .ensures ∙ ap (frameWay s (own i)) (w .2 .ensures) ∙ some-way s (own i) _ o (w .0 .keys1))
+    (λ w. w .1 ∙ no-way s (own i) _ o (w .0 .keys2))
     (c .match4 .came)
 
 sub-look-run : tie.Need-sub-look-run
@@ -186,7 +198,7 @@ look-run-requires c κs =
     let k = ending (c .before .before) in
     let e = end-inside k in
     let i = start-inside (starting k) in
-    (omega arith, simp length-take (omega arith), way-is (c .before))
+    (omega arith, simp length-take (omega arith))
 
 returns-4 : tie.Need-returns-4
 unfolding between sightOf
@@ -195,15 +207,16 @@ returns-4 c =
     let k = ending o in
     let os = octets (starting k) in
     let a = call (passing (starting k)) .args in
+    let es = own (starting k) in
     let from = start (starting k) in
     let run = between os (from + 1) (end k) in
     let e = end-inside k in
     let n : length run ≡ end k - (from + 1) = simp (length-take, length-drop) (omega arith) in
     let next : from + 1 + length run ≡ end k = omega arith in (
       λ st. ap (λ (l : Sight). readOf os l st) (c .look-run .ensures)
-          ∙ sight-read (a .s) os from run (o .judge .result .outcome) st (ap (between os (from + 1)) next)
-          ∙ ap (readRun (a .s) st from run) (judged-outcome _ _ _ (o .judge .ensures))
-          ∙ sym (read-ended _ st _ _ _ (fine (passing (starting k))) _ (found-start (starting k)) _ (found-end k)),
+          ∙ sight-read (a .s) es os from run (o .judge .result .outcome) _ st (ap (between os (from + 1)) next) (way-is (c .before .before))
+          ∙ ap (readRun (a .s) es st from run) (judged-outcome _ _ _ _ (o .judge .ensures))
+          ∙ sym (read-ended _ _ _ st _ _ _ (fine (passing (starting k))) _ (found-start (starting k)) _ (found-end k)),
       subst (Inside os) (sym (c .look-run .ensures)) (λ h. (omega arith, omega arith)),
     )
 

@@ -91,12 +91,10 @@ returns : tie.Need-returns
 unfolding sightOf
 returns c =
     let k = c .before in
-    let s = call (k .before) in
-    let a = s .args in
-    let made : ℕ → Part → ℕ → Sight =
-    λ word part way. record { answer = Counted (a .o) word part way; start = a .start; next = a .start + 1 + length (now (a .run)) } in
-    ap₂ (λ (word : ℕ) (part : Part). made word part (a .way)) (word-is c) (part-is k)
-    ∙ ap (made (status (a .s) (a .o) (frame (k .before))) (handedPart (a .s) (a .o) (a .start + 8) (frame (k .before)))) (s .pre .2)
+    let a = call (k .before) .args in
+    let made : ℕ → Part → Sight =
+    λ word part. record { answer = Counted (a .o) word part (a .way); start = a .start; next = a .start + 1 + length (now (a .run)) } in
+    ap₂ made (word-is c) (part-is k)
 
 pub look-run-spec : {M : Type 1} → statement M
 look-run-spec =

@@ -4,13 +4,15 @@ use mathlib.Core.Path.{_≡_, sym, _∙_}
 use denote.Ref.{now}
 use borrow.Author.Needs.{needs}
 use Rattle.line.specs.Table.{first}
+use Rattle.table.specs.Entries.{entriesOf}
 use Rattle.receive.specs.Reading.{readRefusals}
 use Rattle.station.specs.declared.Checked.the-variants.{Fine}
 use Rattle.receive.proofs.Walks.{walked-refused}
 use Rattle.receive.proofs.walk.Statement.{statement}
 use Rattle.receive.proofs.walk.Tie as tie
 
-fine : (c : tie.After-enum-told) → let a = c .before .before .before .before .before .args in first (readRefusals (a .s) (now (a .octets)) (now (a .marks)) 0) ≡ Fine
+fine : (c : tie.After-enum-told) → let a = c .before .before .before .before .before .args in
+    first (readRefusals (a .s) (a .job) (entriesOf (now (a .table))) (now (a .octets)) (now (a .marks)) 0) ≡ Fine
 fine c = sym (c .before .before .check-read .ensures) ∙ c .enum-told .given .1
 
 check-read-requires : tie.Need-check-read-requires
@@ -20,7 +22,7 @@ enum-known-checked : tie.Need-enum-known-checked
 enum-known-checked c = search needs
 
 returns : tie.Need-returns
-returns c = sym (walked-refused _ _ _ _ _ (sym (c .before .before .before .check-read .ensures) ∙ c .before .checked .given .1))
+returns c = sym (walked-refused _ _ _ _ _ _ _ (sym (c .before .before .before .check-read .ensures) ∙ c .before .checked .given .1))
 
 enum-told : tie.Need-enum-told
 enum-told c = search needs

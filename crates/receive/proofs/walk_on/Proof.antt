@@ -18,6 +18,7 @@ use Rattle.receive.proofs.Walks.{left, turn-none, turn-open, turn-ended
 use Rattle.receive.specs.Reading.{stateAfter}
 use Rattle.receive.specs.Walk.{walked}
 use Rattle.line.proofs.Places.{start-found, control-found}
+use Rattle.table.specs.Entries.{entriesOf, ownEntries}
 use Rattle.outcome.specs.Outcomes.{outcome, frameOf}
 use Rattle.outcome.proofs.Rules.{judged-outcome}
 use Rattle.station.specs.declared.Outcome.{Outcome}
@@ -28,13 +29,14 @@ use Rattle.receive.proofs.walk_on.Statement.{statement}
 use Rattle.receive.proofs.walk_on.Tie as tie
 
 abbrev Inv-loop : tie.InvT-loop
-Inv-loop t s state octets marks counters₀ timers₀ n₀ at₀ counters timers n at =
-    (left s octets marks n (at-state (state .deficit) counters timers) at ≡ walked s (at-state (state .deficit) counters₀ timers₀) octets marks)
+Inv-loop t s job table state octets marks counters₀ timers₀ n₀ at₀ counters timers n at =
+    (left s (ownEntries job table) octets marks n (at-state (state .deficit) counters timers) at
+    ≡ walked s job (entriesOf table) (at-state (state .deficit) counters₀ timers₀) octets marks)
     × (at ≤ length octets)
     × (n ≤ at)
 
 abbrev μ-loop : tie.MeasureT-loop
-μ-loop t s state octets marks counters₀ timers₀ n₀ at₀ counters timers n at = length octets - at
+μ-loop t s job table state octets marks counters₀ timers₀ n₀ at₀ counters timers n at = length octets - at
 
 -- the places that others look back to: the call, from a turn of the loop; the turn, from where its Start is found; that, from where the end of its
 -- run is found; that, from where the outcome is known; and that, from the end of the turn
@@ -75,17 +77,17 @@ found-end c = sym (c .before .before .before .find-control .ensures) ∙ c .befo
 start-inside : (c : tie.After-known-told Inv-loop μ-loop)
     → (turning c .loop .at ≤ start c) × (start c < length (octets c)) × (length (octets c) ≤ 65536)
 start-inside c =
-    let k = passed _ _ _ _ (call (turning c) .pre .1) in
+    let k = passed _ _ _ _ _ _ (call (turning c) .pre .1) in
     let f = start-found _ _ (k .even) _ _ (found-start c) in
     (f .0, f .1, k .small)
 
 end-inside : (c : tie.After-known-told2 Inv-loop μ-loop) → (start (starting c) + 1 ≤ end c) × (end c < length (octets (starting c)))
 end-inside c =
-    let e = control-found _ _ (passed _ _ _ _ (call (turning (starting c)) .pre .1) .even) _ _ (found-end c) in
+    let e = control-found _ _ (passed _ _ _ _ _ _ (call (turning (starting c)) .pre .1) .even) _ _ (found-end c) in
     (e .0, e .1)
 
 loop-holds : tie.Need-loop-holds Inv-loop μ-loop
-loop-holds c = (walked-from _ _ _ _ (c .before .before .before .before .before .pre .1), omega arith, omega arith)
+loop-holds c = (walked-from _ _ _ _ _ _ (c .before .before .before .before .before .pre .1), omega arith, omega arith)
 
 find-start-requires : tie.Need-find-start-requires Inv-loop μ-loop
 find-start-requires c κs = search needs
@@ -99,7 +101,7 @@ enum-told c = search needs
 returns : tie.Need-returns Inv-loop μ-loop
 returns c =
     let none = sym (c .before .before .find-start .ensures) ∙ c .enum-told .given .1 in
-    sym (turn-none _ _ _ _ _ _ none) ∙ c .before .before .before .loop .inv .0
+    sym (turn-none _ _ _ _ _ _ _ none) ∙ c .before .before .before .loop .inv .0
 
 add-from : tie.Need-add-from Inv-loop μ-loop
 add-from c = let k = start-inside c in omega arith
@@ -117,7 +119,7 @@ returns-2 : tie.Need-returns-2 Inv-loop μ-loop
 returns-2 c =
     let k = c .before .before .before in
     let unended = sym (c .before .before .find-control .ensures) ∙ c .enum-told2 .given .1 in
-    sym (turn-open _ _ _ _ _ _ _ (found-start k) unended) ∙ turning k .loop .inv .0
+    sym (turn-open _ _ _ _ _ _ _ _ (found-start k) unended) ∙ turning k .loop .inv .0
 
 sub-judge : tie.Need-sub-judge Inv-loop μ-loop
 sub-judge c = let e = end-inside c in omega arith
@@ -183,14 +185,15 @@ loop-again c =
     let k = ending (settled c) in
     let l = turning (starting k) in
     let a = call l .args in
-    let even = passed _ _ _ _ (call l .pre .1) .even in
-    let o = judged-outcome _ _ _ (settled c .judge .ensures) in
+    let own = ownEntries (a .job) (now (a .table)) in
+    let even = passed _ _ _ _ _ _ (call l .pre .1) .even in
+    let o = judged-outcome _ _ _ _ (settled c .judge .ensures) in
     let s = start-inside (starting k) in
     let e = end-inside k in (
-      ap₂ (λ (cs : List ℕ) (ts : List Slots). left (a .s) (now (a .octets)) (now (a .marks)) (l .loop .n + 1) (at-state (a .state .deficit) cs ts) (end k))
+      ap₂ (λ (cs : List ℕ) (ts : List Slots). left (a .s) own (now (a .octets)) (now (a .marks)) (l .loop .n + 1) (at-state (a .state .deficit) cs ts) (end k))
           (c .before .before .count .ensures ∙ ap (λ (x : Outcome). counted x (l .loop .counters)) o)
           (timers-now c ∙ ap (λ (x : Outcome). timersAfter x (frame c) (l .loop .timers)) o)
-          ∙ sym (turn-ended _ _ _ _ _ _ _ (found-start (starting k)) even (end k) (found-end k) (e .0) (e .1))
+          ∙ sym (turn-ended _ _ _ _ _ _ _ _ (found-start (starting k)) even (end k) (found-end k) (e .0) (e .1))
           ∙ l .loop .inv .0,
       omega arith,
       omega arith,

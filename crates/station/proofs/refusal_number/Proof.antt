@@ -43,6 +43,24 @@ enum-told-12 c = search needs
 enum-told-13 : tie.Need-enum-told-13
 enum-told-13 c = search needs
 
+enum-told-14 : tie.Need-enum-told-14
+enum-told-14 c = search needs
+
+enum-told-15 : tie.Need-enum-told-15
+enum-told-15 c = search needs
+
+enum-told-16 : tie.Need-enum-told-16
+enum-told-16 c = search needs
+
+enum-told-17 : tie.Need-enum-told-17
+enum-told-17 c = search needs
+
+enum-told-18 : tie.Need-enum-told-18
+enum-told-18 c = search needs
+
+enum-told-19 : tie.Need-enum-told-19
+enum-told-19 c = search needs
+
 returns : tie.Need-returns
 returns c = rw (c .enum-told .given .1) refl
 
@@ -82,6 +100,24 @@ returns-12 c = rw (c .enum-told12 .given .1) refl
 returns-13 : tie.Need-returns-13
 returns-13 c = rw (c .enum-told13 .given .1) refl
 
+returns-14 : tie.Need-returns-14
+returns-14 c = rw (c .enum-told14 .given .1) refl
+
+returns-15 : tie.Need-returns-15
+returns-15 c = rw (c .enum-told15 .given .1) refl
+
+returns-16 : tie.Need-returns-16
+returns-16 c = rw (c .enum-told16 .given .1) refl
+
+returns-17 : tie.Need-returns-17
+returns-17 c = rw (c .enum-told17 .given .1) refl
+
+returns-18 : tie.Need-returns-18
+returns-18 c = rw (c .enum-told18 .given .1) refl
+
+returns-19 : tie.Need-returns-19
+returns-19 c = rw (c .enum-told19 .given .1) refl
+
 pub refusal-number-spec : {M : Type 1} → statement M
 refusal-number-spec =
     tie.close
@@ -99,6 +135,12 @@ refusal-number-spec =
     enum-told-11
     enum-told-12
     enum-told-13
+    enum-told-14
+    enum-told-15
+    enum-told-16
+    enum-told-17
+    enum-told-18
+    enum-told-19
     returns
     returns-2
     returns-3
@@ -111,4 +153,10 @@ refusal-number-spec =
     returns-10
     returns-11
     returns-12
-    returns-13)
+    returns-13
+    returns-14
+    returns-15
+    returns-16
+    returns-17
+    returns-18
+    returns-19)

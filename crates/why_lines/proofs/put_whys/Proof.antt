@@ -1,12 +1,14 @@
 -- `why_lines::put_whys` meets its contract. The invariant: with the lines of the calls left, the output is whole. The measure is how many are
 -- left. Assumes nothing.
 use native.Mathlib.Omega.{arith}
-use mathlib.Core.Path.{_≡_, refl, ap, _∙_}
-use Prim.Native.Nat.{_+_, _*_, _≤_, _<_}
+use mathlib.Core.Path.{_≡_, refl, ap₂, _∙_}
+use mathlib.Core.List.{List}
+use Prim.Native.Nat.{ℕ, _+_, _*_, _≤_, _<_}
 use borrow.Author.Needs.{needs}
 use lib.ListN.{length}
 use denote.Ref.{now}
 use Rattle.station.specs.declared.Settings.{Settings}
+use Rattle.table.specs.Entries.{entriesOf}
 use Rattle.lines.proofs.Puts.{Rest, rest-start, rest-more, rest-last}
 use Rattle.why_lines.specs.Whys.{explainedFrom, whysOf, captureWhys}
 use Rattle.why_lines.proofs.Laws.{whys-given, whys-refused, whys-nothing, whys-open, whys-none, whys-all}
@@ -14,21 +16,21 @@ use Rattle.why_lines.proofs.put_whys.Statement.{statement}
 use Rattle.why_lines.proofs.put_whys.Tie as tie
 
 abbrev Inv-loop : tie.InvT-loop
-Inv-loop octets marks out₀ s place₀ n₀ at₀ left₀ out place n at left =
+Inv-loop octets marks out₀ s none place₀ n₀ at₀ left₀ out place n at left =
     (length out ≡ length out₀)
     × (at + 96 * (left + 1) ≤ length out)
     × (n + left ≡ length octets + 1)
-    × Rest out₀ (captureWhys octets marks) out at (whysOf n (explainedFrom left s octets marks place))
+    × Rest out₀ (captureWhys octets marks) out at (whysOf n (explainedFrom left s 0 (entriesOf none) octets marks place))
 
 abbrev μ-loop : tie.MeasureT-loop
-μ-loop octets marks out₀ s place₀ n₀ at₀ left₀ out place n at left = left
+μ-loop octets marks out₀ s none place₀ n₀ at₀ left₀ out place n at left = left
 
 -- the call, seen from a turn of the loop; that turn, from where its Start is explained; and that, from where a last line is written
 abbrev call : tie.At-loop Inv-loop μ-loop → tie.Start Inv-loop μ-loop
-call c = c .before .before .before .before .before
+call c = c .before .before .before .before .before .before
 
 abbrev turn : tie.After-explain Inv-loop μ-loop → tie.At-loop Inv-loop μ-loop
-turn c = c .before .before
+turn c = c .before .before .before
 
 -- the octets are few enough that their number, and one more, fits: the output is longer
 few : (c : tie.Start Inv-loop μ-loop) → length (now (c .args .octets)) + 2 ≤ length (now (c .args .out))
@@ -40,18 +42,23 @@ room c = omega arith
 settings-requires : tie.Need-settings-requires Inv-loop μ-loop
 settings-requires c κs = search needs
 
+empty-requires : tie.Need-empty-requires Inv-loop μ-loop
+empty-requires c κs = search needs
+
 add-left : tie.Need-add-left Inv-loop μ-loop
 add-left c = search needs
 
 loop-holds : tie.Need-loop-holds Inv-loop μ-loop
 loop-holds c =
-    let a = c .before .before .before .before .args in
+    let a = c .before .before .before .before .before .args in
     let os = now (a .octets) in
     let ms = now (a .marks) in (
       refl,
       search needs,
       search needs,
-      rest-start (ap (λ (s : Settings). whysOf 0 (explainedFrom (length os + 1) s os ms 0)) (c .settings .ensures) ∙ whys-all os ms),
+      rest-start
+          (ap₂ (λ (s : Settings) (t : List ℕ). whysOf 0 (explainedFrom (length os + 1) s 0 (entriesOf t) os ms 0)) (c .before .settings .ensures) (c .empty .ensures)
+          ∙ whys-all os ms),
     )
 
 explain-requires : tie.Need-explain-requires Inv-loop μ-loop
@@ -72,7 +79,7 @@ returns c =
     let told = p .before .before in
     let e = told .before .before in
     let more : 0 < turn e .loop .left = omega arith in
-    let is = whys-refused _ _ _ _ _ _ more _ (e .explain .ensures) _ (told .enum-told .given .1) in
+    let is = whys-refused _ _ _ _ _ _ _ _ more _ (e .explain .ensures) _ (told .enum-told .given .1) in
     (rest-last (turn e .loop .inv .3) (p .put-last .ensures .0) is, omega arith)
 
 enum-told-2 : tie.Need-enum-told-2 Inv-loop μ-loop
@@ -90,7 +97,7 @@ returns-2 c =
     let told = p .before .before in
     let e = told .before .before in
     let more : 0 < turn e .loop .left = omega arith in
-    let is = whys-nothing _ _ _ _ _ _ more _ (e .explain .ensures) (told .enum-told2 .given .1) in
+    let is = whys-nothing _ _ _ _ _ _ _ _ more _ (e .explain .ensures) (told .enum-told2 .given .1) in
     (rest-last (turn e .loop .inv .3) (p .put-last2 .ensures .0) is, omega arith)
 
 enum-told-3 : tie.Need-enum-told-3 Inv-loop μ-loop
@@ -108,7 +115,7 @@ returns-3 c =
     let told = p .before .before in
     let e = told .before .before in
     let more : 0 < turn e .loop .left = omega arith in
-    let is = whys-open _ _ _ _ _ _ more _ (e .explain .ensures) (told .enum-told3 .given .1) in
+    let is = whys-open _ _ _ _ _ _ _ _ more _ (e .explain .ensures) (told .enum-told3 .given .1) in
     (rest-last (turn e .loop .inv .3) (p .put-last3 .ensures .0) is, omega arith)
 
 enum-known-a : tie.Need-enum-known-a Inv-loop μ-loop
@@ -143,7 +150,7 @@ loop-again c =
       search needs,
       omega arith,
       omega arith,
-      rest-more (l .loop .inv .3) (p .0) (whys-given _ _ _ _ _ _ more _ (e .explain .ensures) _ (k .a .given .1)),
+      rest-more (l .loop .inv .3) (p .0) (whys-given _ _ _ _ _ _ _ _ more _ (e .explain .ensures) _ (k .a .given .1)),
     )
 
 put-last-requires-4 : tie.Need-put-last-requires-4 Inv-loop μ-loop
@@ -157,7 +164,7 @@ returns-4 c =
     let p = c .before .before in
     let l = p .before .before .before in
     let none : l .loop .left ≡ 0 = omega arith in
-    (rest-last (l .loop .inv .3) (p .put-last4 .ensures .0) (rw none (whys-none _ _ _ _ _)), omega arith)
+    (rest-last (l .loop .inv .3) (p .put-last4 .ensures .0) (rw none (whys-none _ _ _ _ _ _ _)), omega arith)
 
 pub put-whys-spec : {M : Type 1} → statement M
 put-whys-spec =
@@ -166,6 +173,7 @@ put-whys-spec =
     Inv-loop
     μ-loop
     settings-requires
+    empty-requires
     add-left
     loop-holds
     explain-requires

@@ -1,5 +1,6 @@
 //! Captures: frames one behind the other, many of them damaged, and noise.
 use super::frames::frame;
+use super::listeners::Listener;
 use super::TERMINATE;
 use super::{BEYOND_32_BITS, ERROR, IDLE, PREAMBLE, SEQUENCE, START, SYMBOLS, TABLES_FROM};
 use crate::prng::Prng;
@@ -94,7 +95,7 @@ impl Pen<'_> {
     }
 
     /// A frame on the line, with what stands before it.
-    fn frame(&mut self, symbols: &mut Symbols, s: &Settings) {
+    fn frame(&mut self, symbols: &mut Symbols, s: &Settings, l: &Listener) {
         for _ in 0..self.prng.pick(&[0, 0, 0, 1, 5, 11]) {
             let mark = self.mark();
             symbols.push(IDLE, mark);
@@ -109,7 +110,7 @@ impl Pen<'_> {
         let mark = self.mark();
         symbols.push(START, mark);
         symbols.data(&PREAMBLE);
-        symbols.data(&frame(self.prng, s));
+        symbols.data(&frame(self.prng, s, l));
         let mark = self.mark();
         symbols.push(TERMINATE, mark);
         if self.prng.one_in(3) {
@@ -168,18 +169,18 @@ impl Pen<'_> {
     }
 
     /// Frames until there are so many symbols or more.
-    fn frames(&mut self, s: &Settings, symbols: usize) -> Symbols {
+    fn frames(&mut self, (s, l): (&Settings, &Listener), symbols: usize) -> Symbols {
         let mut capture = Symbols::default();
         while capture.len() < symbols {
-            self.frame(&mut capture, s);
+            self.frame(&mut capture, s, l);
         }
         capture
     }
 
     /// As many symbols as a walk makes tables for, or one less; every second time the last run ends.
-    fn tabled(&mut self, s: &Settings) -> Symbols {
+    fn tabled(&mut self, s: &Settings, l: &Listener) -> Symbols {
         let n = self.prng.pick(&[TABLES_FROM - 1, TABLES_FROM]);
-        let mut symbols = self.frames(s, n);
+        let mut symbols = self.frames((s, l), n);
         symbols.resize(n);
         if self.prng.coin() {
             let mark = self.mark();
@@ -189,7 +190,7 @@ impl Pen<'_> {
     }
 
     /// About as many symbols as a call takes.
-    fn large(&mut self, s: &Settings) -> Symbols {
+    fn large(&mut self, s: &Settings, l: &Listener) -> Symbols {
         let n = self
             .prng
             .pick(&[SYMBOLS, SYMBOLS, SYMBOLS, SYMBOLS + 1, 70_000]);
@@ -214,7 +215,7 @@ impl Pen<'_> {
                 symbols
             }
             _ => {
-                let mut symbols = self.frames(s, n);
+                let mut symbols = self.frames((s, l), n);
                 symbols.resize(n);
                 symbols
             }
@@ -223,12 +224,12 @@ impl Pen<'_> {
 }
 
 /// Any capture; most have some hundred symbols.
-pub fn capture(prng: &mut Prng, s: &Settings) -> Symbols {
+pub fn capture(prng: &mut Prng, s: &Settings, l: &Listener) -> Symbols {
     let odd = prng.one_in(4);
     let mut pen = Pen { prng, odd };
     let mut symbols = match pen.prng.below(256) {
-        0 => pen.large(s),
-        1 => pen.tabled(s),
+        0 => pen.large(s, l),
+        1 => pen.tabled(s, l),
         2..=3 => Symbols::default(),
         4..=8 => Symbols {
             octets: vec![START, START, TERMINATE],
@@ -240,7 +241,7 @@ pub fn capture(prng: &mut Prng, s: &Settings) -> Symbols {
         }
         _ => {
             let n = pen.prng.between(1, 400);
-            pen.frames(s, n)
+            pen.frames((s, l), n)
         }
     };
     if prng.one_in(6) {
@@ -255,9 +256,26 @@ pub fn capture(prng: &mut Prng, s: &Settings) -> Symbols {
 }
 
 /// A capture as long as a walk makes tables for, or one symbol shorter.
-pub fn tabled_capture(prng: &mut Prng, s: &Settings) -> Symbols {
+pub fn tabled_capture(prng: &mut Prng, s: &Settings, l: &Listener) -> Symbols {
     let odd = prng.one_in(4);
-    Pen { prng, odd }.tabled(s)
+    Pen { prng, odd }.tabled(s, l)
+}
+
+/// A capture for the screen: mostly some frames, at times nothing or too much.
+pub fn shown_capture(prng: &mut Prng, s: &Settings, l: &Listener) -> Symbols {
+    match prng.below(64) {
+        0 => return longest_capture(prng),
+        1..=2 => return Symbols::default(),
+        3..=8 => return capture(prng, s, l),
+        _ => {}
+    }
+    let odd = prng.one_in(4);
+    let n = prng.between(1, 400);
+    let mut symbols = Pen { prng, odd }.frames((s, l), n);
+    if prng.one_in(12) {
+        unequal(prng, &mut symbols);
+    }
+    symbols
 }
 
 /// As many symbols as a call takes, or one more: Idles, and a few Starts.
@@ -270,12 +288,16 @@ pub fn longest_capture(prng: &mut Prng) -> Symbols {
     symbols
 }
 
+/// The places of the Starts in a capture.
+pub fn start_places(symbols: &Symbols) -> impl Iterator<Item = usize> + '_ {
+    let pairs = symbols.octets.iter().zip(&symbols.marks).enumerate();
+    let starts = pairs.filter(|(_, (&octet, &mark))| octet == START && mark != 0);
+    starts.map(|(place, _)| place)
+}
+
 /// How many Starts stand in a capture.
 pub fn starts(symbols: &Symbols) -> usize {
-    let pairs = symbols.octets.iter().zip(&symbols.marks);
-    pairs
-        .filter(|(&octet, &mark)| octet == START && mark != 0)
-        .count()
+    start_places(symbols).count()
 }
 
 /// One of the two a little or a lot shorter or longer.

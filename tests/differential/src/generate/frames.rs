@@ -1,5 +1,6 @@
 //! Frames from destination to FCS, at the limits of the rules more often than not.
-use super::settings::{control_destination, destination, station};
+use super::listeners::{heard, heard_by_control, Listener};
+use super::settings::station;
 use super::tags::{tag_control, tag_count, TAG_KINDS};
 use super::{IDLE, MOST_TAGS, START, TERMINATE};
 use crate::prng::Prng;
@@ -14,12 +15,12 @@ const TYPES: [u16; 13] = [
 const TOO_MANY: [usize; 3] = [9, 10, 12];
 
 /// A frame with the right FCS.
-pub fn frame(prng: &mut Prng, s: &Settings) -> Vec<u8> {
+pub fn frame(prng: &mut Prng, s: &Settings, l: &Listener) -> Vec<u8> {
     match prng.below(24) {
-        0..=8 => by_length(prng, s),
-        9..=12 => by_type(prng, s),
-        13..=19 => control(prng, s),
-        _ => sized(prng, s),
+        0..=8 => by_length(prng, s, l),
+        9..=12 => by_type(prng, s, l),
+        13..=19 => control(prng, s, l),
+        _ => sized(prng, s, l),
     }
 }
 
@@ -57,7 +58,7 @@ pub(super) fn build(prng: &mut Prng, to: [u8; 6], tags: usize, field: u16, data:
 }
 
 /// The field is a length, or would be one; the data is as long, or off by one.
-fn by_length(prng: &mut Prng, s: &Settings) -> Vec<u8> {
+fn by_length(prng: &mut Prng, s: &Settings, l: &Listener) -> Vec<u8> {
     let field = match prng.below(16) {
         0..=7 => prng.pick(&[0, 1, 14, 15, 42, 43, 44, 45, 46, 47]),
         8..=12 => prng.between(0, 160),
@@ -78,20 +79,20 @@ fn by_length(prng: &mut Prng, s: &Settings) -> Vec<u8> {
         9..=11 if field > 1500 => 46,
         _ => right,
     };
-    let to = destination(prng, s);
+    let to = heard(prng, s, l);
     let data = data(prng, length);
     build(prng, to, tags, field as u16, &data)
 }
 
 /// The field is a type, a tag's or a control frame's.
-fn by_type(prng: &mut Prng, s: &Settings) -> Vec<u8> {
+fn by_type(prng: &mut Prng, s: &Settings, l: &Listener) -> Vec<u8> {
     let field = prng.pick(&TYPES);
     let length = match prng.below(4) {
         0 => 46,
         1 => prng.between(42, 50),
         _ => prng.between(46, 160),
     };
-    let to = destination(prng, s);
+    let to = heard(prng, s, l);
     let tags = tag_count(prng, &TOO_MANY);
     let data = data(prng, length);
     build(prng, to, tags, field, &data)
@@ -104,7 +105,7 @@ pub fn quanta(prng: &mut Prng) -> u16 {
 }
 
 /// A control frame: pause, PFC or another, seldom longer than it need be.
-pub(super) fn control(prng: &mut Prng, s: &Settings) -> Vec<u8> {
+pub(super) fn control(prng: &mut Prng, s: &Settings, l: &Listener) -> Vec<u8> {
     let opcode: u16 = match prng.below(8) {
         0..=2 => 0x0001,
         3..=5 => 0x0101,
@@ -135,7 +136,7 @@ pub(super) fn control(prng: &mut Prng, s: &Settings) -> Vec<u8> {
     } else {
         data.resize(length, 0);
     }
-    let to = control_destination(prng, s);
+    let to = heard_by_control(prng, s, l);
     // three in four have none: behind a tag it is no control frame
     let tags = if prng.coin() {
         0
@@ -146,7 +147,7 @@ pub(super) fn control(prng: &mut Prng, s: &Settings) -> Vec<u8> {
 }
 
 /// A frame of a size at the limits, down to nothing.
-fn sized(prng: &mut Prng, s: &Settings) -> Vec<u8> {
+fn sized(prng: &mut Prng, s: &Settings, l: &Listener) -> Vec<u8> {
     let tags = tag_count(prng, &TOO_MANY);
     let limit = usize::from(s.limit).clamp(1518, 9618);
     // of a frame with so many tags
@@ -160,7 +161,7 @@ fn sized(prng: &mut Prng, s: &Settings) -> Vec<u8> {
     if size < 4 {
         return prng.octets(size);
     }
-    let to = destination(prng, s);
+    let to = heard(prng, s, l);
     let field = prng.pick(&[0, 46, 0x0800, 0x0800, 0x0800, 0x8808]);
     let data = data(prng, size);
     let mut octets = build(prng, to, tags, field, &data);

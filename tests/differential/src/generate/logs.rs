@@ -35,7 +35,7 @@ pub fn record(prng: &mut Prng) -> raw::Record {
     let any = outcome(prng);
     octets[RECORD_OUTCOME] = prng.pick(&[0, any, any, any, any, any, any, any]);
     let any = prng.octet();
-    octets[raw::RECORD_WAY] = prng.pick(&[0, 0, 1, 8, 128, any]);
+    octets[raw::RECORD_WAY] = prng.pick(&[0, 0, 1, 8, 16, 31, 128, any]);
     let handed = number(prng, &[0, 1, 255, 256, 1500, 9600, 65_535]);
     octets[raw::RECORD_DATA_LENGTH..][..2].copy_from_slice(&(handed as u16).to_le_bytes());
     let status = number(prng, &[0, 0x40_0040_002E, 1, 1 << 63, u64::MAX]);
@@ -122,6 +122,6 @@ pub fn reading_record(prng: &mut Prng) -> [u64; raw::READING] {
     reading[raw::READING_OUTCOME] = number(prng, &[0, any, any, any, 256, 256 + any, 1 << 32]);
     reading[raw::READING_START] = number(prng, &[0, 65_535, 1 << 31, 1 << 32, u64::MAX]);
     reading[raw::READING_DATA_LENGTH] = number(prng, &[0, 46, 65_535, 65_536, 1 << 32]);
-    reading[raw::READING_WAY] = number(prng, &[0, 1, 8, 255, 256, 264, 1 << 32]);
+    reading[raw::READING_WAY] = number(prng, &[0, 1, 8, 16, 31, 255, 256, 272, 1 << 32]);
     reading
 }

@@ -2,6 +2,7 @@
 
 mod captures;
 mod frames;
+mod listeners;
 mod logs;
 mod reasons;
 mod records;
@@ -10,7 +11,10 @@ mod settings;
 mod tags;
 mod totals;
 
-pub use captures::{capture, longest_capture, place, starts, tabled_capture, Symbols};
+pub use captures::{capture, longest_capture, shown_capture, tabled_capture};
+pub use captures::{place, start_places, starts, Symbols};
+pub use listeners::{broken_table, named_address, sound_table, table_job};
+pub use listeners::{listener, misnumbered, sound_listener, Listener};
 pub use logs::{log, log_with_room, record, record_number, short_log};
 pub use logs::{reading_record, BEYOND_THE_LOG};
 pub use reasons::explained_capture;

@@ -1,7 +1,8 @@
 //! Captures of one Start, drawn so that its reason is at one side of a limit.
 use super::captures::unequal;
 use super::frames::{build, checked, control, frame};
-use super::settings::{destination, station};
+use super::listeners::{heard, Listener};
+use super::settings::station;
 use super::{Symbols, ERROR, IDLE, PREAMBLE, SEQUENCE, START, TERMINATE};
 use crate::prng::Prng;
 use reference::Settings;
@@ -12,8 +13,8 @@ const TAGS: [usize; 4] = [0, 1, 2, 8];
 const FIELDS: [usize; 12] = [0, 14, 15, 42, 43, 45, 46, 47, 1499, 1500, 1501, 1535];
 
 /// A capture with one Start, seldom with more or none.
-pub fn explained_capture(prng: &mut Prng, s: &Settings) -> Symbols {
-    let (run, by) = run(prng, s);
+pub fn explained_capture(prng: &mut Prng, s: &Settings, l: &Listener) -> Symbols {
+    let (run, by) = run(prng, s, l);
     let idles = prng.pick(&[0, 0, 1, 5]);
     let mark = prng.pick(&[1, 1, 1, 2, 128, 255]);
     let mut symbols = Symbols {
@@ -39,18 +40,18 @@ pub fn explained_capture(prng: &mut Prng, s: &Settings) -> Symbols {
 }
 
 /// A run and the control octet that ends it.
-fn run(prng: &mut Prng, s: &Settings) -> (Vec<u8>, u8) {
+fn run(prng: &mut Prng, s: &Settings, l: &Listener) -> (Vec<u8>, u8) {
     match prng.below(16) {
         0 => (short(prng), TERMINATE),
-        1 => (behind(wrong_preamble(prng), &frame(prng, s)), TERMINATE),
-        2 => cut(prng, s),
-        3 => (behind(PREAMBLE, &small(prng, s)), TERMINATE),
-        4 => (behind(PREAMBLE, &large(prng, s)), TERMINATE),
-        5..=6 => (behind(PREAMBLE, &miscounted(prng, s)), TERMINATE),
-        7..=11 => (behind(PREAMBLE, &at_length_rule(prng, s)), TERMINATE),
-        12..=13 => (behind(PREAMBLE, &control(prng, s)), TERMINATE),
-        14 => (behind(PREAMBLE, &of_type(prng, s)), TERMINATE),
-        _ => (behind(PREAMBLE, &frame(prng, s)), TERMINATE),
+        1 => (behind(wrong_preamble(prng), &frame(prng, s, l)), TERMINATE),
+        2 => cut(prng, s, l),
+        3 => (behind(PREAMBLE, &small(prng, s, l)), TERMINATE),
+        4 => (behind(PREAMBLE, &large(prng, s, l)), TERMINATE),
+        5..=6 => (behind(PREAMBLE, &miscounted(prng, s, l)), TERMINATE),
+        7..=11 => (behind(PREAMBLE, &at_length_rule(prng, s, l)), TERMINATE),
+        12..=13 => (behind(PREAMBLE, &control(prng, s, l)), TERMINATE),
+        14 => (behind(PREAMBLE, &of_type(prng, s, l)), TERMINATE),
+        _ => (behind(PREAMBLE, &frame(prng, s, l)), TERMINATE),
     }
 }
 
@@ -84,13 +85,13 @@ fn short(prng: &mut Prng) -> Vec<u8> {
 }
 
 /// A frame, or what there is of it, ended by anything.
-fn cut(prng: &mut Prng, s: &Settings) -> (Vec<u8>, u8) {
+fn cut(prng: &mut Prng, s: &Settings, l: &Listener) -> (Vec<u8>, u8) {
     let preamble = if prng.coin() {
         PREAMBLE
     } else {
         wrong_preamble(prng)
     };
-    let mut run = behind(preamble, &frame(prng, s));
+    let mut run = behind(preamble, &frame(prng, s, l));
     if prng.coin() {
         let n = prng.below(run.len() + 1);
         run.truncate(prng.pick(&[0, 6, 7, n]));
@@ -101,25 +102,25 @@ fn cut(prng: &mut Prng, s: &Settings) -> (Vec<u8>, u8) {
 }
 
 /// Both sides of 64, down to nothing.
-fn small(prng: &mut Prng, s: &Settings) -> Vec<u8> {
+fn small(prng: &mut Prng, s: &Settings, l: &Listener) -> Vec<u8> {
     let size = prng.pick(&[0, 1, 4, 17, 18, 62, 63, 63, 63, 64, 64, 65]);
-    resized(prng, s, 0, size)
+    resized(prng, (s, l), 0, size)
 }
 
 /// Both sides of the limit, which grows by tag.
-fn large(prng: &mut Prng, s: &Settings) -> Vec<u8> {
+fn large(prng: &mut Prng, s: &Settings, l: &Listener) -> Vec<u8> {
     let tags = prng.pick(&TAGS);
     let limit = usize::from(s.limit).clamp(1518, 9618) + 4 * tags;
     let size = limit + prng.pick(&[0, 0, 1, 1, 4]);
-    resized(prng, s, tags, size)
+    resized(prng, (s, l), tags, size)
 }
 
 /// A frame of this size whose field is a type; one in four with a wrong FCS.
-fn resized(prng: &mut Prng, s: &Settings, tags: usize, size: usize) -> Vec<u8> {
+fn resized(prng: &mut Prng, (s, l): (&Settings, &Listener), tags: usize, size: usize) -> Vec<u8> {
     if size < 4 {
         return prng.octets(size);
     }
-    let to = destination(prng, s);
+    let to = heard(prng, s, l);
     let data = prng.octets(size);
     let mut octets = build(prng, to, tags, 0x0800, &data);
     octets.truncate(size - 4);
@@ -131,11 +132,11 @@ fn resized(prng: &mut Prng, s: &Settings, tags: usize, size: usize) -> Vec<u8> {
 }
 
 /// A frame whose FCS is off, or whose octets are.
-fn miscounted(prng: &mut Prng, s: &Settings) -> Vec<u8> {
+fn miscounted(prng: &mut Prng, s: &Settings, l: &Listener) -> Vec<u8> {
     let mut octets = if prng.coin() {
-        of_type(prng, s)
+        of_type(prng, s, l)
     } else {
-        at_length_rule(prng, s)
+        at_length_rule(prng, s, l)
     };
     let n = octets.len();
     if n < 4 {
@@ -153,7 +154,7 @@ fn miscounted(prng: &mut Prng, s: &Settings) -> Vec<u8> {
 }
 
 /// Field and data at the edges of the length rule, with so many tags; mostly to us.
-fn at_length_rule(prng: &mut Prng, s: &Settings) -> Vec<u8> {
+fn at_length_rule(prng: &mut Prng, s: &Settings, l: &Listener) -> Vec<u8> {
     let tags = prng.pick(&TAGS);
     let least = 46 - 4 * tags;
     let field = match prng.below(3) {
@@ -174,7 +175,7 @@ fn at_length_rule(prng: &mut Prng, s: &Settings) -> Vec<u8> {
         47,
     ]);
     let to = match prng.below(4) {
-        0 => destination(prng, s),
+        0 => heard(prng, s, l),
         _ => s.own,
     };
     let data = prng.octets(length);
@@ -182,12 +183,12 @@ fn at_length_rule(prng: &mut Prng, s: &Settings) -> Vec<u8> {
 }
 
 /// A type, to anybody.
-fn of_type(prng: &mut Prng, s: &Settings) -> Vec<u8> {
+fn of_type(prng: &mut Prng, s: &Settings, l: &Listener) -> Vec<u8> {
     let tags = prng.pick(&TAGS);
     let to = if prng.one_in(4) {
         station(prng)
     } else {
-        destination(prng, s)
+        heard(prng, s, l)
     };
     let data = prng.octets(46);
     build(prng, to, tags, 0x0800, &data)

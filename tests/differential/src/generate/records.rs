@@ -26,11 +26,10 @@ fn put(record: &mut [u8], at: usize, octets: &[u8]) {
 pub fn settings_record(prng: &mut Prng, s: &Settings) -> raw::Settings {
     let mut record = raw::Settings([0; raw::SETTINGS]);
     let octets = &mut record.0;
-    let spare = prng.octets(raw::SETTINGS - raw::SETTINGS_SPARE);
-    put(octets, raw::SETTINGS_SPARE, &spare);
+    for at in raw::SETTINGS_SPARE {
+        octets[at] = prng.octet();
+    }
     put(octets, raw::OWN, &s.own);
-    put(octets, raw::LISTED, s.listed.as_flattened());
-    octets[raw::LISTED_COUNT] = s.count;
     octets[raw::BROADCAST] = flag(prng, s.broadcast);
     octets[raw::PROMISCUOUS] = flag(prng, s.promiscuous);
     octets[raw::CHECKING] = flag(prng, s.checking);

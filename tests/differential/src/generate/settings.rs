@@ -11,10 +11,10 @@ pub const RESERVED_GROUP: [u8; 6] = [0x01, 0x80, 0xC2, 0x00, 0x00, 0x01];
 pub fn settings(prng: &mut Prng) -> Settings {
     let mut s = valid_settings(prng);
     while prng.one_in(16) {
-        match prng.below(3) {
-            0 => s.own = prng.pick(&[BROADCAST, RESERVED_GROUP, [1, 0, 0, 0, 0, 0], group(s.own)]),
-            1 => s.count = prng.pick(&[5, 6, 128, 255]),
-            _ => s.limit = prng.pick(&[0, 1500, 1517, 9619, 9622, 65_535]),
+        if prng.coin() {
+            s.own = prng.pick(&[BROADCAST, RESERVED_GROUP, [1, 0, 0, 0, 0, 0], group(s.own)]);
+        } else {
+            s.limit = prng.pick(&[0, 1500, 1517, 9619, 9622, 65_535]);
         }
     }
     s
@@ -27,22 +27,8 @@ pub fn valid_settings(prng: &mut Prng) -> Settings {
     } else {
         station(prng)
     };
-    let mut listed = [(); 4].map(|()| match prng.below(8) {
-        0 => own,
-        1 => BROADCAST,
-        2 => RESERVED_GROUP,
-        3 => near(prng, own),
-        4 => group(station(prng)),
-        _ => station(prng),
-    });
-    if prng.one_in(4) {
-        // two equal entries, or one that is equal to itself
-        listed[prng.below(4)] = prng.pick(&listed);
-    }
     Settings {
         own,
-        listed,
-        count: prng.below(5) as u8,
         broadcast: prng.coin(),
         promiscuous: prng.one_in(5),
         checking: !prng.one_in(4),
@@ -117,13 +103,14 @@ pub fn station(prng: &mut Prng) -> [u8; 6] {
     address
 }
 
-fn group(mut address: [u8; 6]) -> [u8; 6] {
+/// The same address with the group bit.
+pub fn group(mut address: [u8; 6]) -> [u8; 6] {
     address[0] |= 1;
     address
 }
 
 /// The same address but for one bit.
-fn near(prng: &mut Prng, mut address: [u8; 6]) -> [u8; 6] {
+pub fn near(prng: &mut Prng, mut address: [u8; 6]) -> [u8; 6] {
     address[prng.below(6)] ^= prng.bit();
     address
 }
@@ -131,29 +118,12 @@ fn near(prng: &mut Prng, mut address: [u8; 6]) -> [u8; 6] {
 /// A destination that these settings have an opinion on.
 pub fn destination(prng: &mut Prng, s: &Settings) -> [u8; 6] {
     match prng.below(16) {
-        0..=4 => s.own,
-        5..=7 => prng.pick(&s.listed),
-        8..=9 => BROADCAST,
-        10 => RESERVED_GROUP,
-        11 => near(prng, s.own),
-        12 => {
-            let listed = prng.pick(&s.listed);
-            near(prng, listed)
-        }
+        0..=6 => s.own,
+        7..=9 => BROADCAST,
+        10..=11 => RESERVED_GROUP,
+        12 => near(prng, s.own),
         13 => near(prng, BROADCAST),
         14 => group(station(prng)),
         _ => station(prng),
-    }
-}
-
-/// A destination of control frames.
-pub fn control_destination(prng: &mut Prng, s: &Settings) -> [u8; 6] {
-    match prng.below(16) {
-        0..=7 => RESERVED_GROUP,
-        8..=11 => s.own,
-        12 => near(prng, RESERVED_GROUP),
-        13 => BROADCAST,
-        14 => prng.pick(&s.listed),
-        _ => destination(prng, s),
     }
 }

@@ -391,10 +391,9 @@ fn staged_state(prng: &mut Prng, faults: &Faults, call: &Sending, four_lanes: bo
 /// Makes a refusal of the settings or of what is to be sent hold.
 fn spoil_call(prng: &mut Prng, refusal: u8, s: &mut Settings, call: &mut Sending) {
     match (refusal, call) {
-        (1, _) => match prng.below(3) {
-            0 => s.own[0] |= 1,
-            1 => s.count = prng.pick(&[5, 255]),
-            _ => s.limit = prng.pick(&[1517, 9619]),
+        (1, _) => match prng.coin() {
+            true => s.own[0] |= 1,
+            false => s.limit = prng.pick(&[1517, 9619]),
         },
         (4, _) => s.flow = Flow::None,
         (5, Sending::Client(client, _)) => client.class = prng.pick(&[8, 255]),

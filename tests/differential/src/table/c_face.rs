@@ -1,4 +1,5 @@
 //! Records of the C face that the Rust face cannot say.
+use super::jobs::NO_JOBS;
 use super::Table;
 use crate::generate::{BROADCAST, HIGHEST_BIT, RESERVED_GROUP};
 use crate::raw;
@@ -30,6 +31,7 @@ const TIMERS: Range<usize> = raw::TIMERS..raw::DEFICIT;
 pub fn rows(t: &mut Table) {
     flags(t);
     flows(t);
+    jobs(t);
     spare_octets(t);
     high_bits(t);
     refused_states(t);
@@ -94,9 +96,39 @@ fn flows(t: &mut Table) {
     }
 }
 
+/// Jobs, in the calls that read: refusal 14 comes right after 1.
+fn jobs(t: &mut Table) {
+    let calls: [(&str, &[u8]); 3] = [
+        ("read", &[2, 3, 20]),
+        ("walk", &[2, 20]),
+        ("walk_log", &[2, 3, 20, 11]),
+    ];
+    for (call, later) in calls {
+        for job in 0..2 {
+            t.c(format!("C: {call}: job {job}: taken"), move |c| {
+                let reads = c.listening().is_some_and(|(of, _)| of == job);
+                c.name() == call && reads && c.refusal() == 0
+            });
+        }
+        for job in NO_JOBS {
+            t.c(format!("C: {call}: job {job}: refusal 14"), move |c| {
+                let reads = c.listening().is_some_and(|(of, _)| of == job);
+                c.name() == call && reads && c.refusal() == 14
+            });
+        }
+        let pairs = later.iter().map(|&second| (14, second));
+        for (first, second) in [(1, 14)].into_iter().chain(pairs) {
+            let name = format!("C: {call}: {first} and {second} hold: refusal {first}");
+            t.c(name, move |c| {
+                c.name() == call && c.refusal() == first && c.holds(first) && c.holds(second)
+            });
+        }
+    }
+}
+
 /// Octets that are not looked at.
 fn spare_octets(t: &mut Table) {
-    for at in raw::SETTINGS_SPARE..raw::SETTINGS {
+    for at in raw::SETTINGS_SPARE {
         t.c(
             format!("C: settings, octet {at} is not 0: taken"),
             move |c| c.settings.0[at] != 0 && c.read(|r| r.outcome > 0),
@@ -194,7 +226,7 @@ fn refused_states(t: &mut Table) {
             move |c| c.name() == call && c.refusal() > 0 && stays(c),
         );
     }
-    for refusal in (1..=11).chain([19]) {
+    for refusal in (1..=11).chain([14, 19, 20]) {
         t.c(
             format!("C: refusal {refusal}: every number stays"),
             move |c| c.refusal() == refusal && !c.counted(|_| true) && stays(c),

@@ -181,10 +181,9 @@ fn addresses(t: &mut Table) {
     t.reading("to own, which is listed too: 11", move |r| {
         accepted(r, &|to| *to == r.s.own && r.listed(to))
     });
-    for i in 0..4 {
-        t.reading(format!("to listed {}: 11", i + 1), move |r| {
-            usize::from(r.s.count) > i
-                && accepted(r, &|to| *to != r.s.own && r.listed_at(to).eq([i]))
+    for k in 0..16 {
+        t.reading(format!("to entry {k}: 11"), move |r| {
+            accepted(r, &|to| *to != r.s.own && r.listed_at(to).eq([k]))
         });
     }
     t.reading("to a listed group: 11", move |r| {
@@ -198,8 +197,12 @@ fn addresses(t: &mut Table) {
     t.reading("to the reserved group, no control frame: 7", |r| {
         r.addressed(7, |to| *to == RESERVED_GROUP)
     });
-    t.reading("to an address listed beyond the count: 7", |r| {
-        r.addressed(7, |to| *to != BROADCAST && r.listed_at(to).next().is_some())
+    t.reading("to an address in a free entry: 7", |r| {
+        let free = |to: &[u8; 6]| r.table.free().any(|k| r.table.address(k) == *to);
+        r.addressed(7, |to| *to != BROADCAST && free(to))
+    });
+    t.reading("to an address that the other job lists: 7", |r| {
+        r.addressed(7, |to| *to != BROADCAST && r.others_at(to).next().is_some())
     });
     for i in 0..6 {
         t.reading(format!("to own but for octet {}: 7", i + 1), move |r| {
@@ -207,8 +210,10 @@ fn addresses(t: &mut Table) {
         });
         let name = format!("to a listed one but for octet {}: 7", i + 1);
         t.reading(name, move |r| {
-            let mut listed = r.s.listed.iter().take(usize::from(r.s.count));
-            r.addressed(7, |to| listed.any(|entry| only_octet(to, entry) == Some(i)))
+            let mut listed = r.table.of(r.job).map(|k| r.table.address(k));
+            r.addressed(7, |to| {
+                listed.any(|entry| only_octet(to, &entry) == Some(i))
+            })
         });
     }
     t.reading("promiscuous, to another: 11", |r| {

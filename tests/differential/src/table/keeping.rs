@@ -198,12 +198,13 @@ fn places(t: &mut Table) {
     }
 }
 
-/// Refusals 1, 2, 3 and 11, and their order; 12 is none of a walk.
+/// Refusals as of a reading, then 11, and their order; 12 is none of a walk.
 fn refusals(t: &mut Table) {
-    for refusal in [1, 2, 3, 11] {
+    const ORDER: [u8; 6] = [1, 14, 2, 3, 20, 11];
+    for refusal in ORDER {
         t.keep(format!("walk_log: refusal {refusal}"), move |k| {
             let alone = |other| k.holds(other) == (other == refusal);
-            k.refusal() == refusal && [1, 2, 3, 11].into_iter().all(alone)
+            k.refusal() == refusal && ORDER.into_iter().all(alone)
         });
         let name = format!("walk_log: refusal {refusal}: log and place stay");
         t.keep(name, move |k| {
@@ -211,11 +212,13 @@ fn refusals(t: &mut Table) {
             k.refusal() == refusal && unused && k.logged.next == k.place && k.place > 0
         });
     }
-    for (first, second) in [(1, 2), (1, 3), (1, 11), (2, 3), (2, 11), (3, 11)] {
-        let name = format!("walk_log: {first} and {second} hold: refusal {first}");
-        t.keep(name, move |k| {
-            k.refusal() == first && k.holds(first) && k.holds(second)
-        });
+    for (i, first) in ORDER.into_iter().enumerate() {
+        for second in ORDER.into_iter().skip(i + 1) {
+            let name = format!("walk_log: {first} and {second} hold: refusal {first}");
+            t.keep(name, move |k| {
+                k.refusal() == first && k.holds(first) && k.holds(second)
+            });
+        }
     }
     for n in [0, 1, 8, 15, 16, 17, 24, 31, 32, 33, 47, 48, 49] {
         let taken = [0, 16, 32, 48].contains(&n);

@@ -146,7 +146,7 @@ fn appended_fields(t: &mut Table) {
             l.appends(|r| r.outcome != 0 && r.status == status) && l.wrote()
         });
     }
-    for way in [0, 1, 8, 128] {
+    for way in [0, 1, 8, 16, 31, 128] {
         let name = format!("append: way {way}: written as given");
         t.log(name, move |l| {
             l.appends(|r| r.outcome != 0 && r.address == way) && l.wrote()
@@ -181,7 +181,7 @@ fn appended_readings(t: &mut Table) {
             move |l| of(l, outcome, raw::COUNTED, 0) && l.wrote(),
         );
     }
-    for way in 0..=8 {
+    for way in [0, 1, 6, 7, 8].into_iter().chain(16..=31) {
         t.log(format!("append reading: way {way}: appended"), move |l| {
             let counted = (1..=11).any(|outcome| of(l, outcome, raw::COUNTED, 0));
             counted && l.record().is_some_and(|r| r.address == way) && l.wrote()
@@ -323,7 +323,7 @@ fn contents(t: &mut Table) {
             row(format!("outcome {outcome}"), test, outcome);
         }
         row("way not 0".to_string(), |r, _| r.address != 0, 0);
-        row("way above 8".to_string(), |r, _| r.address > 8, 0);
+        row("way above 31".to_string(), |r, _| r.address > 31, 0);
         row(
             "place of the highest bit".to_string(),
             |r, _| r.place >> 31 == 1,

@@ -4,11 +4,13 @@ mod c_face;
 mod control;
 mod counted;
 mod frames;
+mod jobs;
 mod keeping;
 mod log;
 mod ports;
 mod reading;
 mod reasons;
+mod screens;
 mod sending;
 mod tags;
 mod totals;
@@ -16,6 +18,7 @@ mod ways;
 
 use crate::coverage::{Row, When};
 use crate::seen::{CSeen, FcsSeen, ReadingSeen, RowSeen, SendingSeen, WalkSeen};
+use crate::seen_jobs::{ScreenSeen, TableSeen};
 use crate::seen_log::{GoingOnSeen, KeepSeen, LogSeen};
 use crate::seen_reason::ReasonSeen;
 use crate::seen_totals::TotalsSeen;
@@ -36,6 +39,8 @@ pub(crate) fn rows() -> Vec<Row> {
     keeping::rows(&mut table);
     totals::rows(&mut table);
     counted::rows(&mut table);
+    jobs::rows(&mut table);
+    screens::rows(&mut table);
     c_face::rows(&mut table);
     fcs_rows(&mut table);
     let names: BTreeSet<_> = table.0.iter().map(|row| &row.name).collect();
@@ -102,6 +107,14 @@ impl Table {
 
     fn totals(&mut self, name: impl Into<String>, test: impl Fn(&TotalsSeen) -> bool + 'static) {
         self.row(name, When::Totals(Box::new(test)));
+    }
+
+    fn table(&mut self, name: impl Into<String>, test: impl Fn(&TableSeen) -> bool + 'static) {
+        self.row(name, When::Table(Box::new(test)));
+    }
+
+    fn screen(&mut self, name: impl Into<String>, test: impl Fn(&ScreenSeen) -> bool + 'static) {
+        self.row(name, When::Screen(Box::new(test)));
     }
 
     fn c(&mut self, name: impl Into<String>, test: impl Fn(&CSeen) -> bool + 'static) {

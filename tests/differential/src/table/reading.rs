@@ -12,6 +12,7 @@ pub fn rows(t: &mut Table) {
     walk_answers(t);
     walk_tables(t);
     settings(t);
+    tables(t);
     captures(t);
     places(t);
     marks(t);
@@ -29,12 +30,12 @@ fn reading_answers(t: &mut Table) {
         }
         t.reading(format!("{call}: none"), move |r| r.by == by && r.none());
         t.reading(format!("{call}: open"), move |r| r.by == by && r.open());
-        for refusal in 1..=3 {
+        for refusal in [1, 2, 3, 20] {
             t.reading(format!("{call}: refusal {refusal}"), move |r| {
                 r.by == by && r.refusal == refusal
             });
         }
-        for (first, second) in [(1, 2), (2, 3)] {
+        for (first, second) in [(1, 2), (2, 3), (1, 20), (2, 20), (3, 20)] {
             let name = format!("{call}: {first} and {second} hold: refusal {first}");
             t.reading(name, move |r| {
                 r.by == by && r.refusal == first && r.holds(first) && r.holds(second)
@@ -55,11 +56,17 @@ fn walk_answers(t: &mut Table) {
     t.walk("walk: open", |w| {
         matches!(w.walked, Walked::Ended { open: true, .. })
     });
-    t.walk("walk: refusal 1", |w| w.refusal() == 1);
-    t.walk("walk: refusal 2", |w| w.refusal() == 2);
-    t.walk("walk: 1 and 2 hold: refusal 1", |w| {
-        w.refusal() == 1 && w.holds(1) && w.holds(2)
-    });
+    for refusal in [1, 2, 20] {
+        t.walk(format!("walk: refusal {refusal}"), move |w| {
+            w.refusal() == refusal
+        });
+    }
+    for (first, second) in [(1, 2), (1, 20), (2, 20)] {
+        let name = format!("walk: {first} and {second} hold: refusal {first}");
+        t.walk(name, move |w| {
+            w.refusal() == first && w.holds(first) && w.holds(second)
+        });
+    }
     t.walk("walk: no Start", |w| {
         let none = Walked::Ended {
             starts: 0,
@@ -122,10 +129,6 @@ fn settings(t: &mut Table) {
     t.reading("settings: own address is a group: refusal 1", |r| {
         r.refusal == 1 && r.s.own[0] & 1 == 1
     });
-    for (count, refusal) in [(0, 0), (1, 0), (4, 0), (5, 1), (255, 1)] {
-        let name = format!("settings: {count} listed: {}", taken_or(refusal));
-        t.reading(name, move |r| r.s.count == count && r.refusal == refusal);
-    }
     for (limit, refusal) in [
         (0, 1),
         (1517, 1),
@@ -136,6 +139,39 @@ fn settings(t: &mut Table) {
     ] {
         let name = format!("settings: M {limit}: {}", taken_or(refusal));
         t.reading(name, move |r| r.s.limit == limit && r.refusal == refusal);
+    }
+}
+
+/// Both sides of refusal 20, of the job that reads and of the other.
+fn tables(t: &mut Table) {
+    for job in 0..2 {
+        for of in 0..2 {
+            for (n, refusal) in [(12, 0), (13, 20), (16, 20)] {
+                let name = format!(
+                    "table: job {job} reads, job {of} holds {n}: {}",
+                    taken_or(refusal)
+                );
+                t.reading(name, move |r| {
+                    r.job == job && r.table.only_holds(of, n) && r.refusal == refusal
+                });
+            }
+            let name = format!("table: job {job} reads, job {of} has an address twice: refusal 20");
+            t.reading(name, move |r| {
+                r.job == job && r.table.only_twice(of) && r.refusal == 20
+            });
+        }
+        let name = format!("table: job {job} reads, both jobs have one address: taken");
+        t.reading(name, move |r| {
+            let both = |k: usize| r.table.listed_at(1, &r.table.address(k)).next().is_some();
+            r.job == job && r.table.of(0).any(both) && r.refusal == 0
+        });
+        for (what, number) in [("empty", 0), ("all 16 in use", 16)] {
+            let name = format!("table: job {job} reads, {what}: taken");
+            t.reading(name, move |r| {
+                let in_use = 16 - r.table.free().count();
+                r.job == job && in_use == number && r.refusal == 0
+            });
+        }
     }
 }
 

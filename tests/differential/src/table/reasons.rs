@@ -60,17 +60,24 @@ impl Rows<'_> {
         self.row("open: both places the Start's", |r| {
             r.explained.why == Why::Open && r.explained.start == r.explained.next
         });
-        for refusal in 1..=3 {
+        // the Rust face has no job above 1
+        let order: &[u8] = match self.face {
+            Face::Rust => &[1, 2, 3, 20],
+            Face::C => &[1, 14, 2, 3, 20],
+        };
+        for &refusal in order {
             self.row(format!("refusal {refusal}"), move |r| {
                 let places = (r.explained.start, r.explained.next);
                 r.refusal() == refusal && places == (r.reading.place, r.reading.place)
             });
         }
-        for (first, second) in [(1, 2), (2, 3)] {
-            let name = format!("{first} and {second} hold: refusal {first}");
-            self.row(name, move |r| {
-                r.refusal() == first && r.reading.holds(first) && r.reading.holds(second)
-            });
+        for (i, &first) in order.iter().enumerate() {
+            for &second in &order[i + 1..] {
+                let name = format!("{first} and {second} hold: refusal {first}");
+                self.row(name, move |r| {
+                    r.refusal() == first && r.reading.holds(first) && r.reading.holds(second)
+                });
+            }
         }
         self.row("the Start is behind the place: found", |r| {
             r.reason().is_some() && r.explained.start > r.reading.place
@@ -276,6 +283,22 @@ impl Rows<'_> {
         for (name, bit) in [("station", 0), ("group", 1)] {
             self.row(format!("to another {name}: the destination"), move |r| {
                 filtered(r, &|to| to[0] & 1 == bit && *to != BROADCAST)
+            });
+        }
+        self.row(
+            "to an address of the other job: the destination",
+            move |r| {
+                filtered(r, &|to| {
+                    *to != BROADCAST && r.reading.others_at(to).next().is_some()
+                })
+            },
+        );
+        for k in 0..16 {
+            self.row(format!("to entry {k}: not filtered"), move |r| {
+                let alone = |to: &[u8; 6]| r.reading.listed_at(to).eq([k]);
+                let by_list = |to: &[u8; 6]| *to != BROADCAST && r.reading.to_others(to);
+                let sound = !r.reading.s.promiscuous && r.beyond(7);
+                sound && r.framed(|f| by_list(&f.to) && alone(&f.to))
             });
         }
         self.row("a control frame to another: the destination", move |r| {

@@ -1,7 +1,9 @@
-//! Which address let a frame in: item 7 of document 02, in readings and in what walks keep.
+//! Which address let a frame in: items 7 and 10 of document 02, in readings and in what walks keep.
+use super::jobs::NO_HOLDERS;
 use super::keeping::place_of;
 use super::Table;
 use crate::generate::{BROADCAST, RESERVED_GROUP};
+use crate::raw;
 use crate::seen::{FrameSeen, ReadingSeen};
 use crate::seen_log::KeepSeen;
 use reference::{Flow, Settings};
@@ -12,7 +14,9 @@ const LISTED: [(&str, bool); 2] = [("", false), (", listed", true)];
 pub fn rows(t: &mut Table) {
     own(t);
     listed(t);
-    equal_entries(t);
+    spare_octets(t);
+    of_the_other(t);
+    free_entries(t);
     broadcasts(t);
     promiscuous(t);
     control_to_the_group(t);
@@ -33,19 +37,13 @@ fn client_by(r: &ReadingSeen, way: u8, test: impl FnOnce(&[u8; 6]) -> bool) -> b
     by(r, way, |f| !f.control() && test(&f.to))
 }
 
-/// The number of a listed entry.
-fn entry(i: usize) -> u8 {
-    2 + i as u8
+/// The number of an entry.
+fn entry(k: usize) -> u8 {
+    16 + k as u8
 }
 
-/// The first entry that counts and is this address.
-fn first_listed(s: &Settings, to: &[u8; 6]) -> Option<usize> {
-    let mut counting = s.listed.iter().take(usize::from(s.count));
-    counting.position(|address| address == to)
-}
-
-/// Neither own nor broadcast: the list has a say.
-fn by_list(s: &Settings, to: &[u8; 6]) -> bool {
+/// Neither own nor broadcast: the table has a say.
+fn by_table(s: &Settings, to: &[u8; 6]) -> bool {
     *to != s.own && *to != BROADCAST
 }
 
@@ -60,47 +58,97 @@ fn own(t: &mut Table) {
     }
 }
 
-/// Each entry, where it alone matches; with promiscuous settings it says the same.
+/// Each entry, for the job that holds it; with promiscuous settings it says the same.
 fn listed(t: &mut Table) {
-    for i in 0..4 {
-        for (with, promiscuous) in PROMISCUOUS {
-            let name = format!("way: to listed entry {i}{with}: {}", entry(i));
+    for job in 0..2 {
+        for k in 0..16 {
+            for (with, promiscuous) in PROMISCUOUS {
+                let name = format!("way: job {job}, to entry {k}{with}: {}", entry(k));
+                t.reading(name, move |r| {
+                    let listed = |to: &[u8; 6]| by_table(r.s, to) && r.listed_at(to).eq([k]);
+                    let given = r.job == job && r.s.promiscuous == promiscuous;
+                    given && client_by(r, entry(k), listed)
+                });
+            }
+        }
+    }
+}
+
+/// An entry's last octet is not looked at.
+fn spare_octets(t: &mut Table) {
+    for k in 0..16 {
+        let name = format!("way: to entry {k}, its spare octet is not 0: {}", entry(k));
+        t.reading(name, move |r| {
+            let listed = |to: &[u8; 6]| by_table(r.s, to) && r.listed_at(to).eq([k]);
+            r.table.entry(k)[raw::ENTRY_SPARE] != 0 && client_by(r, entry(k), listed)
+        });
+    }
+}
+
+/// What the other job lists has no say, be it the same address.
+fn of_the_other(t: &mut Table) {
+    for job in 0..2 {
+        let others = |r: &ReadingSeen, to: &[u8; 6]| {
+            let by_other = !r.listed(to) && r.others_at(to).next().is_some();
+            by_table(r.s, to) && by_other
+        };
+        for k in 0..16 {
+            let name = format!("way: job {job}, to entry {k} of the other: filtered, 0");
             t.reading(name, move |r| {
-                let alone = |to: &[u8; 6]| by_list(r.s, to) && r.listed_at(to).eq([i]);
-                r.s.promiscuous == promiscuous
-                    && usize::from(r.s.count) > i
-                    && client_by(r, entry(i), alone)
+                let theirs = |to: &[u8; 6]| others(r, to) && r.others_at(to).eq([k]);
+                r.job == job && r.way == 0 && r.addressed(7, theirs)
+            });
+        }
+        let name = format!("way: job {job}, to an entry of the other, promiscuous: 7");
+        t.reading(name, move |r| {
+            r.job == job && client_by(r, 7, |to| others(r, to))
+        });
+        for (where_, lower) in [("lower", true), ("higher", false)] {
+            let name =
+                format!("way: job {job}, both list it, the other by a {where_} entry: its own");
+            t.reading(name, move |r| {
+                let own = |f: &FrameSeen| r.listed_at(&f.to).next();
+                let Some(k) = r.frame.as_ref().and_then(own) else {
+                    return false;
+                };
+                let both = |to: &[u8; 6]| {
+                    let mut theirs = r.others_at(to);
+                    by_table(r.s, to) && theirs.any(|other| (other < k) == lower)
+                };
+                r.job == job && client_by(r, entry(k), both)
             });
         }
     }
-    t.reading("way: listed beyond the count, promiscuous: 7", |r| {
-        client_by(r, 7, |to| {
-            by_list(r.s, to) && !r.listed(to) && r.listed_at(to).next().is_some()
-        })
-    });
 }
 
-/// Of two equal entries the first, whether the second counts or not.
-fn equal_entries(t: &mut Table) {
-    for (i, j) in [(0, 1), (0, 2), (0, 3), (1, 2), (1, 3), (2, 3)] {
-        let name = format!("way: listed entries {i} and {j} equal: {}", entry(i));
-        t.reading(name, move |r| {
-            let both = |to: &[u8; 6]| by_list(r.s, to) && r.listed_at(to).eq([i, j]);
-            usize::from(r.s.count) > j && client_by(r, entry(i), both)
+/// What stands in a free entry has no say, whichever octet makes it free.
+fn free_entries(t: &mut Table) {
+    for octet in [raw::FREE].into_iter().chain(NO_HOLDERS) {
+        let stands = move |r: &ReadingSeen, to: &[u8; 6]| {
+            let here = |k: usize| r.table.holder(k) == octet && r.table.address(k) == *to;
+            by_table(r.s, to) && (0..16).any(here)
+        };
+        let name = format!("way: in an entry of holder {octet}");
+        t.reading(format!("{name}: filtered, 0"), move |r| {
+            r.way == 0 && r.addressed(7, |to| stands(r, to))
+        });
+        t.reading(format!("{name}, promiscuous: 7"), move |r| {
+            client_by(r, 7, |to| stands(r, to) && !r.listed(to))
+        });
+        t.reading(format!("{name}, listed by a higher entry: that one"), {
+            move |r| {
+                let own = |f: &FrameSeen| r.listed_at(&f.to).next();
+                let Some(k) = r.frame.as_ref().and_then(own) else {
+                    return false;
+                };
+                let lower = |to: &[u8; 6]| {
+                    let here = |i: usize| r.table.holder(i) == octet && r.table.address(i) == *to;
+                    by_table(r.s, to) && (0..k).any(here)
+                };
+                client_by(r, entry(k), lower)
+            }
         });
     }
-    t.reading(
-        "way: listed entries equal, the second beyond the count: the first",
-        |r| {
-            let Some(first) = r.frame.as_ref().and_then(|f| first_listed(r.s, &f.to)) else {
-                return false;
-            };
-            client_by(r, entry(first), |to| {
-                let beyond = |i: usize| i >= usize::from(r.s.count);
-                by_list(r.s, to) && r.listed_at(to).any(beyond)
-            })
-        },
-    );
 }
 
 /// By its setting, listed or not.
@@ -134,7 +182,7 @@ fn promiscuous(t: &mut Table) {
         t.reading(format!("way: promiscuous only, a {name}: 7"), move |r| {
             r.s.promiscuous
                 && client_by(r, 7, |to| {
-                    to[0] & 1 == group && by_list(r.s, to) && r.listed_at(to).next().is_none()
+                    to[0] & 1 == group && by_table(r.s, to) && r.nowhere(to)
                 })
         });
     }
@@ -180,11 +228,11 @@ fn other_control(t: &mut Table) {
             });
         }
     }
-    for i in 0..4 {
-        let name = format!("way: control frame to listed entry {i}: {}", entry(i));
+    for k in 0..16 {
+        let name = format!("way: control frame to entry {k}: {}", entry(k));
         t.reading(name, move |r| {
-            by(r, entry(i), |f| {
-                let listed = by_list(r.s, &f.to) && first_listed(r.s, &f.to) == Some(i);
+            by(r, entry(k), |f| {
+                let listed = by_table(r.s, &f.to) && r.listed_at(&f.to).eq([k]);
                 f.control() && f.to != RESERVED_GROUP && listed
             })
         });
@@ -213,10 +261,10 @@ fn others_to_the_group(t: &mut Table) {
     for (sort, inside) in sorts {
         let to_group = move |f: &FrameSeen| f.to == RESERVED_GROUP && inside(f);
         let name = format!("way: {sort} to the reserved group");
-        for i in 0..4 {
-            let name = format!("{name}, listed entry {i}: {}", entry(i));
+        for k in 0..16 {
+            let name = format!("{name}, entry {k}: {}", entry(k));
             t.reading(name, move |r| {
-                first_listed(r.s, &RESERVED_GROUP) == Some(i) && by(r, entry(i), to_group)
+                r.listed_at(&RESERVED_GROUP).eq([k]) && by(r, entry(k), to_group)
             });
         }
         t.reading(format!("{name}, promiscuous: 7"), move |r| {
@@ -254,19 +302,33 @@ fn kept_by(k: &KeepSeen, way: u8, test: impl Fn(&[u8; 6], bool) -> bool) -> bool
     })
 }
 
+/// The entries by which the job lists an address.
+fn listed_at<'a>(k: &KeepSeen<'a>, to: &[u8; 6]) -> impl Iterator<Item = usize> + use<'a> {
+    k.table.listed_at(k.job, to)
+}
+
 fn kept(t: &mut Table) {
     t.keep("walk_log: to own: way 1", |k| {
         kept_by(k, 1, |to, _| *to == k.s.own)
     });
-    for i in 0..4 {
-        let name = format!("walk_log: to listed entry {i}: way {}", entry(i));
+    for i in 0..16 {
+        let name = format!("walk_log: to entry {i}: way {}", entry(i));
         t.keep(name, move |k| {
             kept_by(k, entry(i), |to, control| {
                 let reserved = control && *to == RESERVED_GROUP;
-                by_list(k.s, to) && !reserved && first_listed(k.s, to) == Some(i)
+                by_table(k.s, to) && !reserved && listed_at(k, to).eq([i])
             })
         });
     }
+    t.keep(
+        "walk_log: to an entry of the other, promiscuous: way 7",
+        |k| {
+            kept_by(k, 7, |to, _| {
+                let theirs = k.table.listed_at(1 - k.job, to).next().is_some();
+                theirs && by_table(k.s, to) && listed_at(k, to).next().is_none()
+            })
+        },
+    );
     t.keep("walk_log: to broadcast: way 6", |k| {
         k.s.broadcast && kept_by(k, 6, |to, _| *to == BROADCAST)
     });
@@ -276,14 +338,15 @@ fn kept(t: &mut Table) {
     t.keep("walk_log: promiscuous only: way 7", |k| {
         kept_by(k, 7, |to, control| {
             let reserved = control && *to == RESERVED_GROUP;
-            by_list(k.s, to) && !reserved && first_listed(k.s, to).is_none()
+            by_table(k.s, to) && !reserved && listed_at(k, to).next().is_none()
         })
     });
     for (also, listed) in LISTED {
         let name = format!("walk_log: control frame to the reserved group{also}: way 8");
         t.keep(name, move |k| {
             let reserved = |to: &[u8; 6], control: bool| control && *to == RESERVED_GROUP;
-            first_listed(k.s, &RESERVED_GROUP).is_some() == listed && kept_by(k, 8, reserved)
+            let is_listed = listed_at(k, &RESERVED_GROUP).next().is_some();
+            is_listed == listed && kept_by(k, 8, reserved)
         });
     }
     for outcome in 1..=7 {
@@ -296,14 +359,17 @@ fn kept(t: &mut Table) {
 /// What stood in the octet of an unused record is overwritten.
 fn kept_over(t: &mut Table) {
     for (name, let_in) in [("0", false), ("another", true)] {
-        t.keep(format!("walk_log: way {name} over one above 8"), move |k| {
-            let over = |i: usize| {
-                let way = |slot: Option<&[u8]>| slot.map_or(0, |slot| slot[5]);
-                let fresh = !k.log.used(i) && k.log_after.used(i);
-                let after = way(k.log_after.slot(i));
-                fresh && way(k.log.slot(i)) > 8 && after <= 8 && (after > 0) == let_in
-            };
-            (0..k.log.len()).any(over)
-        });
+        t.keep(
+            format!("walk_log: way {name} over one above 31"),
+            move |k| {
+                let over = |i: usize| {
+                    let way = |slot: Option<&[u8]>| slot.map_or(0, |slot| slot[5]);
+                    let fresh = !k.log.used(i) && k.log_after.used(i);
+                    let after = way(k.log_after.slot(i));
+                    fresh && way(k.log.slot(i)) > 31 && after <= 31 && (after > 0) == let_in
+                };
+                (0..k.log.len()).any(over)
+            },
+        );
     }
 }

@@ -1,0 +1,5 @@
+pub mod Claims
+pub mod Entries
+pub mod Own
+pub mod Ways
+pub mod Written

@@ -1,0 +1,7 @@
+pub mod Calls
+pub mod Claims
+pub mod Computed
+pub mod Entries
+pub mod Steps
+pub mod Tests
+pub mod Way
