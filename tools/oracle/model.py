@@ -1,4 +1,4 @@
-"""An independent model of document 01 with items 1 to 10 of document 02, written from their text alone and not from the definitions in crates/*/specs.
+"""An independent model of document 01 with items 1 to 11 of document 02, written from their text alone and not from the definitions in crates/*/specs.
 
 Each piece stands under the sentence of the documents that it renders. The check is zlib's crc32, not a loop of our own, and a log's record is laid
 out by struct.
@@ -486,10 +486,70 @@ def used_in_front(log: List[int]) -> Tuple[int, Optional[int]]:
 
 
 def first_unused(log: List[int]) -> Tuple[int, Optional[int]]:
-    """Refusal, or 0 and the number; 12: "no unused record" """
+    """Refusal, or 0 and the number; 12: "no unused record". Since item 11 appending need not take it."""
     unused = unused_numbers(log)
     refusal = first((11, bad_log(log)), (12, not unused))
     return (refusal, None) if refusal else (0, unused[0])
+
+
+# Room in the log (item 11)
+
+
+@dataclass
+class LogChange:
+    refusal: int  # 0: not refused
+    count: Optional[int]  # how many records were deleted, or remain
+    log: List[int]
+
+
+def used_only(log: List[int]) -> List[Record]:
+    """"the records that remain" """
+    return [r for r in log_records(log) if r.used()]
+
+
+def octets_of(records: List[Record]) -> List[int]:
+    return [octet for r in records for octet in r.octets()]
+
+
+def deleting(log: List[int], number: int) -> LogChange:
+    """"A deleted record's outcome octet becomes 0."; 11, then 13: "record number not used" """
+    refusal, r = record_at(log, number)
+    if refusal:
+        return LogChange(refusal, None, log)
+    records = log_records(log)
+    return LogChange(0, 1, octets_of(records[:number] + [r._replace(outcome=0)] + records[number + 1:]))
+
+
+def deleting_all(log: List[int], outcome: int) -> LogChange:
+    """"Support deletes records of outcomes they have dealt with."; 11 alone. Open point: outcome 0 is that of no used record, so none is deleted."""
+    if bad_log(log):
+        return LogChange(11, None, log)
+    numbers = [number for number, r in enumerate(log_records(log)) if r.used() and r.outcome == outcome]
+    for number in numbers:
+        log = deleting(log, number).log
+    return LogChange(0, len(numbers), log)
+
+
+def compacted(log: List[int]) -> List[int]:
+    """"Compaction moves the remaining ones to the front in their order and fills the rest with zero octets" """
+    front = octets_of(used_only(log))
+    return front + [0] * (len(log) - len(front))
+
+
+def compacting(log: List[int]) -> LogChange:
+    """11 alone."""
+    if bad_log(log):
+        return LogChange(11, None, log)
+    after = compacted(log)
+    assert compacted(after) == after  # "doing it twice changes nothing more"
+    # "Reading back gives the records that remain; written into a zero log of that length they give the compacted one."
+    assert read_back(log) == read_back(after) == used_only(log) and written(len(log), read_back(log)) == after
+    return LogChange(0, len(used_only(log)), after)
+
+
+def behind_last(log: List[int]) -> int:
+    """Number of the slot "after the last used record"; of the first one, if none is used."""
+    return max((number + 1 for number, r in enumerate(log_records(log)) if r.used()), default=0)
 
 
 @dataclass
@@ -500,15 +560,20 @@ class Appending:
 
 
 def appending(log: List[int], r: Record) -> Appending:
-    """"appending takes the first unused one"; 11 is given with outcome 0 too, since that "never gives 12" and no more is said of it.
-    Open point: no value of a field is refused, and each is written as given, as reading back "gives what was appended"."""
-    refusal = first((11, bad_log(log)), (12, r.used() and not unused_numbers(log)))
+    """Item 11: "Appending now goes after the last used record, and compacts first if that one is the last slot. So 12 is given, for an outcome other than
+    0, exactly when every record is used."; 11 is given with outcome 0 too, since that "never gives 12" and no more is said of it.
+    Open points: no value of a field is refused, and each is written as given, as reading back "gives what was appended"; outcome 0 compacts nothing."""
+    refusal = first((11, bad_log(log)), (12, r.used() and all(there.used() for there in log_records(log))))
     if refusal or not r.used():  # "with outcome 0, …, it appends nothing"
         return Appending(refusal or 0, None, log)
-    number = unused_numbers(log)[0]
+    before = used_only(log)
+    if behind_last(log) * RECORD.size == len(log):
+        log = compacted(log)
+    number = behind_last(log)
     place = number * RECORD.size
     after = log[:place] + r.octets() + log[place + RECORD.size:]
     assert log_records(after) == log_records(log)[:number] + [r] + log_records(log)[number + 1:]
+    assert used_only(after) == before + [r]
     return Appending(0, number, after)
 
 
@@ -538,14 +603,15 @@ class LogReader:
 
 
 def handing_out(reader: LogReader) -> Tuple[int, Optional[Record], LogReader]:
-    """"and hands out the next record": refusal or 0, the record, and the reader behind it; a refused one stays as it is.
-    Open point: it doesn't pass an unused record, also where used ones follow."""
-    refusal, r = record_at(reader.log, reader.place)
-    return refusal, r, reader if refusal else replace(reader, place=reader.place + 1)
+    """"and hands out the next record": refusal or 0, the record, and the reader behind it; a refused one stays as it is. Item 11: "The reader skips deleted
+    records." Open point: a deleted record is one that isn't used, whether it ever was or not; where no other follows, 13 is given."""
+    ahead = [number for number, r in enumerate(log_records(reader.log)) if r.used() and number >= reader.place]
+    refusal, r = record_at(reader.log, ahead[0] if ahead else len(reader.log))
+    return refusal, r, reader if refusal else replace(reader, place=ahead[0] + 1)
 
 
 def read_back(log: List[int]) -> List[Record]:
-    """"reading it back up to the first unused record": what a reader hands out until it is refused."""
+    """What a reader hands out until it is refused; item 11: "Reading back gives the records that remain" """
     records_read = []
     refusal, r, reader = handing_out(LogReader(log))
     while not refusal:
@@ -589,8 +655,8 @@ class LoggedWalk:
 def logged_walk(s: Settings, state: State, octets: List[int], marks: List[int], place: int, log: List[int], job: int = 0, table: Table = EMPTY) -> LoggedWalk:
     """A walk that keeps its readings: from a place on, reading after reading, each counted Start's record appended, until `none`, `open` or a full log.
     Open point: the documents have no such call. It is refused as a reading at that place, then for 11, with the old state, place and log. It never
-    gives 12: a Start that finds no unused record is not counted, and the walk ends full where it stands. `none` and `open` end it whether or not an
-    unused record is left."""
+    gives 12: a Start that finds every record used is not counted, and the walk ends full where it stands. `none` and `open` end it whether or not an
+    unused record is left, and compact nothing."""
     refusal = read_refusal(s, octets, marks, place, job, table) or first((11, bad_log(log)))
     if refusal:
         return LoggedWalk("refused", place, state, log, refusal=refusal)
@@ -604,13 +670,16 @@ def logged_walk(s: Settings, state: State, octets: List[int], marks: List[int], 
             answer.next, answer.state, answer.log, answer.appended = r.next, r.state, step.log, answer.appended + 1
         else:
             answer.end, answer.next = r.kind, r.next
-    # The same by the walk as a whole: of its readings as many are kept as there are unused records, each in the next of these.
+    # The same by the walk as a whole: of its readings as many are kept as there are unused records, behind the used ones, which are compacted if the
+    # room behind them does not do.
     *starts, last = walk(s, state, octets, marks, place, job, table)
     stands = [(place, state)] + [(r.next, r.state) for r in starts]
-    into = dict(zip(unused_numbers(log), starts))
+    into = starts[:len(unused_numbers(log))]
     end = ("full", *stands[len(into)]) if len(into) < len(starts) else (last.kind, last.next, last.state)
     assert (answer.end, answer.next, answer.state) == end and answer.appended == len(into)
-    assert log_records(answer.log) == [fields_of(into[n]) if n in into else r for n, r in enumerate(log_records(log))]
+    new, at = octets_of([fields_of(r) for r in into]), behind_last(log) * RECORD.size
+    whole = octets_of(used_only(log)) + new
+    assert answer.log == (log[:at] + new + log[at + len(new):] if at + len(new) <= len(log) else whole + [0] * (len(log) - len(whole)))
     return answer
 
 
@@ -892,10 +961,17 @@ def try_logged_walks():
             assert len(walks) == len(sizes) and (walks[-1].end, walks[-1].next) == end
             assert [r for walked in walks for r in read_back(walked.log)] == [cut, bad]
             assert walks[-1].state == State([0, 0] + [2**64 - 1] * 9, [5] * 8)
-        # Holes are filled in order.
-        for log, filled in [(used + hole + used + hole, [used, cut.octets(), used, bad.octets()]),
-                            (hole + used + hole + hole, [cut.octets(), used, bad.octets(), hole]), (used + hole, [used, cut.octets()])]:
+        # Behind the last used record, and compacted first where that one is the last slot: for both, for the second, for the only one.
+        zero = [0] * 16
+        for log, filled in [(used + hole + used + hole, [used, used, cut.octets(), bad.octets()]),
+                            (hole + used + hole + hole, [hole, used, cut.octets(), bad.octets()]), (used + hole, [used, cut.octets()]),
+                            (hole + hole + used, [used, cut.octets(), bad.octets()]), (hole + used, [used, cut.octets()]),
+                            (hole + hole + hole + used + hole, [used, cut.octets(), bad.octets(), zero, zero]),
+                            (hole * 4 + used, [used, cut.octets(), bad.octets(), zero, zero])]:
             assert logged_walk(PRINTING, before, octets, marks, 0, log).log == sum(filled, [])
+        # Nothing is compacted for nothing, nor where every record is used.
+        for log, place in [(hole + used, 3), (hole + used, len(line)), (used + used, 0)]:
+            assert logged_walk(PRINTING, before, octets, marks, place, log).log == log
     # The refusals, one after the other.
     for length in (1, 15, 17, 31, 33):
         log = [0xA7] * length
@@ -914,6 +990,64 @@ def try_logged_walks():
 
 
 try_logged_walks()
+
+
+# ---- Room in the log, tried with every pattern of used records
+
+
+def try_room():
+    def record(n, outcome):
+        return Record(n, outcome, 3, 4, 5)
+
+    new = Record(99, 9, 9, 9, 9)
+    for size in range(6):
+        for pattern in range(3**size):
+            # Unused records with other octets, and used ones of two outcomes.
+            outcomes = [pattern // 3**n % 3 for n in range(size)]
+            log = octets_of([record(n, outcome) for n, outcome in enumerate(outcomes)])
+            remain = [record(n, outcome) for n, outcome in enumerate(outcomes) if outcome]
+            assert read_back(log) == remain
+            change = compacting(log)
+            assert (change.refusal, change.count, change.log) == (0, len(remain), octets_of(remain) + [0] * (16 * (size - len(remain))))
+            for number in list(range(size + 2)) + [2**64 - 1]:
+                change = deleting(log, number)
+                if number < size and outcomes[number]:
+                    assert (change.refusal, change.count) == (0, 1)
+                    assert [at for at in range(len(log)) if log[at] != change.log[at]] == [16 * number + 4] and change.log[16 * number + 4] == 0
+                    assert read_back(change.log) == [r for r in remain if r.place != number]
+                else:
+                    assert (change.refusal, change.count, change.log) == (13, None, log)
+            for outcome in range(4):
+                change = deleting_all(log, outcome)
+                assert (change.refusal, change.count) == (0, outcomes.count(outcome) if outcome else 0)
+                assert change.log == octets_of([record(n, 0 if o == outcome else o) for n, o in enumerate(outcomes)])
+            # Appending until every record is used: behind the last used one, or behind all that remain.
+            into = log
+            for count in range(len(remain), size):
+                last_used = bool(into[-12])
+                answer = appending(into, new)
+                assert answer.refusal == 0 and answer.number == (count if last_used else behind_last(into))
+                unused = [answer.log[at:at + 16] for at in range(0, len(log), 16) if answer.log[at + 4] == 0]
+                assert not last_used or all(octets == [0] * 16 for octets in unused)
+                into = answer.log
+            assert read_back(into) == remain + [new] * (size - len(remain))
+            assert appending(into, new) == Appending(12, None, into)
+            assert appending(log, new._replace(outcome=0)) == Appending(0, None, log)
+    # The reader passes what isn't used, and stays where nothing follows.
+    log = octets_of([record(n, outcome) for n, outcome in enumerate([0, 1, 0, 0, 2, 0])])
+    for place, number in [(0, 1), (1, 1), (2, 4), (3, 4), (4, 4)]:
+        assert handing_out(LogReader(log, place)) == (0, log_records(log)[number], LogReader(log, number + 1))
+    for place in (5, 6, 7, 2**64 - 1):
+        assert handing_out(LogReader(log, place)) == (13, None, LogReader(log, place))
+    # 11 comes first.
+    for length in (1, 15, 17, 31):
+        for octet in (0, 7):
+            log = [octet] * length
+            assert deleting(log, 0) == deleting(log, 9) == deleting_all(log, 7) == deleting_all(log, 0) == compacting(log) == LogChange(11, None, log)
+            assert appending(log, new) == Appending(11, None, log) and handing_out(LogReader(log))[0] == 11
+
+
+try_room()
 
 
 # ---- The four-lane port, tried on both sides of its limits

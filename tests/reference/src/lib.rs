@@ -1,4 +1,4 @@
-//! A reference implementation of document 01, with items 1 to 10 of document 02:
+//! A reference implementation of document 01, with items 1 to 11 of document 02:
 //! the work of an Ethernet MAC on line symbols kept in memory.
 //!
 //! Written from those documents alone, to be compared with the proved program.
@@ -26,7 +26,8 @@ mod totals;
 pub use check::{fcs, fcs_update, Check};
 pub use counting::{fill_idle_counting, send_client_counting};
 pub use counting::{send_pause_counting, send_pfc_counting};
-pub use log::{append, append_reading, first_unused, record, used_in_front, walk_log};
+pub use log::{append, append_reading, compact, delete_outcome, delete_record, first_unused};
+pub use log::{record, used_in_front, used_records, walk_log};
 pub use log::{LogEnd, LogReader, Logged, Record};
 pub use port::Port;
 pub use print::print;

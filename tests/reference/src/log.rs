@@ -1,6 +1,8 @@
 //! "A reading log", item 4 of document 02: records of 16 octets in a lent
 //! buffer. Every call but the walk gives the number of its refusal as the
 //! error. By item 7 "the log's zero octet holds" which address let a frame in.
+//! By "Room in the log", item 11, records are deleted and compacted, and
+//! appending goes behind the last used one.
 
 use crate::check::Check;
 use crate::receive::{check, read, Answer, Reading};
@@ -94,18 +96,83 @@ pub fn used_in_front(log: &[u8]) -> Result<usize, u8> {
     Ok(records.take_while(|record| is_used(record)).count())
 }
 
-/// Number of the first unused record. Gives 11 and 12.
+/// Number of the first unused record, which since item 11 isn't the one that
+/// appending takes. Gives 11 and 12.
 pub fn first_unused(log: &[u8]) -> Result<usize, u8> {
     let front = used_in_front(log)?;
     refusal::unused(front < log.len() / RECORD_LEN)?;
     Ok(front)
 }
 
-/// "appending takes the first unused one": gives its number, or nothing for
-/// outcome 0. Gives 11 and 12, but "with outcome 0 .. it appends nothing and
-/// never gives 12". A refused call changes no octet.
+/// How many records are used. Gives 11.
+pub fn used_records(log: &[u8]) -> Result<usize, u8> {
+    refusal::log(log)?;
+    let records = log.chunks_exact(RECORD_LEN);
+    Ok(records.filter(|record| is_used(record)).count())
+}
+
+/// Number of the record behind the last used one, 0 if none is used; of a log
+/// whose last record is used, the count of its records. The length is right.
+fn behind_last_used(log: &[u8]) -> usize {
+    let mut records = log.chunks_exact(RECORD_LEN);
+    records.rposition(is_used).map_or(0, |last| last + 1)
+}
+
+/// Deletes a record: "A deleted record's outcome octet becomes 0", and every
+/// other octet stays. Gives 11 and 13.
+pub fn delete_record(log: &mut [u8], number: usize) -> Result<(), u8> {
+    refusal::log(log)?;
+    let found = log.chunks_exact_mut(RECORD_LEN).nth(number);
+    let record = refusal::used(found.filter(|record| is_used(record)))?;
+    record[OUTCOME_AT] = 0;
+    Ok(())
+}
+
+/// Deletes all records of an outcome, and gives how many there were. Gives 11.
 ///
-/// Open point: outcome 0 doesn't hide a wrong log length, as only 12 is named.
+/// Open point: no record of outcome 0 is used, so none is deleted for it, and an
+/// outcome of which there is no record isn't refused.
+pub fn delete_outcome(log: &mut [u8], outcome: u8) -> Result<usize, u8> {
+    refusal::log(log)?;
+    let mut deleted = 0;
+    for record in log.chunks_exact_mut(RECORD_LEN) {
+        if is_used(record) && record[OUTCOME_AT] == outcome {
+            record[OUTCOME_AT] = 0;
+            deleted += 1;
+        }
+    }
+    Ok(deleted)
+}
+
+/// "Compaction moves the remaining ones to the front in their order and fills
+/// the rest with zero octets": gives how many remain. Gives 11.
+pub fn compact(log: &mut [u8]) -> Result<usize, u8> {
+    refusal::log(log)?;
+    Ok(compact_in(log))
+}
+
+/// The compaction of a log whose length is right.
+fn compact_in(log: &mut [u8]) -> usize {
+    let mut front = 0;
+    for at in (0..log.len()).step_by(RECORD_LEN) {
+        let record = at..at + RECORD_LEN;
+        if is_used(&log[record.clone()]) {
+            log.copy_within(record, front);
+            front += RECORD_LEN;
+        }
+    }
+    log[front..].fill(0);
+    front / RECORD_LEN
+}
+
+/// "Appending now goes after the last used record, and compacts first if that
+/// one is the last slot": gives the number of the record that it takes, or
+/// nothing for outcome 0. Gives 11 and 12, "for an outcome other than 0, exactly
+/// when every record is used", but "with outcome 0 .. it appends nothing". A
+/// refused call changes no octet.
+///
+/// Open point: outcome 0 doesn't hide a wrong log length, as only 12 is named,
+/// and it compacts nothing. In a log without records every one is used.
 ///
 /// Open point: no value of a field is refused. An outcome above 11 is written,
 /// and so is an address that no reading has, so that reading back "gives what was
@@ -115,10 +182,20 @@ pub fn append(log: &mut [u8], record: &Record) -> Result<Option<usize>, u8> {
     if record.outcome == 0 {
         return Ok(None);
     }
-    let number = first_unused(log)?;
+    let records = log.len() / RECORD_LEN;
+    refusal::unused(used_records(log)? < records)?;
+    let mut number = behind_last_used(log);
+    if number == records {
+        number = compact_in(log);
+    }
+    put(log, number, record);
+    Ok(Some(number))
+}
+
+/// Writes a record where it belongs.
+fn put(log: &mut [u8], number: usize, record: &Record) {
     let at = number * RECORD_LEN;
     log[at..at + RECORD_LEN].copy_from_slice(&record.to_octets());
-    Ok(Some(number))
 }
 
 /// Appends the fields of a reading.
@@ -139,12 +216,12 @@ pub fn record(log: &[u8], number: usize) -> Result<Record, u8> {
 }
 
 /// "A reader that keeps the lent log and its place and hands out the next
-/// record".
+/// record". It "skips deleted records".
 #[derive(Clone, Debug, PartialEq, Eq)]
 pub struct LogReader<'a> {
     /// The lent log.
     pub log: &'a [u8],
-    /// Number of the next record.
+    /// Number of the record from which on it looks for the next.
     pub place: usize,
 }
 
@@ -157,14 +234,21 @@ impl<'a> LogReader<'a> {
         LogReader { log, place: 0 }
     }
 
-    /// Hands out the record at its place and goes on to the next. Gives 11 and
-    /// 13; a refused call leaves the place.
+    /// Hands out the first used record at its place or later, and goes on
+    /// behind it. Gives 11 and 13; a refused call leaves the place.
     ///
-    /// Open point: it stops at an unused record, also where used ones follow,
-    /// as reading back goes "up to the first unused record".
+    /// Open point: a deleted record is one that isn't used, whether it ever was
+    /// or not. Where only such records follow, nothing is there to be handed
+    /// out, and 13 is given.
     pub fn next_record(&mut self) -> Result<Record, u8> {
-        let next = record(self.log, self.place)?;
-        self.place += 1;
+        refusal::log(self.log)?;
+        let records = self.log.chunks_exact(RECORD_LEN).enumerate();
+        let mut used = records
+            .skip(self.place)
+            .filter(|(_, octets)| is_used(octets));
+        let (number, _) = refusal::used(used.next())?;
+        let next = record(self.log, number)?;
+        self.place = number + 1;
         Ok(next)
     }
 }
@@ -178,7 +262,7 @@ pub enum LogEnd {
     None,
     /// A Start whose run hasn't ended.
     Open,
-    /// A Start whose run has ended, and no unused record for it.
+    /// A Start whose run has ended, and every record is used.
     Full,
 }
 
@@ -205,7 +289,8 @@ pub struct Logged {
 /// finds no unused record isn't counted and sets no timer: it is the first
 /// Start of a walk from `next` on, and with another log there nothing is lost
 /// and nothing comes twice. Where the reading is `none` or `open`, that is the
-/// end, whether or not an unused record is left.
+/// end, whether or not an unused record is left. Each record goes where
+/// appending puts it, so the log is compacted only for a Start that is counted.
 #[allow(clippy::too_many_arguments)] // The shape is that of the compared call.
 pub fn walk_log(
     kind: Check,
@@ -228,10 +313,10 @@ pub fn walk_log(
         return logged(LogEnd::Refused(number), place, 0);
     }
 
-    // A counted reading uses the record that it takes, so the first unused one
-    // for the next reading is the one that comes next here.
-    let records = log.chunks_exact_mut(RECORD_LEN);
-    let mut unused = records.filter(|record| !is_used(record));
+    // Where appending goes. Each record that is appended is the last used one
+    // then, so behind it is the next.
+    let records = log.len() / RECORD_LEN;
+    let mut number = behind_last_used(log);
     let (mut next, mut appended) = (place, 0);
     loop {
         let mut after = *state;
@@ -242,10 +327,15 @@ pub fn walk_log(
             Answer::None => return logged(LogEnd::None, reading.next, appended),
             Answer::Open => return logged(LogEnd::Open, reading.next, appended),
             Answer::Counted { .. } => {
-                let Some(record) = unused.next() else {
+                if number == records {
+                    // A log of used records alone stays as it is by this.
+                    number = compact_in(log);
+                }
+                if number == records {
                     return logged(LogEnd::Full, next, appended);
-                };
-                record.copy_from_slice(&Record::of(&reading).to_octets());
+                }
+                put(log, number, &Record::of(&reading));
+                number += 1;
                 *state = after;
                 next = reading.next;
                 appended += 1;

@@ -1,6 +1,8 @@
-//! "A reading log", item 4 of document 02.
+//! "A reading log", item 4 of document 02, as it is with "Room in the log", item
+//! 11, whose own calls are in `room`.
 
-use reference::{append, append_reading, first_unused, read, record, used_in_front, walk_log};
+use reference::{append, append_reading, compact, delete_outcome, delete_record, first_unused};
+use reference::{read, record, used_in_front, used_records, walk_log};
 use reference::{
     Answer, Check, LogEnd, LogReader, Logged, Reading, Record, Settings, State, Table,
 };
@@ -31,7 +33,7 @@ const GREATEST: Record = Record {
 };
 
 /// A log whose records are used or not, as it says; every other octet is 0xA7.
-fn log_of(used: &[bool]) -> Vec<u8> {
+pub fn log_of(used: &[bool]) -> Vec<u8> {
     let mut log = vec![0xA7; 16 * used.len()];
     for (record, &used) in log.chunks_exact_mut(16).zip(used) {
         record[4] = u8::from(used);
@@ -39,9 +41,52 @@ fn log_of(used: &[bool]) -> Vec<u8> {
     log
 }
 
-/// Appends, and checks what holds each time: only the record that is told
-/// changes, it is the first unused one, and it holds the fields.
-fn append_to(log: &mut [u8], fields: &Record) -> Result<Option<usize>, u8> {
+/// A log of these records, with zero octets behind them to that length.
+pub fn log_with(records: &[[u8; 16]], len: usize) -> Vec<u8> {
+    let mut log = records.concat();
+    log.resize(len, 0);
+    log
+}
+
+/// The used records of a log as they stand, each with its number.
+pub fn remaining(log: &[u8]) -> Vec<(usize, [u8; 16])> {
+    let records = log
+        .chunks_exact(16)
+        .map(|octets| octets.try_into().unwrap());
+    let used = records
+        .enumerate()
+        .filter(|(_, octets): &(_, [u8; 16])| octets[4] != 0);
+    used.collect()
+}
+
+/// The used records of a log without their numbers.
+pub fn used_octets(log: &[u8]) -> Vec<[u8; 16]> {
+    remaining(log)
+        .into_iter()
+        .map(|(_, octets)| octets)
+        .collect()
+}
+
+/// What is left of a log when these are appended to it, of a right length: they
+/// go behind the last used record, and from the end of the log on it is that of
+/// all used ones. As many are appended as there is room for.
+fn appended_by_hand(log: &[u8], records: &[Record]) -> (usize, Vec<u8>) {
+    let (slots, used) = (log.len() / 16, remaining(log));
+    let behind = used.last().map_or(0, |(last, _)| last + 1);
+    let kept = &records[..records.len().min(slots - used.len())];
+    let new: Vec<[u8; 16]> = kept.iter().map(Record::to_octets).collect();
+    if behind + kept.len() > slots {
+        let all = [used_octets(log), new].concat();
+        return (kept.len(), log_with(&all, log.len()));
+    }
+    let mut log = log.to_vec();
+    log[16 * behind..][..16 * kept.len()].copy_from_slice(&new.concat());
+    (kept.len(), log)
+}
+
+/// Appends, and checks what holds each time: where the record goes, what else
+/// changes, and that it holds the fields and is the last used one.
+pub fn append_to(log: &mut [u8], fields: &Record) -> Result<Option<usize>, u8> {
     let before = log.to_vec();
     let appended = append(log, fields);
     let Ok(Some(number)) = appended else {
@@ -49,28 +94,29 @@ fn append_to(log: &mut [u8], fields: &Record) -> Result<Option<usize>, u8> {
         return appended;
     };
     assert_ne!(fields.outcome, 0);
-    assert_eq!(first_unused(&before), Ok(number));
-    let (at, behind) = (16 * number, 16 * number + 16);
-    assert_eq!(log[..at], before[..at]);
-    assert_eq!(log[behind..], before[behind..]);
-    assert_eq!(log[at..behind], fields.to_octets());
+    assert_eq!((1, log.to_vec()), appended_by_hand(&before, &[*fields]));
     assert_eq!(record(log, number), Ok(*fields));
+    let expected = [used_octets(&before), vec![fields.to_octets()]].concat();
+    assert_eq!(used_octets(log), expected);
+    assert_eq!(remaining(log).pop(), Some((number, fields.to_octets())));
     appended
 }
 
 /// Reads a log back: all that a reader hands out until it is refused.
-fn read_back(log: &[u8]) -> Vec<Record> {
+pub fn read_back(log: &[u8]) -> Vec<Record> {
     let mut reader = LogReader::new(log);
     let mut records = Vec::new();
     while let Ok(next) = reader.next_record() {
         records.push(next);
     }
-    assert_eq!(reader.place, records.len());
+    // Behind the last one that it handed out.
+    let last = remaining(log).pop();
+    assert_eq!(reader.place, last.map_or(0, |(last, _)| last + 1));
     records
 }
 
 /// A zero log of that length with these records appended.
-fn written(len: usize, records: &[Record]) -> Vec<u8> {
+pub fn written(len: usize, records: &[Record]) -> Vec<u8> {
     let mut log = vec![0; len];
     for (number, fields) in records.iter().enumerate() {
         assert_eq!(append_to(&mut log, fields), Ok(Some(number)));
@@ -131,9 +177,10 @@ fn widths_at_both_ends() {
 }
 
 /// The refusals of all calls on a log, 0 for none: appending outcome 1 and
-/// outcome 0, the first unused record, the number of used ones in front,
-/// record 0, a reader, a walk.
-fn refusals_of(log: &[u8]) -> [u8; 7] {
+/// outcome 0, the first unused record, the number of used ones in front and of
+/// all of them, record 0, a reader, a walk, deleting record 0 and an outcome,
+/// compacting.
+fn refusals_of(log: &[u8]) -> [u8; 11] {
     fn number<T>(result: Result<T, u8>) -> u8 {
         result.err().unwrap_or(0)
     }
@@ -144,27 +191,31 @@ fn refusals_of(log: &[u8]) -> [u8; 7] {
         number(append_to(&mut log.to_vec(), &with_outcome(0))),
         number(first_unused(log)),
         number(used_in_front(log)),
+        number(used_records(log)),
         number(record(log, 0)),
         number(reader.next_record()),
         match walk_checked(&PLAIN, &capture, &mut BEFORE.clone(), 0, &mut log.to_vec()).end {
             LogEnd::Refused(number) => number,
             _ => 0,
         },
+        number(delete_record(&mut log.to_vec(), 0)),
+        number(delete_outcome(&mut log.to_vec(), 0xA7)),
+        number(compact(&mut log.to_vec())),
     ]
 }
 
 #[test]
 fn lengths() {
     // Without a record, with an unused one and with a used one in front.
-    let none = [12, 0, 12, 0, 13, 13, 0];
-    let unused = [0, 0, 0, 0, 13, 13, 0];
-    let used = [12, 0, 12, 0, 0, 0, 0];
+    let none = [12, 0, 12, 0, 0, 13, 13, 0, 13, 0, 0];
+    let unused = [0, 0, 0, 0, 0, 13, 13, 0, 13, 0, 0];
+    let used = [12, 0, 12, 0, 0, 0, 0, 0, 0, 0, 0];
     for len in 0..=100 {
         let full = [0xA7].repeat(len);
         let zero = [0].repeat(len);
         if len % 16 != 0 {
-            assert_eq!(refusals_of(&full), [11; 7], "{len}");
-            assert_eq!(refusals_of(&zero), [11; 7], "{len}");
+            assert_eq!(refusals_of(&full), [11; 11], "{len}");
+            assert_eq!(refusals_of(&zero), [11; 11], "{len}");
         } else if len == 0 {
             assert_eq!(refusals_of(&zero), none);
         } else {
@@ -173,7 +224,7 @@ fn lengths() {
         }
     }
     for len in [15, 17, 31, 33, 1_048_575, 1_048_577] {
-        assert_eq!(refusals_of(&[1].repeat(len)), [11; 7]);
+        assert_eq!(refusals_of(&[1].repeat(len)), [11; 11]);
     }
 }
 
@@ -241,19 +292,24 @@ fn every_pattern_of_five() {
         let used: Vec<bool> = (0..5).map(|k| pattern >> k & 1 == 1).collect();
         let mut log = log_of(&used);
         let front = used.iter().position(|&used| !used);
+        let count = used.iter().filter(|&&used| used).count();
         assert_eq!(first_unused(&log), front.ok_or(12));
         assert_eq!(used_in_front(&log), Ok(front.unwrap_or(5)));
-        assert_eq!(read_back(&log).len(), front.unwrap_or(5));
+        assert_eq!(used_records(&log), Ok(count));
+        assert_eq!(read_back(&log).len(), count);
         for (k, &used) in used.iter().enumerate() {
             assert_eq!(record(&log, k).is_ok(), used);
         }
-        // The holes are taken in their order, then there are none.
-        for hole in (0..5).filter(|&k| !used[k]) {
-            assert_eq!(append_to(&mut log, &FIELDS), Ok(Some(hole)));
+        // There is room for as many as aren't used, then there is none.
+        let behind = used.iter().rposition(|&used| used).map_or(0, |k| k + 1);
+        for appended in 0..5 - count {
+            let compacted = behind + appended >= 5;
+            let number = if compacted { count } else { behind } + appended;
+            assert_eq!(append_to(&mut log, &FIELDS), Ok(Some(number)));
         }
         assert_eq!(append_to(&mut log, &FIELDS), Err(12));
-        for (k, &used) in used.iter().enumerate() {
-            assert_eq!(record(&log, k) == Ok(FIELDS), !used);
+        for k in 0..5 {
+            assert_eq!(record(&log, k) == Ok(FIELDS), k >= count);
         }
     }
 }
@@ -264,10 +320,11 @@ fn a_hole_in_the_middle() {
     assert_eq!(used_in_front(&log), Ok(2));
     assert_eq!(first_unused(&log), Ok(2));
     assert_eq!(record(&log, 2), Err(13));
-    // A record behind it is used all the same, but reading back stops before.
+    // A record behind it is used all the same, and reading back skips it.
     assert_eq!(record(&log, 3).map(|record| record.outcome), Ok(1));
-    assert_eq!(read_back(&log).len(), 2);
-    assert_eq!(append_to(&mut log, &FIELDS), Ok(Some(2)));
+    assert_eq!(read_back(&log).len(), 4);
+    // The last slot is used, so those behind the hole move up.
+    assert_eq!(append_to(&mut log, &FIELDS), Ok(Some(4)));
     assert_eq!(read_back(&log).len(), 5);
     assert_eq!(append_to(&mut log, &FIELDS), Err(12));
 }
@@ -342,7 +399,7 @@ fn read_as_they_stand() {
 }
 
 /// A used record of any octets.
-fn any_record(dice: &mut Dice) -> Record {
+pub fn any_record(dice: &mut Dice) -> Record {
     let mut octets = [(); 16].map(|()| dice.roll(256) as u8);
     octets[4] = 1 + dice.roll(255) as u8;
     Record::from_octets(&octets)
@@ -380,11 +437,12 @@ fn outcome_0_in_between_leaves_no_trace() {
 
 #[test]
 fn the_reader_keeps_its_place() {
-    let log = log_of(&[true, true, false, true]);
+    let mut log = log_of(&[true, true, false, false, true, false]);
+    log[16 * 4] = 0x77;
     let mut reader = LogReader::new(&log);
-    for place in 0..2 {
+    for (place, number) in [(0, 0), (1, 1), (2, 4)] {
         assert_eq!(reader.place, place);
-        assert_eq!(reader.next_record(), record(&log, place));
+        assert_eq!(reader.next_record(), record(&log, number));
     }
     for _ in 0..3 {
         assert_eq!(reader.next_record(), Err(13));
@@ -392,15 +450,20 @@ fn the_reader_keeps_its_place() {
             reader,
             LogReader {
                 log: &log,
-                place: 2
+                place: 5
             }
         );
     }
-    // From any place, also one where nothing is.
-    for (place, after) in [(3, 4), (4, 4), (5, 5), (usize::MAX, usize::MAX)] {
+    // From any place, also one where nothing is or nothing follows.
+    for (place, number) in [(2, 4), (3, 4), (4, 4)] {
         let mut reader = LogReader { log: &log, place };
-        assert_eq!(reader.next_record(), record(&log, place));
-        assert_eq!(reader.place, after);
+        assert_eq!(reader.next_record(), record(&log, number));
+        assert_eq!(reader.place, 5);
+    }
+    for place in [5, 6, 7, usize::MAX / 16 + 1, usize::MAX] {
+        let mut reader = LogReader { log: &log, place };
+        assert_eq!(reader.next_record(), Err(13));
+        assert_eq!(reader.place, place);
     }
     let mut reader = LogReader::new(&log[1..]);
     assert_eq!(reader.next_record(), Err(11));
@@ -626,7 +689,7 @@ fn by_hand(
 /// Walks with a log in all three ways, and checks the whole answer: it is
 /// refused as a reading is, then for the log's length, and changes nothing
 /// then; else it keeps as many of the readings that there are from that place
-/// on as there are unused records.
+/// on as there are unused records, behind the used ones.
 fn walk_checked(
     by: impl Into<Reader>,
     capture: &Capture,
@@ -661,12 +724,10 @@ fn walk_checked(
         assert_eq!(log_after, log);
         return logged;
     }
-    let records = log.chunks_exact_mut(16);
-    let unused: Vec<&mut [u8]> = records.filter(|record| record[4] == 0).collect();
-    let kept = &counted[..counted.len().min(unused.len())];
-    for ((reading, _), record) in kept.iter().zip(unused) {
-        record.copy_from_slice(&Record::of(reading).to_octets());
-    }
+    let records: Vec<Record> = counted.iter().map(|(r, _)| Record::of(r)).collect();
+    let (appended, expected_log) = appended_by_hand(log, &records);
+    log.copy_from_slice(&expected_log);
+    let kept = &counted[..appended];
     let (end, next, expected) = if kept.len() < counted.len() {
         let stands = kept.last().map(|(reading, state)| (reading.next, *state));
         let (next, state) = stands.unwrap_or((place, *state));
@@ -895,24 +956,32 @@ fn a_walk_goes_on_behind_an_earlier_one() {
 }
 
 #[test]
-fn a_walk_takes_the_holes() {
-    let four = [true, false, true, false, false, true, false];
-    let five = [false, true, true, false, false, false, true, false, true];
-    let six = [false, false, true, false, false, false, true, false];
-    for (used, holes, expected) in [
-        (&four[..], &[1, 3, 4, 6][..], ended(LogEnd::Full, 400, 4)),
-        (&five, &[0, 3, 4, 5, 7], ended(LogEnd::None, 403, 5)),
-        (&six, &[0, 1, 3, 4, 5], ended(LogEnd::None, 403, 5)),
+fn a_walk_compacts_for_room() {
+    // Room behind the last used record for all five, for some of them, for none;
+    // and the number of the first of them, with what is left of the others.
+    let five = [false, true, false, false, false, false, false];
+    let some = [true, false, true, false, false, true, false, false];
+    let none = [false, true, false, false, false, true, false, true];
+    let few = [true, false, true, false, false, true];
+    for (used, first, expected) in [
+        (&five[..], 2, ended(LogEnd::None, 403, 5)),
+        (&some, 3, ended(LogEnd::None, 403, 5)),
+        (&none, 3, ended(LogEnd::None, 403, 5)),
+        (&few, 3, ended(LogEnd::Full, 327, 3)),
     ] {
         let mut log = log_of(used);
         let logged = walk_checked(&PLAIN, &five_starts(IDLE), &mut BEFORE.clone(), 0, &mut log);
         assert_eq!(logged, expected);
-        let mut left = log_of(used);
-        for (&hole, fields) in holes.iter().zip(five_records()) {
-            assert_eq!(record(&log, hole), Ok(fields));
-            left[16 * hole..][..16].copy_from_slice(&fields.to_octets());
+        let kept = &five_records()[..logged.appended];
+        for (number, fields) in (first..).zip(kept) {
+            assert_eq!(record(&log, number), Ok(*fields));
         }
-        assert_eq!(log, left);
+        let mut expected = used_octets(&log_of(used));
+        expected.extend(kept.iter().map(Record::to_octets));
+        assert_eq!(used_octets(&log), expected);
+        if first == 3 {
+            assert_eq!(log, log_with(&expected, 16 * used.len()));
+        }
     }
 }
 

@@ -1,4 +1,4 @@
-//! The rules of document 01 and of items 1 to 10 of document 02, one module for
+//! The rules of document 01 and of items 1 to 11 of document 02, one module for
 //! each part.
 
 mod addresses;
@@ -15,6 +15,7 @@ mod reading;
 mod reasons;
 mod refusals;
 mod robust;
+mod room;
 mod round_trip;
 mod sending;
 mod tags;
