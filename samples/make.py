@@ -1,8 +1,8 @@
 #!/usr/bin/env python3
 """Makes the sample captures of this folder, NAME.capture, and beside each what the printing program prints of it, NAME.txt, and what `why` does,
-NAME.why.txt; of one also a log of its
-readings, NAME.log, and a line on each record, NAME.log.txt: all by the independent model (tools/oracle/model.py). `samples/make.py` writes them;
-`samples/make.py --check` writes nothing and compares them with the files kept."""
+NAME.why.txt; of one also a log of its readings, NAME.log, and a line on each record, NAME.log.txt, and a shorter log after each of six calls, room.log and
+room.log.txt: all by the independent model (tools/oracle/model.py). `samples/make.py` writes them; `samples/make.py --check` writes nothing and compares them
+with the files kept."""
 import random
 import sys
 from dataclasses import replace
@@ -11,8 +11,9 @@ from pathlib import Path
 HERE = Path(__file__).resolve().parent
 sys.dont_write_bytecode = True  # nothing but the samples is written into the repository
 sys.path.insert(0, str(HERE.parent / "tools" / "oracle"))
-from model import (BROADCAST, CONTROL, CUSTOMER, ERROR, IDLE, PRINTING, SERVICE, START, TERMINATE, Client, State, client_symbols,  # noqa: E402
-                   high_first, idle_symbols, log_records, logged_walk, on_line, pause_symbols, pfc_symbols, printed, read_back, records, walks_on)
+from model import (BROADCAST, CONTROL, CUSTOMER, ERROR, IDLE, PRINTING, SERVICE, START, TERMINATE, Client, State, client_symbols, compacting,  # noqa: E402
+                   deleting, deleting_all, high_first, idle_symbols, log_records, logged_walk, on_line, pause_symbols, pfc_symbols, printed, read_back,
+                   records, used_only, walks_on)
 from reason_text import whys  # noqa: E402
 
 US = PRINTING.own
@@ -167,14 +168,48 @@ def log_lines(walked):
     return ("\n".join(lines) + "\n").encode()
 
 
+# ---- Room in a log
+
+SLOTS = 6  # too few for that run
+
+
+def made_room(capture):
+    """What is done with a log of so many records, call after call, and the log after each: walks over the capture, from where the one before was full,
+    deletions and a compaction."""
+    octets, marks = list(capture[1::2]), list(capture[0::2])
+
+    def walk(state, place, log):
+        w = logged_walk(PRINTING, state, octets, marks, place, log)
+        return w, (f"walk from {place}: {w.appended} kept, {w.end} at {w.next}", w.log)
+
+    walked, first_walk = walk(State(), 0, [0] * (16 * SLOTS))
+    dealt_with = deleting_all(deleting_all(walked.log, 5).log, 1).log
+    walked, second_walk = walk(walked.state, walked.next, dealt_with)
+    two = deleting(deleting(walked.log, 0).log, SLOTS - 1).log
+    walked, third_walk = walk(walked.state, walked.next, two)
+    return [first_walk, ("delete outcomes 5 and 1", dealt_with), second_walk, (f"delete records 0 and {SLOTS - 1}", two), third_walk,
+            ("compact", compacting(walked.log).log)]
+
+
+def room_lines(steps):
+    """A line on each: the places of its records, `-` for one that is unused and has other octets, `0` for zeros; how many are used; what was done."""
+    lines = ["record" + "".join(f"{n:5}" for n in range(SLOTS)) + "   used"]
+    for done, log in steps:
+        cells = [str(r.place) if r.used() else "-" if any(r) else "0" for r in log_records(log)]
+        lines.append("      " + "".join(f"{cell:>5}" for cell in cells) + f"   {len(used_only(log)):4}   {done}")
+    return ("\n".join(lines) + "\n").encode()
+
+
 def files():
-    """Every file that is made, by its name: the captures, what the model says is printed of them, and the log."""
+    """Every file that is made, by its name: the captures, what the model says is printed of them, and the logs."""
     captures = samples()
     made = {f"{name}.capture": data for name, data in captures.items()}
     made.update({f"{name}.txt": printed(data) for name, data in captures.items()})
     made.update({f"{name}.why.txt": whys(data) for name, data in captures.items()})
     walked = kept_walk(captures[LOGGED])
     made.update({f"{LOGGED}.log": bytes(walked.log), f"{LOGGED}.log.txt": log_lines(walked)})
+    steps = made_room(captures[LOGGED])
+    made.update({"room.log": bytes(sum((log for _, log in steps), [])), "room.log.txt": room_lines(steps)})
     return made
 
 

@@ -1,5 +1,5 @@
 //! Fenhamper's speed beside an independent Rust program and C: symbols per second of `walk`, of
-//! `walk_log`, of `read` and `explain` Start by Start, of sending and of totals.
+//! `walk_log`, of `read` and `explain` Start by Start, of sending, of room in a log and of totals.
 #![deny(unsafe_code)]
 mod baseline;
 mod captures;
@@ -18,9 +18,9 @@ use baseline::Reader;
 use captures::{Kind, Line, FRAMES, HOSTILE, SYMBOLS};
 use measure::{agree, Effort, Rivals};
 use reference::{Check, Port};
-use report::{placed, Cell, Growth, Listed, Report, Row, Totals};
-use rivals::{Asker, By, Filler, InC, Independent, IndependentSender, Job, Proved, ProvedSender};
-use rivals::{Rival, Whose};
+use report::{placed, Cell, Growth, Listed, Report, Room, Row, Totals};
+use rivals::{full_log, Asker, By, Filler, InC, Independent, IndependentSender, Job, Making};
+use rivals::{Proved, ProvedSender, Rival, RoomMaker, Whose};
 
 const USAGE: &str = "\
 bench/run [--markdown FILE] [--rounds N] [--turn MILLISECONDS]
@@ -41,6 +41,15 @@ const SENDINGS: [(&str, Port, bool); 3] = [
 
 /// The capture that is read with a full table too.
 const LISTED: &str = "64";
+
+/// The captures whose log is compacted, and what is done with it: with every record used, and with
+/// every other one deleted.
+const ROOMY: [&str; 2] = ["64", "all Starts"];
+const MAKINGS: [(Making, bool); 3] = [
+    (Making::Compact, false),
+    (Making::Compact, true),
+    (Making::Delete, false),
+];
 
 /// The captures whose totals are filled and asked.
 const COUNTED: [&str; 3] = ["all Idle", "64", "all Starts"];
@@ -201,6 +210,26 @@ impl Bench {
         }
     }
 
+    // Making room in a log of as many records as a capture has Starts, beside the walk that fills it.
+    fn room(&self, kind: &Kind, line: &Line) -> Room {
+        let mut rivals: Rivals = vec![Box::new(Proved::new(By::WalkLog, line, kind.limit))];
+        let records = rivals[0].run().count;
+        for (making, holes) in MAKINGS {
+            let maker = |whose| -> Box<dyn Rival> {
+                Box::new(RoomMaker::new(whose, making, full_log(records, holes)))
+            };
+            let mut makers: Rivals = [Whose::Proved, Whose::Independent].map(maker).into();
+            agree(kind.name, &mut makers);
+            rivals.append(&mut makers);
+        }
+        let seconds = self.effort.seconds(&mut rivals);
+        Room {
+            capture: kind.name,
+            records,
+            nanoseconds: seconds.iter().map(|s| s * 1e9 / records as f64).collect(),
+        }
+    }
+
     // `walk` and `walk_log` on captures of one kind and growing size, in fewer rounds, since there are many.
     fn growth(&self, kind: &Kind) -> Growth {
         let bench = Bench {
@@ -240,7 +269,7 @@ impl Bench {
     fn report(&self, machine: Vec<String>) -> Report {
         let kinds: Vec<Kind> = FRAMES.into_iter().chain(HOSTILE).collect();
         let (mut rows, mut listed) = (Vec::new(), Vec::new());
-        let (mut totals, mut growth) = (Vec::new(), Vec::new());
+        let (mut room, mut totals, mut growth) = (Vec::new(), Vec::new(), Vec::new());
         for kind in &kinds {
             eprintln!("reading: {}", kind.name);
             if let Some(line) = kind.capture(SYMBOLS) {
@@ -255,6 +284,13 @@ impl Bench {
         for kind in &FRAMES {
             eprintln!("sending: {}", kind.name);
             rows.extend(self.sending(kind));
+        }
+        for name in ROOMY {
+            eprintln!("room: {name}");
+            for kind in kinds.iter().filter(|kind| kind.name == name) {
+                let line = kind.capture(SYMBOLS);
+                room.extend(line.map(|line| self.room(kind, &line)));
+            }
         }
         for name in COUNTED {
             eprintln!("totals: {name}");
@@ -274,6 +310,7 @@ impl Bench {
             zlib: self.zlib.is_some(),
             rows,
             listed,
+            room,
             totals,
             sizes: SIZES.to_vec(),
             growth,

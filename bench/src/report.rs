@@ -44,6 +44,15 @@ pub struct Listed {
     pub rates: Vec<f64>,
 }
 
+/// Room in a log of as many records as a capture has Starts.
+pub struct Room {
+    pub capture: &'static str,
+    pub records: usize,
+    /// Nanoseconds a record: of `walk_log`, which fills it; then, Fenhamper's and the reference's, of
+    /// compacting it full, and with every other record deleted, and of deleting these.
+    pub nanoseconds: Vec<f64>,
+}
+
 /// Totals of one capture of the most symbols: Fenhamper's, the reference's, C's.
 pub struct Totals {
     pub capture: &'static str,
@@ -84,6 +93,7 @@ pub struct Report {
     pub zlib: bool,
     pub rows: Vec<Row>,
     pub listed: Vec<Listed>,
+    pub room: Vec<Room>,
     pub totals: Vec<Totals>,
     pub sizes: Vec<usize>,
     pub growth: Vec<Growth>,
@@ -192,6 +202,29 @@ impl Report {
                 cell(rate(3), 3),
                 cell(to(3), 2),
             ];
+            line(out, cells);
+        }
+    }
+
+    // Making room in a log, beside the walk that fills it.
+    fn room(&self, out: &mut String) {
+        out.push_str("In nanoseconds a record, of a log of as many records as the capture has Starts: `walk_log`, which fills it; compaction with\n");
+        out.push_str("every record used and with every other one deleted; deleting every other one by its outcome.\n\n");
+        let names = [
+            "Capture",
+            "Records",
+            "`walk_log`",
+            "`compact`, full",
+            "reference",
+            "`compact`, half deleted",
+            "reference",
+            "`delete_outcome`, half",
+            "reference",
+        ];
+        head(out, names.map(str::to_owned).to_vec(), 1);
+        for room in &self.room {
+            let mut cells = vec![room.capture.to_owned(), room.records.to_string()];
+            cells.extend(room.nanoseconds.iter().map(|&ns| cell(Some(ns), 2)));
             line(out, cells);
         }
     }
@@ -348,6 +381,8 @@ impl Report {
         self.by_capture(&mut out, COUNTED);
         out.push_str("\n### A table of 12 and 4 entries\n\n");
         self.listed(&mut out);
+        out.push_str("\n### Room in a log\n\n");
+        self.room(&mut out);
         out.push_str("\n### Totals of 65,536 symbols\n\n");
         self.totals(&mut out);
         out.push_str("\n### `walk`: nanoseconds per symbol by the capture's size in symbols\n\n");

@@ -537,6 +537,94 @@ fn written(line: &Line, totals: &[u16]) -> Vec<u64> {
     symbols(line).into_iter().chain(numbers(totals)).collect()
 }
 
+/// What makes room in a log.
+#[derive(Clone, Copy)]
+pub enum Making {
+    /// Compaction.
+    Compact,
+    /// Deleting the records of one outcome.
+    Delete,
+}
+
+/// The outcome of which records are deleted, and another.
+const OUTCOMES: [u8; 2] = [11, 5];
+const OUTCOME_AT: usize = 4;
+
+/// A full log of so many records, which have two outcomes in turn; with `holes` those of the second
+/// are deleted.
+pub fn full_log(records: usize, holes: bool) -> Vec<u8> {
+    let mut log = vec![0x55; records * RECORD_SIZE];
+    for (n, record) in log.chunks_exact_mut(RECORD_SIZE).enumerate() {
+        record[OUTCOME_AT] = OUTCOMES[n % 2];
+        if holes && n % 2 == 1 {
+            record[OUTCOME_AT] = 0;
+        }
+    }
+    log
+}
+
+/// One that makes room in a log, which before each run is what it was.
+pub struct RoomMaker {
+    whose: Whose,
+    making: Making,
+    before: Vec<u8>,
+    log: Vec<u8>,
+}
+
+impl RoomMaker {
+    pub fn new(whose: Whose, making: Making, before: Vec<u8>) -> Self {
+        RoomMaker {
+            whose,
+            making,
+            log: before.clone(),
+            before,
+        }
+    }
+
+    fn proved(&mut self) -> usize {
+        let Ok(mut log) = Log::new(black_box(&mut self.log)) else {
+            return 0;
+        };
+        match self.making {
+            Making::Compact => log.compact(),
+            Making::Delete => return log.delete_outcome(OUTCOMES[1]),
+        }
+        0
+    }
+
+    // of a compaction it tells how many remain, which is no part of the job
+    fn independent(&mut self) -> usize {
+        let log = black_box(&mut self.log);
+        match self.making {
+            Making::Compact => reference::compact(log).map(|_| 0),
+            Making::Delete => reference::delete_outcome(log, OUTCOMES[1]),
+        }
+        .unwrap_or(0)
+    }
+}
+
+impl Rival for RoomMaker {
+    fn run(&mut self) -> Tally {
+        let count = match self.whose {
+            Whose::Proved => self.proved(),
+            _ => self.independent(),
+        };
+        Tally {
+            count,
+            ..Tally::default()
+        }
+    }
+
+    fn kept(&self) -> Vec<u64> {
+        self.log.iter().map(|&octet| u64::from(octet)).collect()
+    }
+
+    fn ready(&mut self) -> bool {
+        self.log.copy_from_slice(&self.before);
+        !self.log.is_empty()
+    }
+}
+
 /// Fenhamper, sending.
 pub struct ProvedSender<'a> {
     job: Job<'a>,

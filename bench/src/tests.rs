@@ -5,8 +5,9 @@ use crate::baseline::{self, Reader};
 use crate::captures::{data, symbols, Kind, Line, Random, FRAMES, HOSTILE};
 use crate::measure::{agree, Rivals};
 use crate::report::placed;
-use crate::rivals::{reference_settings, Asker, By, Filler, InC, Independent, IndependentSender};
-use crate::rivals::{Job, Proved, ProvedSender, Rival, Whose, OWN};
+use crate::rivals::{full_log, reference_settings, Asker, By, Filler, InC, Independent};
+use crate::rivals::{IndependentSender, Job, Making, Proved, ProvedSender, Rival, RoomMaker};
+use crate::rivals::{Whose, OWN};
 
 const LIMIT: u16 = 1518;
 
@@ -248,4 +249,32 @@ fn figures_go_between_the_marks() {
     assert_eq!(placed_once, format!("before\n{begin}\nnew\n\n{end}after\n"));
     assert_eq!(placed(&placed_once, "new\n"), placed_once);
     assert_eq!(placed("no marks", "new\n"), "new\n");
+}
+
+// Both make the same room, and it is the room that there is.
+#[test]
+fn the_same_room_is_made() {
+    for records in [0, 1, 2, 3, 780] {
+        for (making, holes, deleted) in [
+            (Making::Compact, false, 0),
+            (Making::Compact, true, 0),
+            (Making::Delete, false, records / 2),
+            (Making::Delete, true, 0),
+        ] {
+            let log = full_log(records, holes);
+            let maker =
+                |whose| -> Box<dyn Rival> { Box::new(RoomMaker::new(whose, making, log.clone())) };
+            let mut makers: Rivals = [Whose::Proved, Whose::Independent].map(maker).into();
+            let after = agree("room", &mut makers);
+            makers[0].ready();
+            assert_eq!(makers[0].run().count, deleted);
+            let used = after.chunks(16).filter(|record| record[4] != 0).count();
+            let left = if holes {
+                records.div_ceil(2)
+            } else {
+                records - deleted
+            };
+            assert_eq!(used, left);
+        }
+    }
 }

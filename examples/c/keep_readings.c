@@ -44,7 +44,7 @@ static void print_record(const fenhamper_record *r) {
   printf("%u octets, status %010" PRIX64 "\n", r->data_length, r->status);
 }
 
-/* Reads a log back, record by record, up to the first unused one. */
+/* Reads a log back, record by record. */
 static void print_log(const fenhamper_record *log) {
   fenhamper_record record;
   size_t at = 0;

@@ -373,23 +373,46 @@ static void a_record_stands_low_octet_first(void) {
   CHECK(same_but(0) && same(&logged[0], &numbered));
 }
 
-/* Holes are taken in order, whatever else stands in them, and no value of a field is refused. */
-static void appending_takes_the_first_unused_one(void) {
+/* Whether these are the records of the log; a null one is all zeros. */
+static int log_is(const fenhamper_record *first, const fenhamper_record *second, const fenhamper_record *third, const fenhamper_record *fourth) {
+  static const fenhamper_record zeros = FENHAMPER_ZEROS;
+  const fenhamper_record *expected[4];
+  size_t i;
+  int holds = 1;
+  expected[0] = first;
+  expected[1] = second;
+  expected[2] = third;
+  expected[3] = fourth;
+  for (i = 0; i < 4; i++) holds = holds && same(&logged[i], expected[i] ? expected[i] : &zeros);
+  return holds;
+}
+
+/* A hole stays, whatever stands in it, while there is room behind the last used one; then the log is compacted. No value of a field is refused. */
+static void appending_goes_behind_the_last_used_one(void) {
   static const fenhamper_record most = {UINT32_MAX, UINT8_MAX, UINT8_MAX, UINT16_MAX, UINT64_MAX};
   uint8_t *log = log_of(11, 0, 255, 0);
-  CHECK(fenhamper_log_append(log, 64, &numbered) == 0 && same(&logged[1], &numbered) && same_but(1));
-  memcpy(was, logged, sizeof was);
-  CHECK(fenhamper_log_append(log, 64, &most) == 0 && same(&logged[3], &most) && same_but(3));
+  CHECK(fenhamper_log_append(log, 64, &numbered) == 0 && same(&logged[3], &numbered) && same_but(3));
+  CHECK(fenhamper_log_append(log, 64, &most) == 0 && log_is(&was[0], &was[2], &numbered, &most));
   memcpy(was, logged, sizeof was);
   CHECK(fenhamper_log_append(log, 64, &numbered) == FENHAMPER_LOG_FULL && same_but(4));
   CHECK(fenhamper_log_append(log, 0, &numbered) == FENHAMPER_LOG_FULL && same_but(4));
+  /* the last one used and one free: in front, in the middle, and all but the last */
+  CHECK(fenhamper_log_append(log_of(0, 1, 2, 3), 64, &numbered) == 0 && log_is(&was[1], &was[2], &was[3], &numbered));
+  CHECK(fenhamper_log_append(log_of(1, 2, 0, 3), 64, &numbered) == 0 && log_is(&was[0], &was[1], &was[3], &numbered));
+  CHECK(fenhamper_log_append(log_of(0, 0, 0, 3), 64, &numbered) == 0 && log_is(&was[3], &numbered, NULL, NULL));
+  /* room behind it: holes in front stay */
+  CHECK(fenhamper_log_append(log_of(0, 0, 3, 0), 64, &numbered) == 0 && same(&logged[3], &numbered) && same_but(3));
+  CHECK(fenhamper_log_append(log_of(0, 0, 0, 0), 64, &numbered) == 0 && same(&logged[0], &numbered) && same_but(0));
+  /* of a part of the log no other record is touched */
+  CHECK(fenhamper_log_append(log_of(0, 1, 0, 0), 32, &numbered) == 0 && same(&logged[0], &was[1]) && same(&logged[1], &numbered));
+  CHECK(same(&logged[2], &was[2]) && same(&logged[3], &was[3]));
 }
 
 /* It may be refused for the length, never for a full log. */
 static void outcome_0_is_not_appended(void) {
   fenhamper_record none = numbered;
   none.outcome = 0;
-  CHECK(fenhamper_log_append(log_of(1, 0, 0, 1), 64, &none) == 0 && same_but(4));
+  CHECK(fenhamper_log_append(log_of(1, 0, 0, 1), 64, &none) == 0 && same_but(4)); /* and compacts nothing */
   CHECK(fenhamper_log_append(log_of(1, 1, 1, 1), 64, &none) == 0 && same_but(4));
   CHECK(fenhamper_log_append(log_of(1, 1, 1, 1), 0, &none) == 0 && same_but(4));
   CHECK(fenhamper_log_append(log_of(0, 0, 0, 0), 63, &none) == FENHAMPER_BAD_LOG && same_but(4));
@@ -409,20 +432,105 @@ static void a_record_is_read_by_its_number(void) {
   CHECK(same(&record, &numbered) && same_but(4));
 }
 
-/* From record 0 on, up to the first unused one: there the number stays. */
+/* From record 0 on, holes skipped; where no used one follows, the number stays. */
 static void a_log_is_read_back(void) {
-  const uint8_t *log = log_of(11, 7, 0, 1);
+  const uint8_t *log = log_of(11, 0, 7, 0);
   fenhamper_record record = numbered;
   size_t at = 0, used = 99;
   CHECK(fenhamper_log_next(log, 64, &at, &record) == 0 && at == 1 && same(&record, &was[0]));
-  CHECK(fenhamper_log_next(log, 64, &at, &record) == 0 && at == 2 && same(&record, &was[1]));
-  CHECK(fenhamper_log_next(log, 64, &at, &record) == FENHAMPER_NOT_USED && at == 2 && same(&record, &was[1]));
-  CHECK(fenhamper_log_next(log, 32, &at, &record) == FENHAMPER_NOT_USED && at == 2);
+  CHECK(fenhamper_log_next(log, 64, &at, &record) == 0 && at == 3 && same(&record, &was[2]));
+  CHECK(fenhamper_log_next(log, 64, &at, &record) == FENHAMPER_NOT_USED && at == 3 && same(&record, &was[2]));
+  at = 1;
+  CHECK(fenhamper_log_next(log, 32, &at, &record) == FENHAMPER_NOT_USED && at == 1);
+  at = 4;
+  CHECK(fenhamper_log_next(log, 64, &at, &record) == FENHAMPER_NOT_USED && at == 4);
+  at = SIZE_MAX;
+  CHECK(fenhamper_log_next(log, 64, &at, &record) == FENHAMPER_NOT_USED && at == SIZE_MAX);
+  CHECK(same(&record, &was[2]));
+  at = 2;
+  CHECK(fenhamper_log_next(log, 64, &at, &record) == 0 && at == 3 && same(&record, &was[2]));
   CHECK(fenhamper_log_used(log, 64, &used) == 0 && used == 2);
-  CHECK(fenhamper_log_used(log, 32, &used) == 0 && used == 2);
-  CHECK(fenhamper_log_used(log + 32, 32, &used) == 0 && used == 0);
+  CHECK(fenhamper_log_used(log, 32, &used) == 0 && used == 1);
+  CHECK(fenhamper_log_used(log + 16, 48, &used) == 0 && used == 1);
+  CHECK(fenhamper_log_used(log + 16, 16, &used) == 0 && used == 0);
   CHECK(fenhamper_log_used(log, 0, &used) == 0 && used == 0);
   CHECK(same_but(4));
+}
+
+/* The outcome octet alone becomes 0; one that is unused, deleted or beyond the log is refused. */
+static void a_record_is_deleted_by_its_number(void) {
+  uint8_t *log = log_of(11, 0, 255, 1);
+  fenhamper_record deleted = was[2], record = numbered;
+  deleted.outcome = 0;
+  CHECK(fenhamper_log_delete(log, 64, 2) == 0 && same(&logged[2], &deleted) && same_but(2));
+  CHECK(fenhamper_log_record(log, 64, 2, &record) == FENHAMPER_NOT_USED && same(&record, &numbered));
+  memcpy(was, logged, sizeof was);
+  CHECK(fenhamper_log_delete(log, 64, 2) == FENHAMPER_NOT_USED);
+  CHECK(fenhamper_log_delete(log, 64, 1) == FENHAMPER_NOT_USED);
+  CHECK(fenhamper_log_delete(log, 64, 4) == FENHAMPER_NOT_USED);
+  CHECK(fenhamper_log_delete(log, 48, 3) == FENHAMPER_NOT_USED);
+  CHECK(fenhamper_log_delete(log, 64, SIZE_MAX) == FENHAMPER_NOT_USED);
+  CHECK(fenhamper_log_delete(log, 64, SIZE_MAX / 16 + 1) == FENHAMPER_NOT_USED);
+  CHECK(fenhamper_log_delete(log, 0, 0) == FENHAMPER_NOT_USED);
+  CHECK(same_but(4));
+  CHECK(fenhamper_log_delete(log, 64, 3) == 0 && logged[3].outcome == 0 && same_but(3));
+}
+
+static void an_outcome_is_deleted(void) {
+  uint8_t *log = log_of(11, 7, 11, 0);
+  size_t deleted = 99, used = 99;
+  CHECK(fenhamper_log_delete_outcome(log, 64, 1, &deleted) == 0 && deleted == 0 && same_but(4));
+  deleted = 99;
+  CHECK(fenhamper_log_delete_outcome(log, 64, 0, &deleted) == 0 && deleted == 0 && same_but(4));
+  was[0].outcome = was[2].outcome = 0;
+  CHECK(fenhamper_log_delete_outcome(log, 64, 11, &deleted) == 0 && deleted == 2 && same_but(4));
+  CHECK(fenhamper_log_delete_outcome(log, 64, 11, &deleted) == 0 && deleted == 0 && same_but(4));
+  CHECK(fenhamper_log_used(log, 64, &used) == 0 && used == 1);
+  log_of(255, 255, 255, 255);
+  was[0].outcome = was[1].outcome = was[2].outcome = 0;
+  CHECK(fenhamper_log_delete_outcome(log, 48, 255, &deleted) == 0 && deleted == 3 && same_but(4));
+  CHECK(fenhamper_log_delete_outcome(log, 0, 255, &deleted) == 0 && deleted == 0 && same_but(4));
+}
+
+/* Twice is as once, and nothing is moved where nothing is to be. */
+static void a_log_is_compacted(void) {
+  uint8_t *log = log_of(0, 1, 0, 2);
+  int again;
+  for (again = 0; again < 2; again++) CHECK(fenhamper_log_compact(log, 64) == 0 && log_is(&was[1], &was[3], NULL, NULL));
+  log_of(1, 2, 3, 4);
+  CHECK(fenhamper_log_compact(log, 64) == 0 && same_but(4));
+  log_of(0, 1, 2, 3);
+  CHECK(fenhamper_log_compact(log, 64) == 0 && log_is(&was[1], &was[2], &was[3], NULL));
+  log_of(1, 2, 3, 0);
+  CHECK(fenhamper_log_compact(log, 64) == 0 && log_is(&was[0], &was[1], &was[2], NULL));
+  log_of(0, 0, 0, 0);
+  CHECK(fenhamper_log_compact(log, 0) == 0 && same_but(4));
+  CHECK(fenhamper_log_compact(log, 16) == 0 && log_is(NULL, &was[1], &was[2], &was[3]));
+  CHECK(fenhamper_log_compact(log, 64) == 0 && log_is(NULL, NULL, NULL, NULL));
+}
+
+/* What is dealt with makes room: a full log takes a record for each that is deleted, and is read back in the order of appending. */
+static void deleted_records_make_room(void) {
+  uint8_t *log = zero_log();
+  fenhamper_record record = FENHAMPER_ZEROS;
+  size_t at = 0, deleted = 99;
+  uint32_t place = 0, seen;
+  for (; place < 4; place++) {
+    record.place = place;
+    record.outcome = (uint8_t)(1 + place % 2);
+    CHECK(fenhamper_log_append(log, 64, &record) == 0);
+  }
+  record.place = place;
+  CHECK(fenhamper_log_append(log, 64, &record) == FENHAMPER_LOG_FULL);
+  CHECK(fenhamper_log_delete_outcome(log, 64, 1, &deleted) == 0 && deleted == 2);
+  for (; place < 6; place++) {
+    record.place = place;
+    CHECK(fenhamper_log_append(log, 64, &record) == 0);
+  }
+  CHECK(fenhamper_log_append(log, 64, &record) == FENHAMPER_LOG_FULL);
+  CHECK(fenhamper_log_delete(log, 64, 2) == 0);
+  for (seen = 1; fenhamper_log_next(log, 64, &at, &record) == 0; seen += 2) CHECK(record.place == seen && record.outcome == 2);
+  CHECK(seen == 7 && at == 4);
 }
 
 /* 11 comes before 12 and 13, and a refused call leaves all. */
@@ -440,7 +548,14 @@ static void a_bad_log_is_refused(void) {
     CHECK(fenhamper_log_record(log, lengths[i], 4, &record) == FENHAMPER_BAD_LOG);
     CHECK(fenhamper_log_next(log, lengths[i], &at, &record) == FENHAMPER_BAD_LOG);
     CHECK(fenhamper_log_used(log, lengths[i], &used) == FENHAMPER_BAD_LOG);
+    CHECK(fenhamper_log_delete(log, lengths[i], 0) == FENHAMPER_BAD_LOG);
+    CHECK(fenhamper_log_delete(log, lengths[i], 4) == FENHAMPER_BAD_LOG);
+    CHECK(fenhamper_log_delete_outcome(log, lengths[i], 1, &used) == FENHAMPER_BAD_LOG);
+    CHECK(fenhamper_log_delete_outcome(log, lengths[i], 0, &used) == FENHAMPER_BAD_LOG);
     CHECK(same_but(4) && same(&record, &numbered) && at == 7 && used == 99);
+    log_of(0, 1, 0, 1);
+    CHECK(fenhamper_log_compact(log, lengths[i]) == FENHAMPER_BAD_LOG);
+    CHECK(fenhamper_log_append(log, lengths[i], &numbered) == FENHAMPER_BAD_LOG && same_but(4));
   }
 }
 
@@ -674,12 +789,25 @@ static void a_full_log_goes_on_with_another(void) {
   CHECK(fenhamper_counter(&state, FENHAMPER_CUT) == 1 && fenhamper_counter(&state, FENHAMPER_BAD_PREAMBLE) == 0);
   CHECK(ended(fenhamper_capture_keep(&s, 0, NULL, &state, capture, place, logged + 3, 1), FENHAMPER_END_OPEN, 260, 1));
   CHECK(memcmp(logged, kept_of_traffic, sizeof logged) == 0 && memcmp(&state, &whole, sizeof state) == 0);
-  /* holes of a log are filled in order */
+}
+
+/* As many as there are unused records, wherever these stand: behind the last used one while there is room, then the log is compacted. */
+static void a_walk_finds_room_among_holes(void) {
+  fenhamper_settings s = fenhamper_settings_for(own);
+  fenhamper_capture capture = traffic();
+  const fenhamper_record *kept = kept_of_traffic;
   log_of(9, 0, 9, 0);
-  fenhamper_fresh_state(&state);
   CHECK(ended(fenhamper_capture_keep(&s, 0, NULL, &state, capture, 0, logged, 4), FENHAMPER_END_FULL, 159, 2));
-  CHECK(same(&logged[1], &kept_of_traffic[0]) && same(&logged[3], &kept_of_traffic[1]));
-  CHECK(same(&logged[0], &was[0]) && same(&logged[2], &was[2]));
+  CHECK(log_is(&was[0], &was[2], &kept[0], &kept[1]));
+  log_of(0, 0, 0, 9);
+  CHECK(ended(fenhamper_capture_keep(&s, 0, NULL, &state, capture, 0, logged, 4), FENHAMPER_END_FULL, 201, 3));
+  CHECK(log_is(&was[3], &kept[0], &kept[1], &kept[2]));
+  log_of(9, 9, 9, 9);
+  CHECK(ended(fenhamper_capture_keep(&s, 0, NULL, &state, capture, 0, logged, 4), FENHAMPER_END_FULL, 0, 0) && same_but(4));
+  /* one that keeps nothing compacts nothing */
+  log_of(0, 9, 0, 9);
+  CHECK(ended(fenhamper_capture_keep(&s, 0, NULL, &state, capture, 202, logged, 4), FENHAMPER_END_OPEN, 260, 0) && same_but(4));
+  CHECK(ended(fenhamper_capture_keep(&s, 0, NULL, &state, capture, LINE, logged, 4), FENHAMPER_END_NONE, LINE, 0) && same_but(4));
 }
 
 /* Whether a walk that keeps its readings is refused so, and leaves state and log. */
@@ -1306,10 +1434,14 @@ int main(void) {
   a_count_above_three_is_refused();
   control_frames_obey_the_port();
   a_record_stands_low_octet_first();
-  appending_takes_the_first_unused_one();
+  appending_goes_behind_the_last_used_one();
   outcome_0_is_not_appended();
   a_record_is_read_by_its_number();
   a_log_is_read_back();
+  a_record_is_deleted_by_its_number();
+  an_outcome_is_deleted();
+  a_log_is_compacted();
+  deleted_records_make_room();
   a_bad_log_is_refused();
   readings_are_appended();
   a_frame_says_by_which_address_it_came();
@@ -1317,6 +1449,7 @@ int main(void) {
   a_record_keeps_an_octet_of_it();
   a_walk_keeps_its_readings();
   a_full_log_goes_on_with_another();
+  a_walk_finds_room_among_holes();
   a_walk_with_a_log_is_refused_in_order();
   a_reason_has_its_evidence();
   a_reason_says_the_limit();

@@ -78,10 +78,24 @@ static void walk_log_long(void) {
   fenhamper_walk_log(&settings, 1, &table, &state, octets, symbols, marks, symbols, 0, (uint8_t *)logged, sizeof logged, &kept);
 }
 
+/* Where the last record is used, the log is compacted for the first Start. */
+static void walk_log_last(void) {
+  fenhamper_kept kept;
+  memset(logged, 0, sizeof logged);
+  logged[sizeof logged / sizeof *logged - 1].outcome = FENHAMPER_CUT;
+  fenhamper_walk_log(&settings, 1, &table, &state, octets, symbols, marks, symbols, 0, (uint8_t *)logged, sizeof logged, &kept);
+}
+
 /* The records of the walk above stand in front. */
 static void log_append(void) {
   fenhamper_record record = {.outcome = FENHAMPER_HANDED_OUT};
   fenhamper_log_append((uint8_t *)logged, sizeof logged, &record);
+}
+
+/* Likewise, for the record. */
+static void log_append_last(void) {
+  logged[sizeof logged / sizeof *logged - 1].outcome = FENHAMPER_CUT;
+  log_append();
 }
 
 static void log_append_reading(void) {
@@ -99,6 +113,15 @@ static void log_next(void) {
   size_t at = 1;
   fenhamper_log_next((const uint8_t *)logged, sizeof logged, &at, &record);
 }
+
+static void log_delete(void) { fenhamper_log_delete((uint8_t *)logged, sizeof logged, 1); }
+
+static void log_delete_outcome(void) {
+  size_t deleted;
+  fenhamper_log_delete_outcome((uint8_t *)logged, sizeof logged, FENHAMPER_HANDED_OUT, &deleted);
+}
+
+static void log_compact(void) { fenhamper_log_compact((uint8_t *)logged, sizeof logged); }
 
 static void table_add(void) {
   static const fenhamper_address group = {{0x01, 0, 0x5E, 0, 0, 99}};
@@ -206,11 +229,16 @@ int main(void) {
   hold("walk", walk_long, FENHAMPER_STACK_WALK);
   hold("walk_log, under 8,192 symbols", walk_log_short, FENHAMPER_STACK_WALK);
   hold("walk_log", walk_log_long, FENHAMPER_STACK_WALK);
+  hold("walk_log, compacting", walk_log_last, FENHAMPER_STACK_WALK);
   hold("log_append", log_append, FENHAMPER_STACK_READ);
+  hold("log_append, compacting", log_append_last, FENHAMPER_STACK_READ);
   hold("log_append_reading", log_append_reading, FENHAMPER_STACK_READ);
   hold("log_record", log_record, FENHAMPER_STACK_READ);
   hold("log_next", log_next, FENHAMPER_STACK_READ);
   hold("log_used", log_used, FENHAMPER_STACK_READ);
+  hold("log_delete", log_delete, FENHAMPER_STACK_READ);
+  hold("log_compact", log_compact, FENHAMPER_STACK_READ);
+  hold("log_delete_outcome", log_delete_outcome, FENHAMPER_STACK_READ);
   hold("table_add", table_add, FENHAMPER_STACK_READ);
   hold("table_remove", table_remove, FENHAMPER_STACK_READ);
   hold("table_empty", table_empty, FENHAMPER_STACK_READ);

@@ -38,13 +38,14 @@ PUBLISHED = [
 
 @dataclass
 class Case:
-    call: str  # reading, walk, why, client, pause, pfc, idle, fcs; of a log append, look, keep; of totals fill, before; of two jobs add, remove, bad, screen
+    call: str  # reading, walk, why, client, pause, pfc, idle, fcs; of a log append, look, delete, delete_all,
+    # compact, keep; of totals fill, before; of two jobs add, remove, bad, screen
     settings: Any = None
     state: Any = None
     octets: Any = None
     marks: Any = None
     place: int = 0
-    # a Client; quanta; (named, quanta); a number of Idles; the octets under a check and the published value; a Record; its number; an address
+    # a Client; quanta; (named, quanta); a number of Idles; the octets under a check and the published value; a Record; its number; an outcome; an address
     asked: Any = None
     log: Any = None
     totals: Any = None  # a sending that has them keeps them
@@ -262,29 +263,78 @@ def room_said(log):
     return f"{len(model.unused_numbers(log))} unused of {len(model.log_records(log))}"
 
 
+def behind_last(log):
+    """Whether a record behind the last used one is free, and whether another is: an unused one in front of it, a hole."""
+    behind = model.behind_last(log)
+    return behind < len(model.log_records(log)), any(n < behind for n in model.unused_numbers(log))
+
+
+def last_said(log):
+    room, hole = behind_last(log)
+    return f"{'room behind the last' if room else 'the last slot used' if model.log_records(log) else 'no record'}, {'a hole' if hole else 'no hole'}"
+
+
 def answer_append(c):
     a = model.appending(c.log, c.asked)
     what = "a record" if c.asked.used() else "outcome 0"
     hits = {f"append: {what}, {f'refused {a.refusal}' if a.refusal else 'not written' if a.number is None else 'written'}"}
     if a.refusal != 11:
-        hits.add(f"append: {what}, {room_said(c.log)}")
-    if a.number is not None and any(r.used() for r in model.log_records(c.log)[a.number + 1:]):
-        hits.add("append: into a hole")
+        hits |= {f"append: {what}, {room_said(c.log)}", f"append: {what}, {last_said(c.log)}"}
     return [a.refusal] + a.log, hits
 
 
 def answer_look(c):
-    """Record, next record, used records and first unused record of a log at a record number."""
+    """Record, next record and used records of a log at a record number."""
     refusal, r = model.record_at(c.log, c.asked)
     next_refusal, handed, reader = model.handing_out(LogReader(c.log, c.asked))
-    used, unused = model.used_in_front(c.log), model.first_unused(c.log)
-    numbers = [refusal] + record_numbers(r) + [reader.place, next_refusal] + record_numbers(handed) + [n or 0 for n in used + unused]
-    hits = {f"look: record {f'refused {refusal}' if refusal else 'read'}", f"look: first unused {f'refused {unused[0]}' if unused[0] else 'found'}"}
-    if not refusal and unused[1] is not None and unused[1] < c.asked:
+    used = (11, None) if model.bad_log(c.log) else (0, len(model.used_only(c.log)))
+    unused = model.unused_numbers(c.log)
+    numbers = [refusal] + record_numbers(r) + [reader.place, next_refusal] + record_numbers(handed) + [n or 0 for n in used]
+    hits = {f"look: record {f'refused {refusal}' if refusal else 'read'}", f"look: used records {f'refused {used[0]}' if used[0] else 'told'}"}
+    if not refusal and any(n < c.asked for n in unused):
         hits.add("look: a used record behind an unused one")
     if refusal == 13:
         hits.add(f"look: {'an unused record' if c.asked < len(model.log_records(c.log)) else 'beyond the log'}")
+    skipped = reader.place - 1 - c.asked
+    hits.add(f"look: next refused {next_refusal}" if next_refusal else f"look: next, {min(skipped, 2)}{'+' if skipped > 1 else ''} skipped")
+    if next_refusal == 13 and c.asked in unused:
+        hits.add("look: next, unused ones alone")
     return numbers, hits
+
+
+def log_hits(call, c, changed):
+    """Of a call on a log other than appending: its refusal, and what it found."""
+    hits = {f"{call}: {f'refused {changed.refusal}' if changed.refusal else 'done'}"}
+    return hits if changed.refusal else hits | {f"{call}: {last_said(c.log)}", f"{call}: {room_said(c.log)}"}
+
+
+def answer_delete(c):
+    a = model.deleting(c.log, c.asked)
+    hits, records = log_hits("delete", c, a), len(model.log_records(c.log))
+    if not a.refusal:
+        hits.add(f"delete: {'the only' if records == 1 else 'the first' if c.asked == 0 else 'the last' if c.asked == records - 1 else 'in the middle'}")
+    if a.refusal == 11:
+        hits.add(f"delete: 11, {'13 too' if c.asked >= records or not model.log_records(c.log)[c.asked].used() else 'used'}")
+    if a.refusal == 13:
+        hits.add(f"delete: {'an unused record' if c.asked < records else 'beyond the log'}")
+    return [a.refusal] + a.log, hits
+
+
+def answer_delete_all(c):
+    a = model.deleting_all(c.log, c.asked)
+    hits = log_hits("delete_all", c, a)
+    if not a.refusal:
+        left = "others" if model.used_only(a.log) else "none"
+        hits.add(f"delete_all: {'outcome 0' if c.asked == 0 else f'{min(a.count, 2)} deleted'}, {left} left")
+    return [a.refusal, a.count or 0] + a.log, hits
+
+
+def answer_compact(c):
+    a = model.compacting(c.log)
+    hits = log_hits("compact", c, a)
+    if not a.refusal:
+        hits.add(f"compact: {'changed' if a.log != c.log else 'nothing changes'}, {min(a.count, 3)}{'+' if a.count > 2 else ''} remain")
+    return [a.refusal] + a.log, hits
 
 
 def answer_keep(c):
@@ -293,10 +343,14 @@ def answer_keep(c):
     if not w.refusal:
         hits.add(f"keep: {min(w.appended, 2)}{'+' if w.appended > 1 else ''} kept, ends {w.end}")
         hits.add(f"keep: ends {w.end}, {'a record' if model.unused_numbers(w.log) else 'no record'} left")
-        fresh = [r for r in model.log_records(w.log) if r not in model.log_records(c.log)]
+        fresh = model.used_only(w.log)[len(model.used_only(c.log)):]
         hits |= {f"keep: outcome {r.outcome} kept" for r in fresh} | {f"keep: way {r.address} kept" for r in fresh}
-        if w.appended and model.unused_numbers(c.log) != list(range(len(model.log_records(c.log)))):
+        room, hole = behind_last(c.log)
+        if w.appended and model.used_only(c.log):
             hits.add("keep: used records stay")
+        if hole:
+            moved = w.appended > len(model.log_records(c.log)) - model.behind_last(c.log)
+            hits.add(f"keep: a hole, {'room behind the last' if room else 'the last slot used'}, {'compacted' if moved else 'not compacted'}, ends {w.end}")
     return [{"refused": 0, "none": 1, "open": 2, "full": 3}[w.end], w.refusal, w.next, w.appended] + state_numbers(w.state) + w.log, hits
 
 
@@ -493,8 +547,9 @@ def tag_hits(f, status):
 
 
 ANSWERS = {"reading": answer_reading, "walk": answer_walk, "why": answer_why, "client": answer_client, "pause": answer_pause, "pfc": answer_pfc, "idle": answer_idle,
-           "fcs": answer_fcs, "append": answer_append, "look": answer_look, "keep": answer_keep, "fill": answer_fill, "before": answer_before,
-           "add": answer_add, "remove": answer_remove, "bad": answer_bad, "screen": answer_screen}
+           "fcs": answer_fcs, "append": answer_append, "look": answer_look, "delete": answer_delete, "delete_all": answer_delete_all,
+           "compact": answer_compact, "keep": answer_keep, "fill": answer_fill, "before": answer_before, "add": answer_add, "remove": answer_remove,
+           "bad": answer_bad, "screen": answer_screen}
 
 # ---- Drawing
 
@@ -779,6 +834,18 @@ def make_look(r, given):
     return Case("look", log=some_log(r, given["log"], given.get("more", 0)), asked=given["number"])
 
 
+def make_delete(r, given):
+    return Case("delete", log=some_log(r, given["log"], given.get("more", 0)), asked=given["number"])
+
+
+def make_delete_all(r, given):
+    return Case("delete_all", log=some_log(r, given["log"], given.get("more", 0)), asked=given["outcome"])
+
+
+def make_compact(r, given):
+    return Case("compact", log=some_log(r, given["log"], given.get("more", 0)))
+
+
 def make_keep(r, given):
     (s, state, octets, marks), by = some_walk(r, given)
     place = {"end": len(octets), "beyond": len(octets) + 1}.get(given.get("place"), r.choice([0, 0, min(1, len(octets))]))
@@ -1006,14 +1073,21 @@ FLOWS += [{"settings": {"flow": "none"}, "room": "short"}, {"settings": {"flow":
 IDLES = COMMON + [{"asked": n, "room": x} for n in (0, 1, 2, 84) for x in ("exact", "more", "short")] + [{"asked": 0, "room": "exact", "place": 0}, {"beyond": True, "asked": 0}]
 LARGE_IDLES = [{"n": 65537, "place": 65530, "asked": 7}, {"n": 65536, "place": 65530, "asked": 6}, {"n": 65536, "place": 65530, "asked": 7}]
 
-LOGS = ([], [0], [1], [0, 0], [1, 0], [0, 255], [11, 1], [1, 0, 7, 0], [9, 8, 0])
+LOGS = ([], [0], [1], [0, 0], [1, 0], [0, 255], [11, 1], [1, 0, 7, 0], [9, 8, 0], [0, 5, 0], [3, 0, 4], [0, 0, 6], [0, 2, 11], [7, 0, 7, 5, 0, 7])
+BAD_LENGTHS = (1, -1, -15)  # so many octets more
 APPENDS = [{"log": log, "outcome": n} for log in LOGS for n in (0, 1, 255)] + [{"log": [1, x], "more": n, "outcome": o} for x in (0, 1)
            for n in (1, 15, -1) for o in (0, 11)]
 LOOKS = [{"log": log, "number": n} for log in LOGS for n in range(len(log) + 1)] + [{"log": [1, 1], "number": n} for n in (3, 2**32, 2**60, 2**64 - 1)]
-LOOKS += [{"log": [1, 1], "more": n, "number": k} for n in (1, -1, -15) for k in (0, 9)]
+LOOKS += [{"log": [1, 1], "more": n, "number": k} for n in BAD_LENGTHS for k in (0, 9)]
+DELETES = [{"log": log, "number": n} for log in LOGS for n in range(len(log) + 1)] + [{"log": [1, 1], "number": n} for n in (3, 2**32, 2**60, 2**64 - 1)]
+DELETES += [{"log": [1, x], "more": n, "number": k} for n in BAD_LENGTHS for k, x in ((0, 1), (1, 0), (9, 1))]
+ALIKE = ([], [7], [0], [7, 7, 7], [7, 0, 5, 7], [0, 7, 7, 1, 0], [5, 1], [7, 255, 7])
+DELETE_ALLS = [{"log": log, "outcome": o} for log in ALIKE for o in (7, 0, 1, 255)] + [{"log": [7, 7], "more": n, "outcome": o} for n in BAD_LENGTHS for o in (7, 0)]
+COMPACTS = [{"log": log} for log in LOGS] + [{"log": [0, 7], "more": n} for n in BAD_LENGTHS]
+COMPACTS += [{"log": log} for log in ([0, 1, 2, 3], [1, 0, 2, 3], [1, 2, 0, 3], [1, 2, 3, 0], [0, 1, 0, 2, 0, 3], [1, 2, 3, 4, 5], [0, 0, 0, 0])]
 KEEPS = [{"parts": p, "log": log} for p in ([], ["frame"], ["cut", "preamble"], ["cut", "open"], ["wrong", "pause"], ["small", "frame", "start", "preamble"])
-         for log in ([], [0], [0, 0], [1, 0], [1, 0, 1, 0, 0])]
-KEEPS += [{"parts": ["open"], "log": [0] * n} for n in (0, 1)] + [{"parts": ["cut"] * 3, "log": [0] * n} for n in (2, 3, 4)]
+         for log in ([], [0], [0, 0], [1, 0], [1, 0, 1, 0, 0], [0, 1], [0, 0, 0, 1])]
+KEEPS += [{"parts": ["open"], "log": log} for log in ([], [0], [0, 1])] + [{"parts": ["cut"] * 3, "log": [0] * n} for n in (2, 3, 4)]
 KEEPS += [{"parts": ["cut", "cut"], "log": [0], "place": "end"}]
 KEEPS += [{"parts": ["cut"], "log": [0], **x} for x in ({"settings": {"limit": 0}}, {"unequal": True}, {"place": "beyond"}, {"more": 1}, {"more": -1},
           {"settings": {"limit": 1517}, "unequal": True}, {"unequal": True, "place": "beyond"}, {"place": "beyond", "more": 1},
@@ -1023,6 +1097,7 @@ KEEPS += [{"parts": ["cut"], "log": [0], **x} for x in BAD_JOBS + [{"table": (13
           {"table": (13, 0), "place": "beyond"}, {"job": 2, "more": 1}]]
 KEEPS += [{"parts": ["frame"], "log": [0], "table": (12, 4), "job": job, "settings": {"promiscuous": False}} for job in (0, 1)]
 LOG_RECIPES = [(make_append, x) for x in APPENDS] + [(make_look, x) for x in LOOKS] + [(make_keep, x) for x in KEEPS]
+LOG_RECIPES += [(make_delete, x) for x in DELETES] + [(make_delete_all, x) for x in DELETE_ALLS] + [(make_compact, x) for x in COMPACTS]
 
 STRETCHES = (0, 1, 255, 256, 257, 511, 512, 513)
 COUNTS = [{"n": n, "count": count} for n in (0, 256, 257) for count in (-1, 1) if n + count >= 0]
@@ -1087,14 +1162,14 @@ def drawn(r, recipes, n):
 
 
 def generate(n, seed) -> List[Case]:
-    """n drawn cases, three readings or walks to two sendings, one in twenty large; beside them the published values of the check, a call on a log for
-    each four of them, a call with totals and a call of two jobs for each two, each recipe once at most, and of some readings why they have their outcomes."""
+    """n drawn cases, three readings or walks to two sendings, one in twenty large; beside them the published values of the check, a call on a log,
+    a call with totals and a call of two jobs for each two of them, each recipe once at most, and of some readings why they have their outcomes."""
     r = random.Random(seed)
     large = min(n // 20, len(LARGE))
     readings = (n - large) * 3 // 5
     chosen = drawn(r, READING_RECIPES, readings) + drawn(r, SENDING_RECIPES, n - large - readings) + drawn(r, LARGE, large)
     cases = [make(r, given) for make, given in chosen] + [Case("fcs", asked=(list(text), value)) for text, value in PUBLISHED]
-    cases += [make(r, given) for make, given in drawn(r, LOG_RECIPES, min(n // 4, len(LOG_RECIPES)))]
+    cases += [make(r, given) for make, given in drawn(r, LOG_RECIPES, min(n // 2, len(LOG_RECIPES)))]
     cases += [make(r, given) for make, given in drawn(r, TOTALS_RECIPES, min(n // 2, len(TOTALS_RECIPES)))]
     cases += [make(r, given) for make, given in drawn(r, JOB_RECIPES, min(n // 2, len(JOB_RECIPES)))]
     return cases + why_cases(cases)
@@ -1162,11 +1237,23 @@ MUST = (
     + [f"client: refusal {a} before {b}" for a, b in [(1, 2), (2, 3), (3, 5), (5, 6), (6, 10), (10, 7), (7, 8), (8, 9)]]
     + [f"{c}: refusal {a} before {b}" for c in ("pause", "pfc") for a, b in [(1, 2), (2, 3), (3, 4), (4, 8)]] + ["idle: refusal 2 before 3", "fcs: published value"]
     + [f"append: {x}" for x in ("a record, written", "a record, refused 11", "a record, refused 12", "outcome 0, not written", "outcome 0, refused 11",
-       "a record, 0 unused of 0", "outcome 0, 0 unused of 0", "a record, 0 unused of 2", "outcome 0, 0 unused of 2", "into a hole")]
-    + [f"look: {x}" for x in ("record read", "record refused 11", "record refused 13", "an unused record", "beyond the log", "first unused found",
-       "first unused refused 11", "first unused refused 12", "a used record behind an unused one")]
+       "a record, 0 unused of 0", "outcome 0, 0 unused of 0", "a record, 0 unused of 2", "outcome 0, 0 unused of 2")]
+    + [f"append: {what}, {x}" for what in ("a record", "outcome 0") for x in ("room behind the last, a hole", "room behind the last, no hole",
+       "the last slot used, a hole", "the last slot used, no hole", "1 unused of 3", "2 unused of 3")]
+    + [f"look: {x}" for x in ("record read", "record refused 11", "record refused 13", "an unused record", "beyond the log", "used records told",
+       "used records refused 11", "a used record behind an unused one", "next, 0 skipped", "next, 1 skipped", "next, 2+ skipped", "next refused 11",
+       "next refused 13", "next, unused ones alone")]
+    + [f"{c}: {x}" for c in ("delete", "delete_all", "compact") for x in ("done", "refused 11", "room behind the last, a hole", "room behind the last, no hole",
+       "the last slot used, a hole", "the last slot used, no hole")]
+    + [f"delete: {x}" for x in ("refused 13", "the only", "the first", "the last", "in the middle", "an unused record", "beyond the log", "11, 13 too", "11, used")]
+    + [f"delete_all: {x}" for x in ("0 deleted, others left", "0 deleted, none left", "1 deleted, others left", "1 deleted, none left", "2 deleted, others left",
+       "2 deleted, none left", "outcome 0, others left", "outcome 0, none left")] + ["delete_all: no record, no hole", "compact: no record, no hole"]
+    + [f"compact: {x} remain" for x in ("changed, 0", "changed, 1", "changed, 3+", "nothing changes, 0", "nothing changes, 1", "nothing changes, 3+")]
     + [f"keep: refused {n}" for n in (1, 2, 3, 11, 14, 20)] + [f"keep: refusal {a} before {b}" for a, b in [(1, 2), (2, 3), (3, 11), (14, 11), (20, 11)]]
     + [f"keep: {x}" for x in ("0 kept, ends none", "0 kept, ends open", "0 kept, ends full", "2+ kept, ends none", "2+ kept, ends full", "used records stay")]
+    + [f"keep: a hole, {x}" for x in ("room behind the last, not compacted, ends none", "room behind the last, compacted, ends full",
+       "the last slot used, not compacted, ends none", "the last slot used, not compacted, ends open", "the last slot used, compacted, ends none",
+       "the last slot used, compacted, ends full")]
     + [f"keep: ends {x} left" for x in ("none, a record", "none, no record", "open, a record", "full, no record")]
     + [f"keep: outcome {n} kept" for n in (1, 2, 3, 11)]
     + ["fill: filled", "fill: refused 2", "fill: refused 21", "fill: refusal 2 before 21", "fill: a total above 256 before", "fill: a total of 256"]
@@ -1204,7 +1291,7 @@ def coverage(cases) -> str:
         for hit in c.hits:
             counts[hit] = counts.get(hit, 0) + 1
     lines = []
-    for call in ("reading", "walk", "why", "client", "pause", "pfc", "idle", "fcs", "append", "look", "keep", "fill", "before", "add", "remove",
+    for call in ("reading", "walk", "why", "client", "pause", "pfc", "idle", "fcs", "append", "look", "delete", "delete_all", "compact", "keep", "fill", "before", "add", "remove",
                  "bad", "screen"):
         mine = {k.split(": ", 1)[1]: v for k, v in counts.items() if k.startswith(call + ": ")}
         lines.append(f"{call} ({sum(c.call == call for c in cases)} cases)")

@@ -1,9 +1,12 @@
 """The calls on a log on the tape of crates/cases (tape.py): each refusal, each pair of them in its order, and both sides of each limit; walks that keep their
-readings with logs too short for them, just long enough and longer, and gone on with. What must come of each is the model's answer."""
-from model import (BROADCAST, EMPTY, ERROR, IDLE, RESERVED_GROUP, START, TERMINATE, LogReader, Reading, Record, appending, handing_out, logged_walk, pause_symbols,
-                   reading, reading_appending, record_at, used_in_front, walks_on)
+readings with logs too short for them, just long enough and longer, and gone on with; and room in the log (item 11), by every pattern of used records of a few.
+What must come of each is the model's answer."""
+from itertools import product
+
+from model import (BROADCAST, EMPTY, ERROR, IDLE, RESERVED_GROUP, START, TERMINATE, LogReader, Reading, Record, appending, bad_log, compacting, deleting,
+                   deleting_all, handing_out, logged_walk, pause_symbols, reading, reading_appending, record_at, used_only, walks_on)
 from read_cases import FRESH, USED as WORN, frame, line, listing, settings
-from tape import APPEND, APPEND_READING, KEEP, LOOK, ONES, TAPE, checksum, table_octets
+from tape import APPEND, APPEND_READING, COMPACT, DELETE, DELETE_OUTCOME, KEEP, LOOK, ONES, TAPE, checksum, table_octets
 
 ENDS = {"none": 1, "open": 2, "full": 3}
 NUMBERED = Record(0x04030201, 5, 6, 0x0807, 0x100F0E0D0C0B0A09)  # in the log the octets 1 to 16
@@ -15,6 +18,11 @@ BEFORE = list(range(0xF0, 0x100))  # what stands where a record is handed out
 def log(*outcomes):
     """Records with these outcomes, all their other octets 0xA7."""
     return [octet for outcome in outcomes for octet in [0xA7] * 4 + [outcome] + [0xA7] * 11]
+
+
+def known(*outcomes):
+    """The same, but that a record's other octets are its number, from 1 on: so one that was moved is known again."""
+    return [octet for n, outcome in enumerate(outcomes, 1) for octet in [n] * 4 + [outcome] + [n] * 11]
 
 
 def told(refusal):
@@ -37,6 +45,7 @@ def append(name, before, r):
     TAPE.log_call(APPEND, name, before, record=r.octets())
     answer = appending(before, r)
     tell(name, told(answer.refusal), answer.log)
+    return answer.log
 
 
 def append_reading(name, before, r, above=0):
@@ -49,15 +58,42 @@ def append_reading(name, before, r, above=0):
     tell(name, told(answer.refusal), answer.log)
 
 
+def used_records(log):
+    """Refusal, or 0 and how many records are used, wherever they stand; 11 alone."""
+    return (11, None) if bad_log(log) else (0, len(used_only(log)))
+
+
 def look(name, of, number):
     """Record `number`, the next record of a reader that stands there, and how many are used, where the number was told before."""
     TAPE.log_call(LOOK, name, of, number, BEFORE)
     record_refusal, r = record_at(of, number)
     next_refusal, handed, reader = handing_out(LogReader(of, number))
-    used_refusal, used = used_in_front(of)
+    used_refusal, used = used_records(of)
     one, two = words(BEFORE if record_refusal else r.octets()), words(BEFORE if next_refusal else handed.octets())
     tell(name, f"{told(record_refusal)} record {one} {told(next_refusal)} record {two} {told(used_refusal)} at {reader.place} "
          f"used {number if used_refusal else used}", of)
+
+
+def delete(name, before, number):
+    TAPE.log_call(DELETE, name, before, number)
+    answer = deleting(before, number)
+    tell(name, told(answer.refusal), answer.log)
+    return answer.log
+
+
+def delete_outcome(name, before, outcome):
+    """How many were deleted, where 99 was told before."""
+    TAPE.log_call(DELETE_OUTCOME, name, before, 99, n=outcome)
+    answer = deleting_all(before, outcome)
+    tell(name, f"{told(answer.refusal)} deleted {99 if answer.refusal else answer.count}", answer.log)
+    return answer.log
+
+
+def compact(name, before):
+    TAPE.log_call(COMPACT, name, before)
+    answer = compacting(before)
+    tell(name, told(answer.refusal), answer.log)
+    return answer.log
 
 
 def keep(name, line, place, before, s=None, state=FRESH, worn=False, more_marks=0, job=0, table=EMPTY):
@@ -105,6 +141,7 @@ def reading_cases():
         append_reading(f"reading, {name}", log(1, 0), r)
         append_reading(f"reading, {name}, bits above", log(1, 0), r, above=3)
         append_reading(f"reading, {name}, log used", log(1, 1), r)
+        append_reading(f"reading, {name}, last used", known(0, 1), r)
         append_reading(f"reading, {name}, length 31", log(1, 1)[:31], r)
     most = Reading("counted", 2**32 - 1, 0, FRESH, outcome=255, status=2**64 - 1, part=(9, 65535), data=[0] * 65535, address=255)
     append_reading("reading, most of each", [0] * 16, most)
@@ -133,6 +170,12 @@ def look_cases():
     back = NUMBERED.octets() + MOST.octets() + LEAST.octets() + log(0, 1)
     for number in range(5):  # up to the hole, at it, and behind it
         look(f"read back, {number}", back, number)
+    # item 11: holes in front, between and behind
+    for number in range(11):
+        look(f"read on from {number}", known(0, 0, 1, 0, 255, 11, 0, 0, 9, 0), number)
+    for name, of, number in [("4,095 holes in front", [0] * 65520 + log(1), 0), ("4,095 holes behind", log(1) + [0] * 65520, 1),
+                             ("4,096 holes", [0] * 65536, 0), ("every other of 64", log(*[0, 1] * 32), 62)]:
+        look(f"look, {name}", of, number)
 
 
 IDLES, STARTS, TERMINATES = (IDLE, 1), (START, 1), (TERMINATE, 1)
@@ -146,8 +189,12 @@ def walk_cases():
             for size in (0, 1, 2, 3) if place == 0 else (0, 2):
                 keep(f"{name} from {place}, {size} records", line_, place, [0] * (16 * size), state=WORN)
         keep(f"{name} from 0, one used", line_, 0, log(9), state=WORN)
-    for name, before in [("a hole", log(9, 0, 9)), ("two holes", log(9, 0, 9, 0)), ("holes around", log(0, 9, 0, 0)), ("32 records", log(*[9] * 31, 0))]:
+    for name, before in [("a hole", log(9, 0, 9)), ("two holes", log(9, 0, 9, 0)), ("holes around", log(0, 9, 0, 0)), ("32 records", log(*[9] * 31, 0)),
+                         ("room for one behind", known(0, 9, 0)), ("none behind", known(0, 0, 9)), ("one in all", known(9, 0, 9)),
+                         ("one in all, behind", known(9, 9, 0)), ("every other", known(0, 9, 0, 9, 0, 9)), ("none in all", known(9, 9))]:
         keep(f"two, {name}", TWO, 0, before)
+        keep(f"Idle, {name}", [IDLES], 0, before)  # nothing is compacted for nothing
+        keep(f"open, {name}", THREE, 5, before)
     # gone on with: nothing is lost, and nothing comes twice
     for sizes in ([1, 1], [0, 2], [1, 0, 1]):
         state, place, kept = FRESH, 0, []
@@ -200,6 +247,71 @@ def refusal_cases():
         keep(f"worn state, {name}", TWO, place, [0] * n, s=s, state=WORN, worn=True)
 
 
+# ---- room in the log
+
+
+def patterns(outcomes, most):
+    """Every row of these outcomes, of up to so many records, and what it is called."""
+    return [("".join(map(str, row)) or "none", known(*row)) for n in range(most + 1) for row in product(outcomes, repeat=n)]
+
+
+LONG = [("all used", log(*[7] * 64)), ("none used", [0] * 1024), ("all used but the first", log(0, *[7] * 63)), ("all used but the last", log(*[7] * 63, 0)),
+        ("only the first used", log(7) + [0] * 1008), ("only the last used", [0] * 1008 + log(7)), ("the second half used", [0] * 512 + log(*[7] * 32)),
+        ("every other used", log(*[7, 0] * 32)), ("every other unused", log(*[0, 7] * 32))]  # of 64 records
+
+
+def room_cases():
+    for name, before in patterns((0, 5), 4):
+        append(f"append to {name}", before, NUMBERED)
+        compact(f"compact twice {name}", compact(f"compact {name}", before))
+    for name, before in LONG:
+        append(f"append, {name}", before, NUMBERED)
+        compact(f"compact, {name}", before)
+        delete_outcome(f"delete 7, {name}", before, 7)
+        delete(f"delete the last, {name}", before, len(before) // 16 - 1)
+    for name, before in patterns((0, 1, 2), 3):
+        delete_outcome(f"delete 1, {name}", before, 1)
+    every = known(1, 0, 255, 11, 0, 1, 9)
+    for outcome in (0, 1, 2, 9, 10, 11, 254, 255):
+        delete_outcome(f"delete {outcome}, all sorts", every, outcome)
+    for number in (*range(9), 2**60, 2**60 + 2, 2**63, ONES):
+        delete(f"delete record {number}, all sorts", every, number)
+    for name, before in [("none", []), ("one used", known(1)), ("one unused", known(0)), ("used by the outcome alone", [0] * 4 + [1] + [0] * 11)]:
+        for number in (0, 1):
+            delete(f"delete record {number}, {name}", before, number)
+    # 11 before 12 and 13, whatever stands there
+    for n in BAD_LENGTHS:
+        before = log(0, 1, 1)[:n]
+        for number in (0, 1, 9):
+            delete(f"delete record {number}, length {n}", before, number)
+        for outcome in (0, 1):
+            delete_outcome(f"delete {outcome}, length {n}", before, outcome)
+        compact(f"compact, length {n}", before)
+    last = [0] * 65520 + log(7)
+    compact("compact, 4,095 unused", last)
+    append("append, 4,095 unused", last, NUMBERED)
+    append("append, 4,095 used", log(0) + [0xA7] * 65520, NUMBERED)
+    delete_outcome("delete 7, 4,095 unused", last, 7)
+    delete_outcome("delete 7, 4,096 of another", [0xA7] * 65536, 7)
+    delete("delete record 4,095 of 4,096", last, 4095)
+    compact("compact, length 65,537", last + [7])
+
+
+def sequence_cases():
+    """One call after the other on one log: filled, records deleted, what is freed used again by and by, and each record read back."""
+    after = [0] * 64
+    steps = [(append, n) for n in range(5)] + [(delete, 1), (append, 5), (append, 6), (delete, 0), (delete, 0), (delete, 3), (append, 7), (compact, None)]
+    steps += [(append, 8), (append, 9), (delete_outcome, 1), (append, 10), (delete_outcome, 2), (append, 11), (delete, 2), (compact, None), (append, 12)]
+    steps += [(delete_outcome, 1), (delete_outcome, 2), (delete_outcome, 3), (delete, 0), (append, 13)]
+    for n, (call, what) in enumerate(steps):
+        name = f"step {n}"
+        if call is append:  # outcomes 1 to 3 in turn
+            after = append(name, after, Record(what, 1 + what % 3, what, what, what))
+        else:
+            after = call(name, after) if call is compact else call(name, after, what)
+        look(f"{name}, look", after, n % 5)
+
+
 def cases():
     append_cases()
     reading_cases()
@@ -207,3 +319,5 @@ def cases():
     walk_cases()
     frame_cases()
     refusal_cases()
+    room_cases()
+    sequence_cases()

@@ -153,8 +153,10 @@ def call(c):
         return f"giveFcs {numbers(c.asked[0])}"
     if c.call == "append":
         return f"giveAppend {numbers(c.log)} (recordMade {' '.join(map(str, c.asked))})"
-    if c.call == "look":
-        return f"giveLook {numbers(c.log)} {c.asked}"
+    if c.call in ("look", "delete", "delete_all"):
+        return f"give{c.call.title().replace('_', '')} {numbers(c.log)} {c.asked}"
+    if c.call == "compact":
+        return f"giveCompact {numbers(c.log)}"
     if c.call == "bad":
         return f"giveBad {numbers(c.table)}"
     if c.call in ("add", "remove"):
@@ -198,7 +200,8 @@ READING = [("kind", 1), ("outcome or refusal", 1), ("status word", 1), ("part", 
 READING += [("octets of the part", None)]
 WALK = [("kind", 1), ("refusal", 1), ("Starts counted", 1), ("open", 1)] + STATE + [("octets handed out", None)]
 WHY = [("kind", 1), ("outcome or refusal", 1), ("start", 1), ("next", 1), ("evidence", None)]
-LOOK = [("record's refusal", 1), ("record", 5), ("reader's place", 1), ("its refusal", 1), ("its record", 5), ("used records", 2), ("first unused", None)]
+LOOK = [("record's refusal", 1), ("record", 5), ("reader's place", 1), ("its refusal", 1), ("its record", 5), ("used records", None)]
+LOGGING = [("refusal", 1), ("log", None)]
 KEEP = [("end", 1), ("refusal", 1), ("next", 1), ("kept", 1)] + STATE + [("log", None)]
 CHANGE = [("refusal", 1), ("entry", 1), ("table", None)]
 
@@ -207,8 +210,8 @@ def fields(c):
     """Each field's name, where it begins, how many numbers it has."""
     sent = [("kind", 1), ("refusal", 1), ("place", 1)] + STATE + [("octets", len(c.octets or [])), ("marks", len(c.marks or [])), ("totals", None)]
     place = 0
-    known = {"reading": READING, "walk": WALK, "why": WHY, "fcs": [("check", 1), ("its octets", None)], "append": [("refusal", 1), ("log", None)], "look": LOOK,
-             "keep": KEEP, "fill": [("refusal", 1), ("totals", None)], "before": [("refusal", 1), ("Starts", None)], "add": CHANGE, "remove": CHANGE,
+    known = {"reading": READING, "walk": WALK, "why": WHY, "fcs": [("check", 1), ("its octets", None)], "append": LOGGING, "look": LOOK, "delete": LOGGING,
+             "delete_all": [("refusal", 1), ("how many", 1), ("log", None)], "compact": LOGGING, "keep": KEEP, "fill": [("refusal", 1), ("totals", None)], "before": [("refusal", 1), ("Starts", None)], "add": CHANGE, "remove": CHANGE,
              "bad": [("20", None)], "screen": [("refusal", 1), ("part", 2), ("octets of the part", None)]}
     for name, n in known.get(c.call, sent):
         n = len(c.answer) - place if n is None else n

@@ -20,12 +20,15 @@ number is what a refusal must leave. Of the totals those are printed that are no
 Calls of two jobs: kind 16 makes the table an empty one, 17 adds to it and 18 removes, an address of six octets in place of the client frame; their number is
 what a refusal must leave in place of the entry. 19 asks what the screen shows: octets and marks are the capture of job 0, and that of job 1 stands, as octets,
 in place of data and log.
+
+Room in the log: kind 20 deletes a record, 21 all records of an outcome, and 22 compacts, with the log as in the kinds 5 to 7. The record number stands in place
+of the place; the outcome is the call's number, and then the place is what a refusal must leave in place of how many were deleted.
 """
 import zlib
 
 READINGS, CLIENT, PAUSE, PFC, IDLE, APPEND, APPEND_READING, LOOK, KEEP, EXPLAIN, FILL = range(11)
 COUNTED = 10  # what is added to the kind of a sending that keeps totals
-STARTS_BEFORE, EMPTY_TABLE, ADD, REMOVE, SCREEN = range(15, 20)
+STARTS_BEFORE, EMPTY_TABLE, ADD, REMOVE, SCREEN, DELETE, DELETE_OUTCOME, COMPACT = range(15, 23)
 MOST_READINGS = 16
 LONGEST = 524288  # what the program reads
 ONES = 2**64 - 1
@@ -110,8 +113,8 @@ class Tape:
         if port is not None:
             self.calls[-1][11] = port
 
-    def log_call(self, kind, name, log, place=0, record=bytes(16), reading=(0,) * 24):
-        self.add(kind, name, bytes(24), reading, record, (0,) * 8, place, 0, log, b"", b"", b"")
+    def log_call(self, kind, name, log, place=0, record=bytes(16), reading=(0,) * 24, n=0):
+        self.add(kind, name, bytes(24), reading, record, (0,) * 8, place, n, log, b"", b"", b"")
 
     def totals_call(self, kind, name, octets, marks, totals, place=0, n=0):
         self.add(kind, name, bytes(24), (0,) * 24, bytes(44), (0,) * 8, place, n, octets, marks, b"", b"", totals)

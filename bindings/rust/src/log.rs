@@ -35,7 +35,8 @@ pub struct Record {
     /// The Start's place.
     pub place: u32,
     /// The outcome's number, which [`outcome`](Record::outcome) names. 0 stands for a reading that
-    /// counted no Start: such a record is not appended, and where it stands in a log it is unused.
+    /// counted no Start: such a record is not appended, and where it stands in a log it is unused, or
+    /// deleted.
     pub outcome_number: u8,
     /// The number of the address that let the frame in, which [`way`](Record::way) names. 0 stands
     /// for a frame that was not let in, or for a log that was kept before records told it; 2 to 5
@@ -117,21 +118,22 @@ fn check(octets: &[u8]) -> Result<(), Refusal> {
 
 /// A log that is lent to be read: records of 16 octets side by side, with no header.
 ///
-/// A record is used if its outcome is not 0. Reading back goes up to the first unused one.
+/// A record is used if its outcome is not 0. Reading back skips the others, which were deleted or not
+/// yet written.
 ///
 /// ```
 /// use fenhamper::{LogView, Outcome, Refusal};
 ///
-/// // a cut Start at place 7, and an unused record
-/// let mut octets = [0; 32];
-/// octets[..5].copy_from_slice(&[7, 0, 0, 0, 1]);
+/// // a cut Start at place 7, between two records that are not used
+/// let mut octets = [0; 48];
+/// octets[16..21].copy_from_slice(&[7, 0, 0, 0, 1]);
 /// let log = LogView::new(&octets)?;
 /// for record in log {
 ///     println!("{:?} at {}", record.outcome(), record.place);
 /// }
-/// assert_eq!((log.used(), log.capacity()), (1, 2));
-/// assert_eq!(log.record(0)?.outcome(), Some(Outcome::Cut));
-/// assert_eq!(log.record(1), Err(Refusal::NotUsed));
+/// assert_eq!((log.used(), log.capacity()), (1, 3));
+/// assert_eq!(log.record(1)?.outcome(), Some(Outcome::Cut));
+/// assert_eq!(log.record(0), Err(Refusal::NotUsed));
 /// # Ok::<(), Refusal>(())
 /// ```
 #[derive(Clone, Copy, Debug, PartialEq, Eq, Hash)]
@@ -173,14 +175,15 @@ impl<'a> LogView<'a> {
         self.octets.len() / sys::RECORD_SIZE
     }
 
-    /// How many used records stand in front of the first unused one.
+    /// How many of its records are used.
     #[must_use]
     pub fn used(&self) -> usize {
         let (_, used) = sys::log_used(self.octets);
         used
     }
 
-    /// The record of a number, from 0 on, as it stands. One behind an unused record may be used.
+    /// The record of a number, from 0 on, as it stands. Numbers are those of the slots, deleted or
+    /// not.
     ///
     /// # Errors
     ///
@@ -189,7 +192,7 @@ impl<'a> LogView<'a> {
         Record::of(sys::log_record(self.octets, number))
     }
 
-    /// Hands out record after record, from number 0 up to the first unused one.
+    /// Hands out every used record, from number 0 on: deleted ones are skipped.
     ///
     /// ```
     /// use fenhamper::LogView;
@@ -198,8 +201,8 @@ impl<'a> LogView<'a> {
     /// let mut octets = [1; 48];
     /// octets[16 + 4] = 0;
     /// let log = LogView::new(&octets)?;
-    /// assert_eq!(log.records().count(), 1);
-    /// assert_eq!(log.records().at(2).count(), 1);
+    /// assert_eq!(log.records().count(), 2);
+    /// assert_eq!(log.records().at(1).count(), 1);
     /// # Ok::<(), fenhamper::Refusal>(())
     /// ```
     pub const fn records(&self) -> LogRecords<'a> {
@@ -221,7 +224,9 @@ impl<'a> IntoIterator for LogView<'a> {
 
 /// A log that is lent to be written into, and read. It begins as all zeros.
 ///
-/// Appending takes the first unused record. A refused call leaves every octet.
+/// Appending goes behind the last used record, and compacts first if that one is the last slot; so a
+/// log is full only when every record is used. Records that have been dealt with are
+/// [deleted](Log::delete_outcome). A refused call leaves every octet.
 ///
 /// ```
 /// use fenhamper::{Capture, End, Log, Outcome, Station};
@@ -283,7 +288,7 @@ impl<'a> Log<'a> {
         self.view().capacity()
     }
 
-    /// [`LogView::used`]: how many used records stand in front of the first unused one.
+    /// [`LogView::used`]: how many of its records are used.
     #[must_use]
     pub fn used(&self) -> usize {
         self.view().used()
@@ -298,13 +303,13 @@ impl<'a> Log<'a> {
         self.view().record(number)
     }
 
-    /// [`LogView::records`]: record after record, up to the first unused one.
+    /// [`LogView::records`]: every used record, deleted ones skipped.
     pub fn records(&self) -> LogRecords<'_> {
         self.view().records()
     }
 
-    /// Appends a record in the first unused one. A record of outcome 0 is not appended, and is never
-    /// refused.
+    /// Appends a record behind the last used one. If that is the last slot, the log is
+    /// [compacted](Log::compact) first. A record of outcome 0 is not appended, and is never refused.
     ///
     /// ```
     /// use fenhamper::{Log, Record, Refusal};
@@ -317,12 +322,17 @@ impl<'a> Log<'a> {
     /// assert!(log.records().eq([record; 2]));
     /// assert_eq!(log.append(record), Err(Refusal::LogFull));
     /// assert_eq!(log.append(Record::default()), Ok(()));
+    ///
+    /// // with a record deleted there is room, wherever that one stood
+    /// log.delete(0)?;
+    /// log.append(Record { place: 8, ..record })?;
+    /// assert!(log.records().map(|record| record.place).eq([7, 8]));
     /// # Ok::<(), Refusal>(())
     /// ```
     ///
     /// # Errors
     ///
-    /// Refusal 12 for a log with no unused record.
+    /// Refusal 12 for a log whose every record is used.
     pub fn append(&mut self, record: Record) -> Result<(), Refusal> {
         Refusal::check(sys::log_append(self.octets, &record.record()))
     }
@@ -348,7 +358,7 @@ impl<'a> Log<'a> {
     ///
     /// # Errors
     ///
-    /// Refusal 12 for a log with no unused record.
+    /// Refusal 12 for a log whose every record is used.
     pub fn append_reading(&mut self, reading: &Reading<'_>) -> Result<(), Refusal> {
         Refusal::check(sys::log_append_reading(self.octets, &reading.record()))
     }
@@ -370,9 +380,78 @@ impl<'a> Log<'a> {
     ///
     /// # Errors
     ///
-    /// Refusal 12 for a log with no unused record.
+    /// Refusal 12 for a log whose every record is used.
     pub fn append_counted(&mut self, counted: &Counted<'_>) -> Result<(), Refusal> {
         Refusal::check(sys::log_append_reading(self.octets, &counted.record()))
+    }
+
+    /// Deletes the record of a number: its outcome becomes 0, and every other octet stays.
+    ///
+    /// ```
+    /// use fenhamper::{Log, Record, Refusal};
+    ///
+    /// let mut octets = [0; 48];
+    /// let mut log = Log::new(&mut octets)?;
+    /// for place in 0..3 {
+    ///     log.append(Record { place, outcome_number: 1, ..Record::default() })?;
+    /// }
+    /// log.delete(1)?;
+    /// assert_eq!(log.record(1), Err(Refusal::NotUsed));
+    /// assert_eq!(log.delete(1), Err(Refusal::NotUsed));
+    /// // the others keep their numbers until the log is compacted
+    /// assert_eq!(log.record(2)?.place, 2);
+    /// assert!(log.records().map(|record| record.place).eq([0, 2]));
+    /// # Ok::<(), Refusal>(())
+    /// ```
+    ///
+    /// # Errors
+    ///
+    /// Refusal 13 for a record that is not used, or that the log does not have.
+    pub fn delete(&mut self, number: usize) -> Result<(), Refusal> {
+        Refusal::check(sys::log_delete(self.octets, number))
+    }
+
+    /// Deletes every record of an outcome, given by its number, and tells how many these were. No
+    /// used record is of outcome 0, so none is deleted for that.
+    ///
+    /// ```
+    /// use fenhamper::{Log, Outcome, Record};
+    ///
+    /// let mut octets = [0; 64];
+    /// let mut log = Log::new(&mut octets)?;
+    /// for (place, outcome) in [(0, Outcome::Cut), (9, Outcome::Filtered), (20, Outcome::Cut)] {
+    ///     let outcome_number = outcome.number();
+    ///     log.append(Record { place, outcome_number, ..Record::default() })?;
+    /// }
+    /// assert_eq!(log.delete_outcome(Outcome::Cut.number()), 2);
+    /// assert_eq!(log.delete_outcome(Outcome::Cut.number()), 0);
+    /// assert!(log.records().map(|record| record.place).eq([9]));
+    /// # Ok::<(), fenhamper::Refusal>(())
+    /// ```
+    pub fn delete_outcome(&mut self, outcome_number: u8) -> usize {
+        let (_, deleted) = sys::log_delete_outcome(self.octets, outcome_number);
+        deleted
+    }
+
+    /// Compacts the log in place: the used records move to the front in their order, and the rest is
+    /// filled with zeros. Doing it twice changes nothing more.
+    ///
+    /// ```
+    /// use fenhamper::{Log, Record};
+    ///
+    /// let mut octets = [0; 48];
+    /// let mut log = Log::new(&mut octets)?;
+    /// for place in 0..3 {
+    ///     log.append(Record { place, outcome_number: 1, ..Record::default() })?;
+    /// }
+    /// log.delete(0)?;
+    /// log.compact();
+    /// assert_eq!(log.record(0)?.place, 1);
+    /// assert_eq!(log.octets()[32..], [0; 16]);
+    /// # Ok::<(), fenhamper::Refusal>(())
+    /// ```
+    pub fn compact(&mut self) {
+        sys::log_compact(self.octets);
     }
 }
 
@@ -387,7 +466,7 @@ impl<'l> IntoIterator for &'l Log<'_> {
     }
 }
 
-/// The records of a log, in order, up to the first unused one, made by [`LogView::records`].
+/// The used records of a log, in order, made by [`LogView::records`].
 #[derive(Clone, Debug)]
 #[must_use]
 pub struct LogRecords<'a> {
@@ -402,19 +481,23 @@ impl LogRecords<'_> {
         self
     }
 
-    /// The number of the record that comes next; after the end, of the one that is not used.
+    /// From which number on the next used record is looked for: one more than that of the record which
+    /// came last. At the end it stays.
     ///
     /// ```
     /// use fenhamper::LogView;
     ///
-    /// let mut octets = [1; 48];
-    /// octets[32 + 4] = 0;
+    /// // of four records the second and the last are unused
+    /// let mut octets = [1; 64];
+    /// (octets[16 + 4], octets[48 + 4]) = (0, 0);
     /// let log = LogView::new(&octets)?;
     /// let mut records = log.records();
     /// records.next();
     /// assert_eq!(records.number(), 1);
-    /// assert_eq!(records.by_ref().count(), 1);
-    /// assert_eq!(records.number(), 2);
+    /// records.next();
+    /// assert_eq!(records.number(), 3);
+    /// assert_eq!(records.next(), None);
+    /// assert_eq!(records.number(), 3);
     /// # Ok::<(), fenhamper::Refusal>(())
     /// ```
     #[must_use]
@@ -427,7 +510,7 @@ impl Iterator for LogRecords<'_> {
     type Item = Record;
 
     fn next(&mut self) -> Option<Record> {
-        // refused (13) at an unused record, which leaves the number
+        // refused (13) where no used one is left, which leaves the number
         Record::of(sys::log_next(self.log.octets, &mut self.number)).ok()
     }
 
@@ -445,8 +528,8 @@ pub enum End {
     None,
     /// A Start whose run has not ended inside the capture. It is read again when there is more.
     Open,
-    /// A further Start would be counted, and no record is unused. It is not counted: the walk goes on
-    /// with another log.
+    /// A further Start would be counted, and every record is used. It is not counted: the walk goes on
+    /// with another log, or with this one after a deletion.
     Full,
 }
 
@@ -464,10 +547,10 @@ pub struct Kept {
 }
 
 impl Capture<'_> {
-    /// Reads Start after Start from `place` on, and appends the record of each to a log, until there
-    /// is none, the last is still open or the log is full, all in one call.
+    /// Reads Start after Start from `place` on, and [appends](Log::append) the record of each to a
+    /// log, until there is none, the last is still open or the log is full, all in one call.
     ///
-    /// A Start that finds no unused record is not counted, and sets no timer. So nothing is lost:
+    /// A Start that finds every record used is not counted, and sets no timer. So nothing is lost:
     ///
     /// ```
     /// use fenhamper::{Capture, End, Log, Settings, State};

@@ -312,6 +312,14 @@ extern "C" {
         record: &mut Record,
     ) -> u32;
     fn fenhamper_log_used(log: *const u8, log_length: usize, used: &mut usize) -> u32;
+    fn fenhamper_log_delete(log: *mut u8, log_length: usize, number: usize) -> u32;
+    fn fenhamper_log_delete_outcome(
+        log: *mut u8,
+        log_length: usize,
+        outcome: u8,
+        deleted: &mut usize,
+    ) -> u32;
+    fn fenhamper_log_compact(log: *mut u8, log_length: usize) -> u32;
     fn fenhamper_client_data(octets_length: usize, place: usize, length: usize, part: &mut Part);
     fn fenhamper_send_client(
         settings: &Settings,
@@ -655,6 +663,24 @@ pub fn log_used(log: &[u8]) -> (u64, usize) {
     // SAFETY: the pointer and the length are one slice's.
     let refusal = unsafe { fenhamper_log_used(log.as_ptr(), log.len(), &mut used) };
     (refusal.into(), used)
+}
+
+pub fn log_delete(log: &mut [u8], number: usize) -> u64 {
+    // SAFETY: the pointer and the length are one slice's, and it is lent alone.
+    unsafe { fenhamper_log_delete(log.as_mut_ptr(), log.len(), number) }.into()
+}
+
+pub fn log_delete_outcome(log: &mut [u8], outcome: u8) -> (u64, usize) {
+    let mut deleted = 0;
+    // SAFETY: the pointer and the length are one slice's, and it is lent alone.
+    let refusal =
+        unsafe { fenhamper_log_delete_outcome(log.as_mut_ptr(), log.len(), outcome, &mut deleted) };
+    (refusal.into(), deleted)
+}
+
+pub fn log_compact(log: &mut [u8]) -> u64 {
+    // SAFETY: the pointer and the length are one slice's, and it is lent alone.
+    unsafe { fenhamper_log_compact(log.as_mut_ptr(), log.len()) }.into()
 }
 
 pub fn send_client(

@@ -1,7 +1,7 @@
 //! The examples' own functions, run on captures that are made here, and on the samples where they are.
 use fenhamper::{
-    limits, records, Address, Capture, End, Flow, Frame, Record, Sender, Settings, Station, Status,
-    Tag, Way, SYMBOLS,
+    limits, records, Address, Capture, End, Flow, Frame, Log, Outcome, Record, Sender, Settings,
+    Station, Status, Tag, Way, SYMBOLS,
 };
 use std::fs;
 use std::path::Path;
@@ -176,6 +176,44 @@ fn the_keeper_keeps_the_samples() {
             assert_eq!(logs.len(), expected.len().div_ceil(capacity).max(1));
         }
     }
+}
+
+// The sample of a log that is too short for its run, after each call that made room in it.
+#[test]
+fn room_is_made_in_the_sample_log() {
+    let samples = Path::new(env!("CARGO_MANIFEST_DIR")).join("../../samples");
+    // none outside the repository
+    let Ok(expected) = fs::read(samples.join("room.log")) else {
+        return;
+    };
+    let records = fs::read(samples.join("first.capture")).unwrap();
+    let (mut octets, mut marks) = (vec![0; SYMBOLS], vec![0; SYMBOLS]);
+    let capture = records::capture(&records, &mut octets, &mut marks).unwrap();
+    let mut station = Station::default();
+    let mut octets = [0; 6 * limits::RECORD_SIZE];
+    let mut log = Log::new(&mut octets).unwrap();
+    let mut made = Vec::new();
+
+    let kept = station.walk_log(capture, 0, &mut log).unwrap();
+    assert_eq!((kept.end, kept.records), (End::Full, 6));
+    made.extend_from_slice(log.octets());
+    for outcome in [Outcome::WrongFcs, Outcome::Cut] {
+        assert_eq!(log.delete_outcome(outcome.number()), 1);
+    }
+    made.extend_from_slice(log.octets());
+    let kept = station.walk_log(capture, kept.next, &mut log).unwrap();
+    assert_eq!((kept.end, kept.records), (End::Full, 2));
+    made.extend_from_slice(log.octets());
+    for number in [0, 5] {
+        log.delete(number).unwrap();
+    }
+    made.extend_from_slice(log.octets());
+    let kept = station.walk_log(capture, kept.next, &mut log).unwrap();
+    assert_eq!((kept.end, kept.records), (End::None, 1));
+    made.extend_from_slice(log.octets());
+    log.compact();
+    made.extend_from_slice(log.octets());
+    assert_eq!(made, expected);
 }
 
 #[test]

@@ -72,37 +72,81 @@ fn other_lengths_are_no_log() {
     );
 }
 
-#[test]
-fn appending_takes_the_first_unused_record() {
-    for records in 0..=4 {
-        for used in 0..1 << records {
-            let before = log_of(records, used);
-            let first = used.trailing_ones() as usize;
-            let mut octets = before.clone();
-            let mut log = Log::new(&mut octets).unwrap();
-            assert_eq!(log.used(), first);
-            let mut expected = before.clone();
-            let appended = if first < records {
-                let at = SIZE * first;
-                expected[at..at + SIZE].copy_from_slice(&TOLD_OCTETS);
-                Ok(())
-            } else {
-                Err(Refusal::LogFull)
-            };
-            assert_eq!(log.append(TOLD), appended);
-            assert_eq!(log.octets(), expected);
-            // outcome 0 appends nothing, and is not refused where the log is full
-            let uncounted = Record {
-                outcome_number: 0,
-                ..TOLD
-            };
-            assert_eq!(log.append(uncounted), Ok(()));
-            for reading in [Reading::Nothing { end: 9 }, Reading::Open { start: 9 }] {
-                assert_eq!(log.append_reading(&reading), Ok(()));
-            }
-            assert_eq!(log.octets(), expected);
-        }
+// Whether the record of a number is used, by its bit.
+fn is_used(used: u32, k: usize) -> bool {
+    k < 32 && used >> k & 1 == 1
+}
+
+// The octets of a record, as they stand.
+fn slot(octets: &[u8], k: usize) -> &[u8] {
+    &octets[SIZE * k..][..SIZE]
+}
+
+// The record that stands there.
+fn stands(octets: &[u8], k: usize) -> Record {
+    let octets = slot(octets, k);
+    Record {
+        place: u32::from_le_bytes(octets[..4].try_into().unwrap()),
+        outcome_number: octets[4],
+        way_number: octets[5],
+        data_length: u16::from_le_bytes(octets[6..8].try_into().unwrap()),
+        status: Status::new(u64::from_le_bytes(octets[8..].try_into().unwrap())),
     }
+}
+
+// The used records side by side, and zeros behind them.
+fn compacted(octets: &[u8]) -> Vec<u8> {
+    let used = octets.chunks_exact(SIZE).filter(|record| record[4] != 0);
+    let mut front = used.collect::<Vec<_>>().concat();
+    front.resize(octets.len(), 0);
+    front
+}
+
+// Every log of up to five records, by which of them are used: with holes in front, in the middle and
+// at the end, full, empty, with no record.
+fn patterns() -> impl Iterator<Item = (usize, u32)> {
+    (0..=5).flat_map(|records| (0..1 << records).map(move |used| (records, used)))
+}
+
+// Numbers that no log has. Some lead back into it if high bits of their places are lost.
+const BEYOND: [usize; 5] = [usize::MAX, 1 << 60, usize::MAX / SIZE + 2, 1 << 32, 1 << 28];
+
+#[test]
+fn appending_goes_behind_the_last_used_record() {
+    let mut compactions = 0;
+    for (records, used) in patterns() {
+        let before = log_of(records, used);
+        let behind = (u32::BITS - used.leading_zeros()) as usize;
+        let count = used.count_ones() as usize;
+        let (answer, mut expected, number) = if count == records {
+            (Err(Refusal::LogFull), before.clone(), records)
+        } else if behind == records {
+            compactions += 1;
+            (Ok(()), compacted(&before), count)
+        } else {
+            (Ok(()), before.clone(), behind)
+        };
+        if answer.is_ok() {
+            expected[SIZE * number..][..SIZE].copy_from_slice(&TOLD_OCTETS);
+        }
+        let mut octets = before.clone();
+        let mut log = Log::new(&mut octets).unwrap();
+        assert_eq!(log.used(), count);
+        // outcome 0 appends nothing, compacts nothing, and is not refused where the log is full
+        let uncounted = Record {
+            outcome_number: 0,
+            ..TOLD
+        };
+        assert_eq!(log.append(uncounted), Ok(()));
+        for reading in [Reading::Nothing { end: 9 }, Reading::Open { start: 9 }] {
+            assert_eq!(log.append_reading(&reading), Ok(()));
+        }
+        assert_eq!(log.octets(), before);
+        assert_eq!(log.append(TOLD), answer);
+        assert_eq!(log.octets(), expected);
+        assert_eq!(log.used(), count + usize::from(answer.is_ok()));
+    }
+    assert!(compactions > 10);
     assert_eq!(Refusal::LogFull.number(), 12);
     assert_eq!(
         Refusal::LogFull.to_string(),
@@ -110,52 +154,215 @@ fn appending_takes_the_first_unused_record() {
     );
 }
 
+// As many as are unused can be appended, wherever these stand, and no more.
 #[test]
-fn records_are_read_up_to_the_first_unused_one() {
-    for records in 0..=4 {
-        for used in 0..1 << records {
-            let octets = log_of(records, used);
-            let log = LogView::new(&octets).unwrap();
-            let stands = |k: usize| {
-                let octets = &octets[SIZE * k..][..SIZE];
-                Record {
-                    place: u32::from_le_bytes(octets[..4].try_into().unwrap()),
-                    outcome_number: octets[4],
-                    way_number: octets[5],
-                    data_length: u16::from_le_bytes(octets[6..8].try_into().unwrap()),
-                    status: Status::new(u64::from_le_bytes(octets[8..].try_into().unwrap())),
-                }
-            };
-            for k in 0..=records + 1 {
-                let is_used = used >> k & 1 == 1;
-                let record = if is_used {
-                    Ok(stands(k))
-                } else {
-                    Err(Refusal::NotUsed)
-                };
-                assert_eq!(log.record(k), record);
-                // a reader that begins there
-                let end = k + (used >> k).trailing_ones() as usize;
-                let mut reader = log.records().at(k);
-                assert_eq!(reader.size_hint(), (0, Some(records.saturating_sub(k))));
-                assert!(reader.by_ref().eq((k..end).map(stands)));
-                assert_eq!(reader.number(), end);
-                assert_eq!(reader.next(), None);
-                assert_eq!(reader.number(), end);
-            }
-            // numbers that lead back into the log if high bits of their places are lost
-            for number in [usize::MAX, 1 << 60, 1 << 32, 1 << 28] {
-                assert_eq!(log.record(number), Err(Refusal::NotUsed));
-                assert_eq!(log.records().at(number).next(), None);
-            }
-            assert!(log.into_iter().eq((0..log.used()).map(stands)));
+fn a_log_is_full_exactly_when_every_record_is_used() {
+    for (records, used) in patterns() {
+        let mut octets = log_of(records, used);
+        let remain: Vec<_> = LogView::new(&octets).unwrap().into_iter().collect();
+        let mut log = Log::new(&mut octets).unwrap();
+        for n in remain.len()..records {
+            assert_eq!(log.append(TOLD), Ok(()));
+            let appended = vec![TOLD; n + 1 - remain.len()];
+            assert!(log.records().eq(remain.iter().copied().chain(appended)));
         }
+        assert_eq!(log.append(TOLD), Err(Refusal::LogFull));
+        // one deletion makes room for one
+        for number in 0..records {
+            log.delete(number).unwrap();
+            assert_eq!(log.append(TOLD), Ok(()));
+            assert_eq!(log.append(TOLD), Err(Refusal::LogFull));
+        }
+    }
+}
+
+#[test]
+fn records_are_read_and_deleted_ones_skipped() {
+    for (records, used) in patterns() {
+        let octets = log_of(records, used);
+        let log = LogView::new(&octets).unwrap();
+        for k in 0..=records + 1 {
+            let record = if is_used(used, k) {
+                Ok(stands(&octets, k))
+            } else {
+                Err(Refusal::NotUsed)
+            };
+            assert_eq!(log.record(k), record);
+            // a reader that begins there ends behind the last used one, or stays
+            let numbers = (k..records).filter(|&n| is_used(used, n));
+            let end = numbers.clone().next_back().map_or(k, |last| last + 1);
+            let mut reader = log.records().at(k);
+            assert_eq!(reader.size_hint(), (0, Some(records.saturating_sub(k))));
+            for number in numbers {
+                assert_eq!(reader.next(), Some(stands(&octets, number)));
+                assert_eq!(reader.number(), number + 1);
+            }
+            assert_eq!(reader.next(), None);
+            assert_eq!(reader.number(), end);
+        }
+        for number in BEYOND {
+            assert_eq!(log.record(number), Err(Refusal::NotUsed));
+            let mut reader = log.records().at(number);
+            assert_eq!((reader.next(), reader.number()), (None, number));
+        }
+        let all = (0..records).filter(|&n| is_used(used, n));
+        assert!(log.into_iter().eq(all.map(|n| stands(&octets, n))));
     }
     assert_eq!(Refusal::NotUsed.number(), 13);
     assert_eq!(
         Refusal::NotUsed.to_string(),
         "refusal 13, not used: record number not used"
     );
+}
+
+#[test]
+fn a_deleted_records_outcome_becomes_0() {
+    for (records, used) in patterns() {
+        let before = log_of(records, used);
+        for number in (0..=records + 1).chain(BEYOND) {
+            let mut octets = before.clone();
+            let mut expected = before.clone();
+            let mut log = Log::new(&mut octets).unwrap();
+            let answer = if is_used(used, number) {
+                expected[SIZE * number + 4] = 0;
+                Ok(())
+            } else {
+                Err(Refusal::NotUsed)
+            };
+            assert_eq!(log.delete(number), answer);
+            assert_eq!(log.octets(), expected);
+            // once is enough
+            assert_eq!(log.delete(number), Err(Refusal::NotUsed));
+            assert_eq!(log.octets(), expected);
+        }
+    }
+}
+
+#[test]
+fn every_record_of_an_outcome_is_deleted() {
+    let outcomes = [7, 1, 0, 7, 255, 7];
+    for records in 0..=outcomes.len() {
+        // nothing but the outcome octet is an outcome, so there are ones and sevens all around it
+        let mut before = [vec![7; SIZE], vec![1; SIZE]].concat().repeat(3);
+        before.truncate(SIZE * records);
+        for (record, &outcome) in before.chunks_exact_mut(SIZE).zip(&outcomes) {
+            record[4] = outcome;
+        }
+        // of outcome 0, or of one that none has, none is deleted
+        for outcome in 0..=255 {
+            let mut octets = before.clone();
+            let mut expected = before.clone();
+            let mut deleted = 0;
+            for record in expected.chunks_exact_mut(SIZE) {
+                if record[4] == outcome && outcome != 0 {
+                    record[4] = 0;
+                    deleted += 1;
+                }
+            }
+            let mut log = Log::new(&mut octets).unwrap();
+            let used = log.used();
+            assert_eq!(log.delete_outcome(outcome), deleted);
+            assert_eq!(log.octets(), expected);
+            assert_eq!(log.used(), used - deleted);
+            assert_eq!(log.delete_outcome(outcome), 0);
+        }
+    }
+}
+
+#[test]
+fn compaction_moves_what_remains_to_the_front() {
+    for (records, used) in patterns() {
+        let before = log_of(records, used);
+        let remain: Vec<_> = LogView::new(&before).unwrap().into_iter().collect();
+        let mut octets = before.clone();
+        let mut log = Log::new(&mut octets).unwrap();
+        log.compact();
+        assert_eq!(log.octets(), compacted(&before));
+        assert!(log.records().eq(remain.iter().copied()));
+        // twice changes nothing more
+        log.compact();
+        assert_eq!(log.octets(), compacted(&before));
+        // what remains, written into a log of zeros
+        let mut zeros = vec![0; before.len()];
+        let mut fresh = Log::new(&mut zeros).unwrap();
+        for record in remain {
+            fresh.append(record).unwrap();
+        }
+        assert_eq!(fresh.octets(), log.octets());
+    }
+}
+
+// Call after call, with a plain list beside the log of what is in each slot.
+#[test]
+fn any_calls_against_a_plain_list() {
+    let mut dice = noise(11, 40_000).into_iter().map(usize::from);
+    let mut roll = move |n: usize| dice.next().unwrap() % n;
+    let mut answers = [0; 14];
+    for round in 0..200 {
+        let records = round % 7;
+        let mut octets = vec![0; SIZE * records];
+        let mut log = Log::new(&mut octets).unwrap();
+        let mut list: Vec<Option<Record>> = vec![None; records];
+        for n in 0..40 {
+            let remain: Vec<_> = list.iter().flatten().copied().collect();
+            let front = |remain: Vec<Record>| {
+                let mut list: Vec<_> = remain.into_iter().map(Some).collect();
+                list.resize(records, None);
+                list
+            };
+            let answer = match roll(8) {
+                0..=3 => {
+                    let record = Record {
+                        place: n,
+                        outcome_number: roll(4) as u8,
+                        ..TOLD
+                    };
+                    let answer = log.append(record);
+                    if record.outcome_number != 0 && remain.len() < records {
+                        if list.last().unwrap().is_some() {
+                            list = front(remain);
+                        }
+                        let behind = list.iter().rposition(Option::is_some).map_or(0, |k| k + 1);
+                        list[behind] = Some(record);
+                        assert_eq!(answer, Ok(()));
+                    }
+                    answer
+                }
+                4..=5 => {
+                    let number = roll(records + 1);
+                    let answer = log.delete(number);
+                    let slot = list.get_mut(number).and_then(Option::take);
+                    assert_eq!(answer.is_ok(), slot.is_some());
+                    answer
+                }
+                6 => {
+                    let outcome = roll(4) as u8;
+                    let deleted = log.delete_outcome(outcome);
+                    for slot in &mut list {
+                        slot.take_if(|record| record.outcome_number == outcome);
+                    }
+                    let left = list.iter().flatten().count();
+                    assert_eq!(deleted, remain.len() - left);
+                    Ok(())
+                }
+                _ => {
+                    log.compact();
+                    list = front(remain);
+                    Ok(())
+                }
+            };
+            answers[answer.map_or_else(|refusal| usize::from(refusal.number()), |()| 0)] += 1;
+            assert!(log.records().eq(list.iter().flatten().copied()));
+            assert_eq!(log.used(), list.iter().flatten().count());
+            for (number, slot) in list.iter().enumerate() {
+                assert_eq!(log.record(number).ok(), *slot);
+            }
+        }
+    }
+    for number in [0, 12, 13] {
+        assert!(answers[number] > 0, "{answers:?}");
+    }
+    assert_eq!(answers[1..12], [0; 11]);
 }
 
 // From a log of zeros: reading back gives what was appended, and writing that again the same octets.
@@ -333,6 +540,52 @@ fn another_log_goes_on_where_one_was_full() {
             assert_eq!((last.end, last.next), (kept.end, kept.next));
             assert_eq!(station, whole);
         }
+    }
+}
+
+// Where a log was full, the walk goes on with the same one once records are deleted.
+#[test]
+fn a_deletion_makes_room_for_the_walk() {
+    let settings = Settings::new(OWN).flow(Flow::Pause);
+    let (octets, marks) = line(&settings, false);
+    let capture = Capture::new(&octets, &marks);
+    for capacity in 1..=8 {
+        let mut station = Station::new(settings);
+        let mut octets = vec![0; capacity * SIZE];
+        let mut log = Log::new(&mut octets).unwrap();
+        let (mut place, mut starts, mut seen) = (0, 0, Vec::new());
+        loop {
+            let kept = station.walk_log(capture, place, &mut log).unwrap();
+            starts += kept.records;
+            if kept.end != End::Full {
+                break;
+            }
+            assert_eq!(log.used(), capacity);
+            // the last in, and those of the outcome that stands first
+            seen.push(log.record(capacity - 1).unwrap());
+            log.delete(capacity - 1).unwrap();
+            if let Some(first) = log.records().next() {
+                let alike = log
+                    .records()
+                    .filter(|r| r.outcome_number == first.outcome_number);
+                seen.extend(alike);
+                assert!(log.delete_outcome(first.outcome_number) > 0);
+            }
+            place = kept.next;
+        }
+        seen.extend(&log);
+        // each Start once, whether its record was deleted or stands
+        let mut places: Vec<_> = seen.iter().map(|record| record.place).collect();
+        places.sort_unstable();
+        places.dedup();
+        let all = Station::new(settings);
+        let expected: Vec<_> = all
+            .clone()
+            .readings(capture)
+            .map(|counted| counted.unwrap().start as u32)
+            .collect();
+        assert_eq!(places, expected);
+        assert_eq!((starts, seen.len()), (expected.len(), expected.len()));
     }
 }
 

@@ -478,6 +478,25 @@ fn look(before: [u8; 16], log: &[u8], k: usize) {
     told(b" at 0 used 1", 0, &[at as u64, used as u64]);
 }
 
+// Deletes the records of the outcome that the call's number says; how many these were, where the place was told before.
+fn delete_outcome(c: Call, log: &mut [u8]) {
+    let mut deleted = c.place;
+    refusal(fenhamper::fenhamper_log_delete_outcome(log, (c.n % 256) as u8, &mut deleted));
+    told(b" deleted 0", 0, &[deleted as u64]);
+}
+
+fn make_room(c: Call, log: &mut [u8]) {
+    if c.kind == 20 {
+        refusal(fenhamper::fenhamper_log_delete(log, c.place));
+        return;
+    }
+    if c.kind == 21 {
+        delete_outcome(c, log);
+        return;
+    }
+    refusal(fenhamper::fenhamper_log_compact(log));
+}
+
 fn log_call(c: Call, record: [u8; 16], log: &mut [u8]) {
     if c.kind == 5 {
         refusal(fenhamper::fenhamper_log_append(log, &record));
@@ -487,7 +506,11 @@ fn log_call(c: Call, record: [u8; 16], log: &mut [u8]) {
         append_reading(c, log);
         return;
     }
-    look(record, log, c.place);
+    if c.kind == 7 {
+        look(record, log, c.place);
+        return;
+    }
+    make_room(c, log);
 }
 
 // Every call on a log but the walk: the log stands in place of the octets, a record in place of the client frame.
@@ -809,6 +832,10 @@ fn called(t: &[u8], r: usize, o: &mut [u8], m: &mut [u8]) {
         return;
     }
     io::write_all(1, name);
+    if 19 < c.kind {
+        logged(t, r, c, o);
+        return;
+    }
     if 15 < c.kind {
         of_two_jobs(t, r, c, o, m);
         return;

@@ -22,9 +22,11 @@ use Rattle.jobs.specs.Jobs.{ofJob, screenAnswer}
 use Rattle.jobs.proofs.Screen.{any-state}
 use Rattle.receive.specs.declared.WalkEnd.{WalkEnd}
 use Rattle.log.specs.declared.Logged.{Logged}
+use Rattle.log.specs.declared.LogNumber.{LogNumber}
 use Rattle.log.specs.declared.Step.{Step}
 use Rattle.log.specs.Numbers.{loggedRefusal}
 use Rattle.log.specs.Log.{Logging, logging}
+use Rattle.log.specs.Room.{Numbered, numbered}
 use Rattle.logging.specs.declared.LogWalk.{LogWalk}
 use Rattle.logging.specs.Walks.{Keeping, keeping}
 use Rattle.send.specs.declared.Sent.{Sent}
@@ -42,9 +44,10 @@ use Rattle.totals.proofs.Tests.{Known}
 use Rattle.counting.specs.Counting.{countChecked}
 use Rattle.counting.proofs.Calls.{Leaves, Countable, countable}
 use Rattle.fenhamper.specs.Face.{stateNumbers, stateLeft, readingNumbers, walkNumbers, sentNumbers, told, readTold, walkTold, wrote, sendTold}
-use Rattle.fenhamper.specs.Face.{keepNumbers, kept, keepTold, lodged, appendTold, RecordGiven, recordGiven, recordTold, stepGiven, stepTold}
+use Rattle.fenhamper.specs.Face.{keepNumbers, kept, keepTold, lodged, logTold, RecordGiven, recordGiven, recordTold, stepGiven, stepTold}
+use Rattle.fenhamper.specs.Face.{NumberGiven, numberGiven, numberTold, logGiven, deletedTold}
 use Rattle.fenhamper.specs.Face.{Wrote, totalsGiven, fillTold, withTotals, countTold}
-use Rattle.fenhamper.specs.Face.{Told, NumberGiven, numberGiven, entryTold, TableGiven, tableGiven, tableTold, partGiven, partTold}
+use Rattle.fenhamper.specs.Face.{Told, entryTold, TableGiven, tableGiven, tableTold, partGiven, partTold}
 
 -- an answer's first number is its refusal
 pub read-crosses : {a st : List ℕ} (before : List ℕ) {r x : Reading} → a ≡ readingNumbers r → st ≡ stateLeft (getD a 0 0) before (r .state) → r ≡ x → told a st ≡ readTold before x
@@ -71,9 +74,14 @@ unfolding keepTold keepNumbers
 keep-crosses {a} {st} {l} before {w} f g e =
     ap₂ (λ (b t : List ℕ). kept b t l) f (g ∙ ap (λ (b : List ℕ). stateLeft (getD b 0 0) before (w .state)) f) ∙ ap (keepTold before) e
 
-pub append-crosses : {n : ℕ} {l : List ℕ} {a : Logged} {x : Logging} → n ≡ loggedRefusal a → logging a l ≡ x → lodged n l ≡ appendTold x
-unfolding appendTold
-append-crosses {n} {l} f e = ap (λ (k : ℕ). lodged k l) f ∙ ap appendTold e
+pub log-crosses : {n : ℕ} {l : List ℕ} {a : Logged} {x : Logging} → n ≡ loggedRefusal a → logging a l ≡ x → lodged n l ≡ logTold x
+unfolding logTold
+log-crosses {n} {l} f e = ap (λ (k : ℕ). lodged k l) f ∙ ap logTold e
+
+pub deleted-crosses : {n k : ℕ} {l : List ℕ} (before : ℕ) {a : LogNumber} {x : Numbered} → numberGiven n k ≡ numberTold before a → numbered a l ≡ x
+    → logGiven n k l ≡ deletedTold before x
+unfolding deletedTold
+deleted-crosses {n} {k} {l} before f e = ap (λ (g : NumberGiven). record { number = g; log = l }) f ∙ ap (deletedTold before) e
 
 -- a record that is given out, with the number that its reader gave
 pub step-crosses : {n at : ℕ} {o : List ℕ} (before : List ℕ) {s x : Step} → recordGiven n o ≡ recordTold before (s .read)

@@ -41,6 +41,7 @@ use Rattle.log.specs.declared.LogNumber.the-variants.{Number}
 use Rattle.log.specs.declared.Step.{Step}
 use Rattle.log.specs.Numbers.{loggedRefusal, logReadRefusal, logNumberRefusal}
 use Rattle.log.specs.Log.{octetsOfRecord, Logging}
+use Rattle.log.specs.Room.{Numbered}
 use Rattle.logging.specs.declared.LogEnd.{LogEnd}
 use Rattle.logging.specs.declared.LogEnd.the-variants.{Full}
 use Rattle.logging.specs.declared.KeepRefusal.{KeepRefusal}
@@ -292,9 +293,9 @@ pub record Lodged : Type 0 where
 abbrev pub lodged : ℕ → List ℕ → Lodged
 lodged n l = record { refusal = n; log = l }
 
--- of an appending
-unfoldable pub appendTold : Logging → Lodged
-appendTold x = lodged (loggedRefusal (x .given)) (x .log)
+-- of a call that changes a log: an appending, a deletion, a compaction
+unfoldable pub logTold : Logging → Lodged
+logTold x = lodged (loggedRefusal (x .given)) (x .log)
 
 pub record RecordGiven : Type 0 where
   pub refusal : ℕ
@@ -337,6 +338,17 @@ numberLeft before (Number n) = n
 
 unfoldable pub numberTold : ℕ → LogNumber → NumberGiven
 numberTold before x = numberGiven (logNumberRefusal x) (numberLeft before x)
+
+pub record LogGiven : Type 0 where
+  pub number : NumberGiven
+  pub log : List ℕ
+
+abbrev pub logGiven : ℕ → ℕ → List ℕ → LogGiven
+logGiven n k l = record { number = numberGiven n k; log = l }
+
+-- of a deletion of every record of an outcome: how many these were, likewise
+unfoldable pub deletedTold : ℕ → Numbered → LogGiven
+deletedTold before x = record { number = numberTold before (x .given); log = x .log }
 
 -- ---- what a call with the totals of a capture leaves (document 02, item 9)
 

@@ -53,7 +53,8 @@ ghost use Rattle.jobs.specs.Jobs.{screenAnswer};
 ghost use Rattle.reason.specs.Reasons.{explained};
 ghost use Rattle.reason.specs.Values.{reasonNumber};
 ghost use Rattle.log.specs.Numbers.{loggedRefusal};
-ghost use Rattle.log.specs.Log.{recordOf, appending, recordRead, usedInFront};
+ghost use Rattle.log.specs.Log.{recordOf, appending, recordRead, usedRecords};
+ghost use Rattle.log.specs.Room.{deleting, deletingAll, compacting};
 ghost use Rattle.log.specs.Readers.{nextStep};
 ghost use Rattle.logging.specs.Walks.{walkLogged};
 ghost use Rattle.send.specs.Sending.{clientSending, pauseSending, pfcSending, idleSending};
@@ -64,7 +65,8 @@ ghost use Rattle.fenhamper.specs.Face.{portOf, kindOf, tagAt, countedTag
 ghost use Rattle.fenhamper.specs.Face.{recordNamed, stateNumbers, readingNumbers, walkNumbers, sentNumbers, keepRefusalNumber, keepNumbers, partWithin};
 ghost use Rattle.fenhamper.specs.Face.{sixNumber, reasonNumbers, explainNumbers};
 ghost use Rattle.fenhamper.specs.Face.{stateLeft, told, readTold, walkTold, wrote, sendTold};
-ghost use Rattle.fenhamper.specs.Face.{kept, keepTold, lodged, appendTold, recordGiven, recordTold, stepGiven, stepTold, numberGiven, numberTold};
+ghost use Rattle.fenhamper.specs.Face.{kept, keepTold, lodged, logTold, recordGiven, recordTold, stepGiven, stepTold};
+ghost use Rattle.fenhamper.specs.Face.{numberGiven, numberTold, logGiven, deletedTold};
 ghost use Rattle.fenhamper.specs.Face.{totalsGiven, fillTold, startsTold, withTotals, countTold};
 ghost use Rattle.fenhamper.specs.Face.{entryTold, tableGiven, tableTold, partGiven, partTold};
 
@@ -529,6 +531,19 @@ fn give_record(record: &mut [u8; 16], read: LogRead) -> u32
     }
 }
 
+// A number of records goes out, and 0; a refusal leaves what is there.
+fn give_number(number: &mut usize, counted: LogNumber) -> u32
+    ensures { λ n. ⌜ numberGiven n (now (number .exit)) ≡ numberTold (now (number .entry)) counted ⌝ }
+{
+    match counted {
+        LogNumber::Refused(x) => log::refusal_number(x) as u32,
+        LogNumber::Number(k) => {
+            *number = k;
+            0
+        }
+    }
+}
+
 // The part itself if it lies inside n octets, else 0 and 0. No sum, so that none is too large.
 fn part_within(n: usize, at: usize, len: usize) -> [u64; 2]
     ensures { λ r. ⌜ r ≡ partWithin n at len ⌝ }
@@ -812,14 +827,14 @@ pub extern "C" fn fenhamper_walk_log(
 
 #[no_mangle]
 pub extern "C" fn fenhamper_log_append(log: &mut [u8], record: &[u8; 16]) -> u32
-    ensures { λ n. ⌜ lodged n (now (log .exit)) ≡ appendTold (appending (now (log .entry)) (recordOf (now («record» .entry)))) ⌝ }
+    ensures { λ n. ⌜ lodged n (now (log .exit)) ≡ logTold (appending (now (log .entry)) (recordOf (now («record» .entry)))) ⌝ }
 {
     logged_number(log::append(log, log::record_of(record)))
 }
 
 #[no_mangle]
 pub extern "C" fn fenhamper_log_append_reading(log: &mut [u8], reading: &[u64; 12]) -> u32
-    ensures { λ n. ⌜ lodged n (now (log .exit)) ≡ appendTold (appending (now (log .entry)) (recordNamed (now (reading .entry)))) ⌝ }
+    ensures { λ n. ⌜ lodged n (now (log .exit)) ≡ logTold (appending (now (log .entry)) (recordNamed (now (reading .entry)))) ⌝ }
 {
     logged_number(log::append(log, record_named(reading)))
 }
@@ -844,15 +859,34 @@ pub extern "C" fn fenhamper_log_next(log: &[u8], at: &mut usize, record: &mut [u
 
 #[no_mangle]
 pub extern "C" fn fenhamper_log_used(log: &[u8], used: &mut usize) -> u32
-    ensures { λ n. ⌜ numberGiven n (now (used .exit)) ≡ numberTold (now (used .entry)) (usedInFront (now (log .entry))) ⌝ }
+    ensures { λ n. ⌜ numberGiven n (now (used .exit)) ≡ numberTold (now (used .entry)) (usedRecords (now (log .entry))) ⌝ }
 {
-    match log::used_in_front(log) {
-        LogNumber::Refused(x) => log::refusal_number(x) as u32,
-        LogNumber::Number(n) => {
-            *used = n;
-            0
-        }
-    }
+    give_number(used, log::used_records(log))
+}
+
+#[no_mangle]
+pub extern "C" fn fenhamper_log_delete(log: &mut [u8], number: usize) -> u32
+    ensures { λ n. ⌜ lodged n (now (log .exit)) ≡ logTold (deleting (now (log .entry)) number) ⌝ }
+{
+    logged_number(log::delete(log, number))
+}
+
+#[no_mangle]
+pub extern "C" fn fenhamper_log_delete_outcome(
+    log: &mut [u8],
+    outcome: u8,
+    deleted: &mut usize,
+) -> u32
+    ensures { λ n. ⌜ logGiven n (now (deleted .exit)) (now (log .exit)) ≡ deletedTold (now (deleted .entry)) (deletingAll (now (log .entry)) outcome) ⌝ }
+{
+    give_number(deleted, log::delete_outcome(log, outcome))
+}
+
+#[no_mangle]
+pub extern "C" fn fenhamper_log_compact(log: &mut [u8]) -> u32
+    ensures { λ n. ⌜ lodged n (now (log .exit)) ≡ logTold (compacting (now (log .entry))) ⌝ }
+{
+    logged_number(log::compact(log))
 }
 
 // ---- the exported functions over the totals of a capture

@@ -1,12 +1,13 @@
 -- Each call on a log, by what is known of log and record. Assumes nothing.
-use Prim.Native.Nat.{ℕ, _*_, _/_, _%_, _<_}
+use Prim.Native.Nat.{ℕ, _+_, _*_, _/_, _%_, _<_}
 use native.Mathlib.Omega.{arith}
 use mathlib.Core.Path.{_≡_, refl, sym, ap, ap₂, _∙_}
 use mathlib.Core.Bool.{Bool, true, false, not, _&&_, false≢true}
 use mathlib.Core.List.{List}
-use lib.ListN.{length}
+use lib.ListN.{length, set}
 use borrow.Author.Tests.{eqb-true, eq-eqb, ne-eqb, not-false}
 use Rattle.line.specs.Line.{overwrite}
+use Rattle.line.specs.Table.{first}
 use Rattle.line.proofs.Symbols.{by-test}
 use Rattle.line.proofs.Tables.{first-here, first-next, first-other}
 use Rattle.log.specs.declared.Record.{Record}
@@ -17,12 +18,12 @@ use Rattle.log.specs.declared.LogRead.{LogRead}
 use Rattle.log.specs.declared.LogRead.the-variants.{Holds}
 use Rattle.log.specs.declared.LogNumber.{LogNumber}
 use Rattle.log.specs.declared.LogNumber.the-variants.{Number}
-use Rattle.log.specs.Log.{octetsOfRecord, recordOf, isUsed, counts, slotAt, slots, allUsed, frontCount, badLog}
-use Rattle.log.specs.Log.{appendRefusals, recordRefusals, unusedRefusals, frontRefusals, logging, appended, appendChecked, appending}
-use Rattle.log.specs.Log.{recordChecked, recordRead, numberChecked, firstUnused, usedInFront}
+use Rattle.log.specs.Log.{octetsOfRecord, recordOf, isUsed, counts, slotAt, slots, allUsed, usedCount, extent, joined, compacted, badLog}
+use Rattle.log.specs.Log.{appendRefusals, recordRefusals, logRefusals, logging, roomy, appended, appendChecked, appending}
+use Rattle.log.specs.Log.{recordChecked, recordRead, numberChecked, usedRecords}
+use Rattle.log.specs.Room.{deleteChecked, deleting, deletedAll, countOf, numbered, deleteAllChecked, deletingAll, compactChecked, compacting}
 use Rattle.log.specs.Claims.{IsMultiple, Used}
-use Rattle.log.proofs.Records.{counts-so}
-use Rattle.log.proofs.Searches.{used-inside, count-less}
+use Rattle.log.proofs.Searches.{used-inside}
 
 -- ---- refusal 11
 
@@ -40,6 +41,17 @@ good-mod l h = eqb-true (length l % 16) 0 (not-false _ h)
 
 pub bad-mod : (l : List ℕ) → badLog l ≡ true → IsMultiple l → ⊥
 bad-mod l h e = false≢true (sym (good-log l e) ∙ h)
+
+-- ---- room behind the last used record
+
+module _ (l : List ℕ) where
+  pub roomy-compacts : extent l ≡ length l / 16 → roomy l ≡ compacted l
+  unfolding roomy
+  roomy-compacts h = rw (eq-eqb (extent l) (length l / 16) h, roomy)
+
+  pub roomy-stays : (extent l ≡ length l / 16 → ⊥) → roomy l ≡ l
+  unfolding roomy
+  roomy-stays h = rw (ne-eqb (extent l) (length l / 16) h, roomy)
 
 -- ---- appending
 
@@ -63,18 +75,11 @@ module _ (l : List ℕ) (r : Record) where
   append-full h c u = ap (λ (x : Logged). appendChecked x l r) (first-next (Refused BadLog) _ h ∙ first-here (Refused LogFull) _ (full-row c u))
 
   pub append-room : badLog l ≡ false → counts r ≡ true → allUsed (slots l) ≡ false
-      → appending l r ≡ logging Fine (overwrite l (16 * frontCount l) (octetsOfRecord r))
+      → appending l r ≡ logging Fine (overwrite (roomy l) (16 * extent (roomy l)) (octetsOfRecord r))
   unfolding appending appendRefusals appendChecked appended
   append-room h c u =
       ap (λ (x : Logged). appendChecked x l r) (first-next (Refused BadLog) _ h ∙ first-next (Refused LogFull) _ (full-row c u) ∙ first-other Fine)
       ∙ rw (c, appended)
-
-  -- where the first unused record is known
-  pub append-at : (k : ℕ) → IsMultiple l → (r .outcome ≡ 0 → ⊥) → k ≡ frontCount l → k < length l / 16
-      → appending l r ≡ logging Fine (overwrite l (16 * k) (octetsOfRecord r))
-  append-at k m c e h =
-      append-room (good-log l m) (counts-so r c) (count-less l (λ q. let z : ⊥ = omega arith in z))
-      ∙ ap (λ (i : ℕ). logging Fine (overwrite l (16 * i) (octetsOfRecord r))) (sym e)
 
 -- ---- the record of a stated number
 
@@ -99,26 +104,53 @@ read-inside l k r h =
     (λ b. by-test (isUsed (slotAt l k)) (λ u. used-inside l k u)
     (λ u. let z : LogRead.Refused NotUsed ≡ Holds r = sym (read-unused l k b u) ∙ h in let z′ : _≡_ {A = ℕ} 0 1 = cc in omega arith))
 
--- ---- the first unused record, and the number in front of it
+-- ---- a record deleted
+
+module _ (l : List ℕ) (k : ℕ) where
+  pub delete-bad : badLog l ≡ true → deleting l k ≡ logging (Refused BadLog) l
+  unfolding deleting recordRefusals deleteChecked
+  delete-bad h = ap (λ (x : Logged). deleteChecked x l k) (first-here (Refused BadLog) _ h)
+
+  pub delete-unused : badLog l ≡ false → isUsed (slotAt l k) ≡ false → deleting l k ≡ logging (Refused NotUsed) l
+  unfolding deleting recordRefusals deleteChecked
+  delete-unused h u = ap (λ (x : Logged). deleteChecked x l k) (first-next (Refused BadLog) _ h ∙ first-here (Refused NotUsed) _ (ap not u))
+
+  pub delete-used : badLog l ≡ false → Used l k → deleting l k ≡ logging Fine (set l (16 * k + 4) 0)
+  unfolding deleting recordRefusals deleteChecked
+  delete-used h u =
+      ap (λ (x : Logged). deleteChecked x l k) (first-next (Refused BadLog) _ h ∙ first-next (Refused NotUsed) _ (ap not u) ∙ first-other Fine)
+
+-- ---- the calls on all records
 
 module _ (l : List ℕ) where
-  pub first-bad : badLog l ≡ true → firstUnused l ≡ LogNumber.Refused BadLog
-  unfolding firstUnused unusedRefusals numberChecked
-  first-bad h = ap (λ (x : Logged). numberChecked x (frontCount l)) (first-here (Refused BadLog) _ h)
+  log-bad : badLog l ≡ true → first (logRefusals l) ≡ Refused BadLog
+  unfolding logRefusals
+  log-bad h = first-here (Refused BadLog) _ h
 
-  pub first-full : badLog l ≡ false → allUsed (slots l) ≡ true → firstUnused l ≡ LogNumber.Refused LogFull
-  unfolding firstUnused unusedRefusals numberChecked
-  first-full h u = ap (λ (x : Logged). numberChecked x (frontCount l)) (first-next (Refused BadLog) _ h ∙ first-here (Refused LogFull) _ u)
+  log-good : badLog l ≡ false → first (logRefusals l) ≡ Fine
+  unfolding logRefusals
+  log-good h = first-next (Refused BadLog) _ h ∙ first-other Fine
 
-  pub first-found : badLog l ≡ false → allUsed (slots l) ≡ false → firstUnused l ≡ Number (frontCount l)
-  unfolding firstUnused unusedRefusals numberChecked
-  first-found h u =
-      ap (λ (x : Logged). numberChecked x (frontCount l)) (first-next (Refused BadLog) _ h ∙ first-next (Refused LogFull) _ u ∙ first-other Fine)
+  pub outcome-bad : (o : ℕ) → badLog l ≡ true → deletingAll l o ≡ numbered (LogNumber.Refused BadLog) l
+  unfolding deletingAll deleteAllChecked
+  outcome-bad o h = ap (λ (x : Logged). deleteAllChecked x l o) (log-bad h)
 
-  pub front-bad : badLog l ≡ true → usedInFront l ≡ LogNumber.Refused BadLog
-  unfolding usedInFront frontRefusals numberChecked
-  front-bad h = ap (λ (x : Logged). numberChecked x (frontCount l)) (first-here (Refused BadLog) _ h)
+  pub outcome-good : (o : ℕ) → badLog l ≡ false → deletingAll l o ≡ numbered (Number (countOf o (slots l))) (joined (deletedAll o (slots l)))
+  unfolding deletingAll deleteAllChecked
+  outcome-good o h = ap (λ (x : Logged). deleteAllChecked x l o) (log-good h)
 
-  pub front-counted : badLog l ≡ false → usedInFront l ≡ Number (frontCount l)
-  unfolding usedInFront frontRefusals numberChecked
-  front-counted h = ap (λ (x : Logged). numberChecked x (frontCount l)) (first-next (Refused BadLog) _ h ∙ first-other Fine)
+  pub compact-bad : badLog l ≡ true → compacting l ≡ logging (Refused BadLog) l
+  unfolding compacting compactChecked
+  compact-bad h = ap (λ (x : Logged). compactChecked x l) (log-bad h)
+
+  pub compact-good : badLog l ≡ false → compacting l ≡ logging Fine (compacted l)
+  unfolding compacting compactChecked
+  compact-good h = ap (λ (x : Logged). compactChecked x l) (log-good h)
+
+  pub count-bad : badLog l ≡ true → usedRecords l ≡ LogNumber.Refused BadLog
+  unfolding usedRecords numberChecked
+  count-bad h = ap (λ (x : Logged). numberChecked x (usedCount l)) (log-bad h)
+
+  pub count-good : badLog l ≡ false → usedRecords l ≡ Number (usedCount l)
+  unfolding usedRecords numberChecked
+  count-good h = ap (λ (x : Logged). numberChecked x (usedCount l)) (log-good h)

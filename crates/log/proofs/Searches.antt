@@ -1,22 +1,21 @@
--- The records of a log, and the search for the first unused one. Assumes nothing.
+-- The records of a log, and the searches for its last used one and for the next one. Assumes nothing.
 use Prim.Native.Nat.{ℕ, zero, suc, _+_, _-_, _*_, _/_, _≤_, _<_}
 use native.Mathlib.Omega.{arith}
-use native.Mathlib.Nat.{suc-inj, suc-ne-zero, lt-of-not-le, eq-or-lt-of-le}
+use native.Mathlib.Nat.{lt-of-not-le, eq-or-lt-of-le}
 use mathlib.Core.Path.{_≡_, refl, sym, ap, ap₂, _∙_}
-use mathlib.Core.Bool.{true, false, false≢true}
+use mathlib.Core.Bool.{true, false, _&&_, false≢true}
 use mathlib.Core.Logic.{⊎-elim}
-use mathlib.Core.List.{List, [], _∷_, _++_, append-assoc}
-use lib.ListN.{length, getD, take, drop, length-take, length-drop, take-append-drop, List·getD-eq-default}
-use lib.Seq.{getD-take, getD-drop, drop-drop, length-take-le, take-append-le, drop-append-le, drop-append-add, take-at, drop-at}
+use mathlib.Core.List.{List, [], _∷_, _++_}
+use lib.ListN.{length, getD, take, drop, length-take, length-drop, drop-of-length-le, List·getD-eq-default}
+use lib.Seq.{getD-take, getD-drop, drop-drop, length-take-le}
 use lib.Dec.{ltb, lit<}
 use borrow.Author.Tests.{ltb-true, ltb-false}
-use Rattle.line.specs.Line.{overwrite}
 use Rattle.line.proofs.Symbols.{by-test}
-use Rattle.line.proofs.Overwrite.{length-overwrite}
-use Rattle.log.specs.Log.{octetsOfRecord, recordOf, isUsed, slotAt, slotsIn, slots, allUsed, front, frontCount}
-use Rattle.log.specs.Searched.{unusedFrom}
-use Rattle.log.specs.Claims.{OfOctets, IsMultiple, Used, EveryUsed, AreInFront}
+use Rattle.log.specs.Log.{octetsOfRecord, recordOf, isUsed, slotAt, slotsIn, slots, allUsed, usedOnes, usedCount, upToLast, extent}
+use Rattle.log.specs.Readers.{skipped, nextUsed}
+use Rattle.log.specs.Claims.{OfOctets, IsMultiple, Used, EveryUsed, IsBehindLast}
 use Rattle.log.proofs.Records.{record-stands, octet-unused, octet-used}
+use Rattle.log.proofs.Used.{used-keep, used-skip, used-le, last-used, last-unused}
 
 -- ---- the octets of a record
 
@@ -24,7 +23,7 @@ pub slot-first : (l : List ℕ) → slotAt l 0 ≡ take 16 l
 unfolding slotAt
 slot-first l = refl
 
-slot-next : (l : List ℕ) (k : ℕ) → slotAt (drop 16 l) k ≡ slotAt l (suc k)
+pub slot-next : (l : List ℕ) (k : ℕ) → slotAt (drop 16 l) k ≡ slotAt l (suc k)
 unfolding slotAt
 slot-next l k = ap (take 16) (drop-drop (16 * k) 16 l ∙ ap (λ (i : ℕ). drop i l) (let e : 16 + 16 * k ≡ 16 * suc k = omega arith in e))
 
@@ -33,8 +32,12 @@ pub part-slot : (l : List ℕ) (k : ℕ) → take (16 * k + 16 - 16 * k) (drop (
 unfolding slotAt
 part-slot l k = ap (λ (n : ℕ). take n (drop (16 * k) l)) (let e : 16 * k + 16 - 16 * k ≡ 16 = omega arith in e)
 
+pub length-slot : (l : List ℕ) (k : ℕ) → 16 * k + 16 ≤ length l → length (slotAt l k) ≡ 16
+unfolding slotAt
+length-slot l k h = length-take-le 16 (drop (16 * k) l) (let d = length-drop (16 * k) l in omega arith)
+
 -- a record's outcome octet, where it stands in the log
-outcome-octet : (l : List ℕ) (k : ℕ) → getD (slotAt l k) 4 0 ≡ getD l (16 * k + 4) 0
+pub outcome-octet : (l : List ℕ) (k : ℕ) → getD (slotAt l k) 4 0 ≡ getD l (16 * k + 4) 0
 unfolding slotAt
 outcome-octet l k = getD-take 16 (drop (16 * k) l) 4 0 (lit< tt) ∙ getD-drop (16 * k) l 4 0
 
@@ -51,18 +54,23 @@ beyond-unused l k h = slot-unused l k (List·getD-eq-default l 0 {n = 16 * k + 4
 pub used-inside : (l : List ℕ) (k : ℕ) → Used l k → 16 * k < length l
 used-inside l k u = lt-of-not-le (λ h. false≢true (sym (beyond-unused l k h) ∙ u))
 
--- what stands there is octets, and written again a used record gives the same 16
-slot-octets : (l : List ℕ) (k : ℕ) → OfOctets l → OfOctets (slotAt l k)
+pub not-used : (l : List ℕ) (k : ℕ) → (Used l k → ⊥) → isUsed (slotAt l k) ≡ false
+not-used l k h = by-test (isUsed (slotAt l k)) (λ u. absurd (h u)) (λ u. u)
+
+-- what stands there is octets, and written again it gives the same 16
+pub slot-octets : (l : List ℕ) (k : ℕ) → OfOctets l → OfOctets (slotAt l k)
 unfolding slotAt
 slot-octets l k o i =
     by-test (ltb i 16) (λ h. let lt = ltb-true i 16 h in rw (getD-take 16 (drop (16 * k) l) i 0 lt, getD-drop (16 * k) l i 0) (o (16 * k + i)))
     (λ h. let ge = ltb-false i 16 h in rw (List·getD-eq-default (take 16 (drop (16 * k) l)) 0 {n = i} (simp length-take (omega arith))) (lit< tt))
 
+pub slot-again : (l : List ℕ) (k : ℕ) → OfOctets l → 16 * k + 16 ≤ length l → octetsOfRecord (recordOf (slotAt l k)) ≡ slotAt l k
+slot-again l k o h = record-stands (slotAt l k) (length-slot l k h) (slot-octets l k o)
+
 pub slot-stands : (l : List ℕ) (k : ℕ) → OfOctets l → IsMultiple l → Used l k → octetsOfRecord (recordOf (slotAt l k)) ≡ slotAt l k
-slot-stands l k o m u =
-    let h = used-inside l k u in
-    let n : length (slotAt l k) ≡ 16 = (unfold slotAt in simp (length-take, length-drop) (omega arith)) in
-    record-stands (slotAt l k) n (slot-octets l k o)
+slot-stands l k o m u = let h = used-inside l k u in slot-again l k o (omega arith)
+
+-- ---- the records of a log
 
 pub length-slotsIn : (n : ℕ) (l : List ℕ) → length (slotsIn n l) ≡ n
 unfolding slotsIn
@@ -73,198 +81,145 @@ pub length-slots : (l : List ℕ) → length (slots l) ≡ length l / 16
 unfolding slots
 length-slots l = length-slotsIn (length l / 16) l
 
--- ---- the records in front, one by one
+-- one more at the end; and those from record k on
+slots-more : (n : ℕ) (l : List ℕ) → slotsIn (suc n) l ≡ slotsIn n l ++ (slotAt l n ∷ [])
+unfolding slotsIn
+slots-more zero l = ap (λ (s : List ℕ). s ∷ []) (sym (slot-first l))
+slots-more (suc n) l =
+    ap (λ (x : List (List ℕ)). take 16 l ∷ x) (slots-more n (drop 16 l))
+    ∙ ap (λ (s : List ℕ). take 16 l ∷ (slotsIn n (drop 16 l) ++ (s ∷ []))) (slot-next l n)
 
-pub front-cons : (n : ℕ) (l : List ℕ) → isUsed (take 16 l) ≡ true → front (slotsIn (suc n) l) ≡ take 16 l ∷ front (slotsIn n (drop 16 l))
-unfolding slotsIn front
-front-cons n l h = rw (slotsIn, front, h)
-
-pub front-stops : (n : ℕ) (l : List ℕ) → isUsed (take 16 l) ≡ false → front (slotsIn (suc n) l) ≡ []
-unfolding slotsIn front
-front-stops n l h = rw (slotsIn, front, h)
-
-front-le : (ss : List (List ℕ)) → length (front ss) ≤ length ss
-unfolding front
-front-le [] = omega arith
-front-le (s ∷ ss) = let h = front-le ss in by-test (isUsed s) (λ u. rw (u, front) (omega arith)) (λ u. rw (u, front) (omega arith))
-
--- no record is unused exactly where all stand in front
-all-front : (ss : List (List ℕ)) → length (front ss) ≡ length ss → allUsed ss ≡ true
-unfolding front allUsed
-all-front [] h = refl
-all-front (s ∷ ss) h =
-    by-test (isUsed s) (λ u. rw u (all-front ss (suc-inj (rw (u, front) at h))))
-    (λ u. let z : 0 ≡ suc (length ss) = rw (u, front) at h in absurd (suc-ne-zero (length ss) (sym z)))
-
-front-all : (ss : List (List ℕ)) → allUsed ss ≡ true → length (front ss) ≡ length ss
-unfolding front allUsed
-front-all [] h = refl
-front-all (s ∷ ss) h = by-test (isUsed s) (λ u. rw (u, front) (ap suc (front-all ss (rw u at h)))) (λ u. absurd (false≢true (rw u at h)))
-
-pub count-le : (l : List ℕ) → frontCount l ≤ length l / 16
-unfolding frontCount
-count-le l = let f = front-le (slots l) in let g = length-slots l in omega arith
-
-pub count-all : (l : List ℕ) → frontCount l ≡ length l / 16 → allUsed (slots l) ≡ true
-unfolding frontCount
-count-all l h = all-front (slots l) (h ∙ sym (length-slots l))
-
-all-count : (l : List ℕ) → allUsed (slots l) ≡ true → frontCount l ≡ length l / 16
-unfolding frontCount
-all-count l u = front-all (slots l) u ∙ length-slots l
-
--- fewer stand in front than there are: one is unused
-pub count-less : (l : List ℕ) → (frontCount l ≡ length l / 16 → ⊥) → allUsed (slots l) ≡ false
-count-less l h = by-test (allUsed (slots l)) (λ u. absurd (h (all-count l u))) (λ u. u)
-
--- ---- a search from record k on
-
-pub unused-start : (l : List ℕ) → unusedFrom l 0 ≡ frontCount l
-unfolding frontCount slots unusedFrom
-unused-start l =
-    let e : length l / 16 - 0 ≡ length l / 16 = omega arith in
-    rw e (let g : 0 + length (front (slotsIn (length l / 16) l)) ≡ length (front (slotsIn (length l / 16) l)) = omega arith in g)
-
--- a used record is passed
-pub unused-turn : (l : List ℕ) (k : ℕ) → k < length l / 16 → Used l k → unusedFrom l k ≡ unusedFrom l (k + 1)
-unfolding unusedFrom slotAt
-unused-turn l k h u =
-    let n = length l / 16 in
+pub slots-on : (n k : ℕ) (l : List ℕ) → k < n → slotsIn (n - k) (drop (16 * k) l) ≡ slotAt l k ∷ slotsIn (n - (k + 1)) (drop (16 * (k + 1)) l)
+unfolding slotsIn slotAt
+slots-on n k l h =
     let e : n - k ≡ suc (n - (k + 1)) = omega arith in
     let d : drop 16 (drop (16 * k) l) ≡ drop (16 * (k + 1)) l
     = drop-drop 16 (16 * k) l ∙ ap (λ (i : ℕ). drop i l) (let g : 16 * k + 16 ≡ 16 * (k + 1) = omega arith in g) in
-    let f : length (front (slotsIn (n - k) (drop (16 * k) l))) ≡ suc (length (front (slotsIn (n - (k + 1)) (drop (16 * (k + 1)) l))))
-    = rw (e, front-cons (n - (k + 1)) (drop (16 * k) l) u, d) in
-    omega arith
+    ap (λ (m : ℕ). slotsIn m (drop (16 * k) l)) e ∙ ap (λ (t : List ℕ). take 16 (drop (16 * k) l) ∷ slotsIn (n - (k + 1)) t) d
 
--- an unused one is found
-pub unused-stop : (l : List ℕ) (k : ℕ) → k < length l / 16 → isUsed (slotAt l k) ≡ false → unusedFrom l k ≡ k
-unfolding unusedFrom slotAt
-unused-stop l k h u =
-    let n = length l / 16 in
-    let e : n - k ≡ suc (n - (k + 1)) = omega arith in
-    let f : length (front (slotsIn (n - k) (drop (16 * k) l))) ≡ 0 = rw (e, front-stops (n - (k + 1)) (drop (16 * k) l) u) in
-    omega arith
+drop-slotsIn : (k n : ℕ) (l : List ℕ) → drop k (slotsIn n l) ≡ slotsIn (n - k) (drop (16 * k) l)
+unfolding slotsIn
+drop-slotsIn zero n l = ap (λ (m : ℕ). slotsIn m l) (let e : n ≡ n - 0 = omega arith in e)
+drop-slotsIn (suc k) zero l = ap (λ (m : ℕ). slotsIn m (drop (16 * suc k) l)) (let e : 0 ≡ 0 - suc k = omega arith in e)
+drop-slotsIn (suc k) (suc n) l =
+    drop-slotsIn k n (drop 16 l)
+    ∙ ap₂ slotsIn (let e : n - k ≡ suc n - suc k = omega arith in e)
+    (drop-drop (16 * k) 16 l ∙ ap (λ (i : ℕ). drop i l) (let e : 16 + 16 * k ≡ 16 * suc k = omega arith in e))
 
-pub unused-end : (l : List ℕ) (k : ℕ) → length l / 16 ≤ k → unusedFrom l k ≡ k
-unfolding unusedFrom slotsIn front
-unused-end l k h =
-    let e : length l / 16 - k ≡ 0 = omega arith in
-    rw e (let g : k + 0 ≡ k = omega arith in g)
+pub slots-from : (l : List ℕ) (k : ℕ) → k < length l / 16 → drop k (slots l) ≡ slotAt l k ∷ drop (k + 1) (slots l)
+unfolding slots
+slots-from l k h =
+    let n : ℕ = length l / 16 in
+    drop-slotsIn k n l ∙ slots-on n k l h ∙ ap (λ (x : List (List ℕ)). slotAt l k ∷ x) (sym (drop-slotsIn (k + 1) n l))
 
--- ---- what the number of records in front says
+pub slots-end : (l : List ℕ) (k : ℕ) → length l / 16 ≤ k → drop k (slots l) ≡ []
+slots-end l k h = drop-of-length-le (slots l) {i = k} (let n = length-slots l in omega arith)
 
--- the records before record k are used: the search may begin there
-pub count-from : (l : List ℕ) (k : ℕ) → k ≤ length l / 16 → ((j : ℕ) → j < k → Used l j) → frontCount l ≡ unusedFrom l k
-count-from l zero h u = sym (unused-start l)
-count-from l (suc k) h u =
-    count-from l k (omega arith) (λ j lt. u j (omega arith))
-    ∙ unused-turn l k (omega arith) (u k (omega arith))
-    ∙ ap (unusedFrom l) (let e : k + 1 ≡ suc k = omega arith in e)
+-- ---- how many are used: the turn of a loop that counts
 
-not-used : (l : List ℕ) (k : ℕ) → (Used l k → ⊥) → isUsed (slotAt l k) ≡ false
-not-used l k h = by-test (isUsed (slotAt l k)) (λ u. absurd (h u)) (λ u. u)
+module _ (l : List ℕ) (k : ℕ) (h : k < length l / 16) where
+  pub count-used : Used l k → length (usedOnes (drop k (slots l))) ≡ suc (length (usedOnes (drop (k + 1) (slots l))))
+  count-used u = ap (λ (x : List (List ℕ)). length (usedOnes x)) (slots-from l k h) ∙ ap length (used-keep (slotAt l k) _ u)
 
--- k records are used, and no further one: k stand in front
-pub count-is : (l : List ℕ) (k : ℕ) → AreInFront l k → frontCount l ≡ k
-count-is l k h =
-    count-from l k (h .0) (h .1)
-    ∙ ⊎-elim (λ e. unused-end l k (omega arith)) (λ lt. unused-stop l k lt (not-used l k (h .2 lt))) (eq-or-lt-of-le (h .0))
+  pub count-unused : isUsed (slotAt l k) ≡ false → length (usedOnes (drop k (slots l))) ≡ length (usedOnes (drop (k + 1) (slots l)))
+  count-unused u = ap (λ (x : List (List ℕ)). length (usedOnes x)) (slots-from l k h) ∙ ap length (used-skip (slotAt l k) _ u)
 
--- and as many as stand in front are used, and no further one
-in-front : (n : ℕ) (l : List ℕ) (c : ℕ) → c ≡ length (front (slotsIn n l)) → (c ≤ n) × ((j : ℕ) → j < c → Used l j) × (c < n → Used l c → ⊥)
-in-front zero l c e =
-    let z : c ≡ 0 = e ∙ (unfold slotsIn front in refl) in
-    (omega arith, (λ j lt. absurd (let b : ⊥ = omega arith in b)), (λ lt. absurd (let b : ⊥ = omega arith in b)))
-in-front (suc n) l c e =
-    by-test (isUsed (take 16 l))
-    (λ u.
-    let d = length (front (slotsIn n (drop 16 l))) in
-    let g : c ≡ suc d = e ∙ ap length (front-cons n l u) in
-    let ih = in-front n (drop 16 l) d refl in (
+pub count-le : (l : List ℕ) → usedCount l ≤ length l / 16
+unfolding usedCount
+count-le l = let f = used-le (slots l) in let g = length-slots l in omega arith
+
+-- ---- the last used record: the turns of a loop that looks for it from the end
+
+pub up-to-stop : (l : List ℕ) (k : ℕ) → Used l k → upToLast (slotsIn (suc k) l) ≡ suc k
+up-to-stop l k u =
+    ap upToLast (slots-more k l) ∙ last-used (slotsIn k l) (slotAt l k) u ∙ (let c = length-slotsIn k l in omega arith)
+
+pub up-to-turn : (l : List ℕ) (k : ℕ) → isUsed (slotAt l k) ≡ false → upToLast (slotsIn (suc k) l) ≡ upToLast (slotsIn k l)
+up-to-turn l k u = ap upToLast (slots-more k l) ∙ last-unused (slotsIn k l) (slotAt l k) u
+
+pub up-to-none : (l : List ℕ) → upToLast (slotsIn 0 l) ≡ 0
+unfolding upToLast slotsIn
+up-to-none l = refl
+
+-- what the number behind it says
+up-to-holds : (n : ℕ) (l : List ℕ) (e : ℕ) → e ≡ upToLast (slotsIn n l)
+    → (e ≤ n) × (0 < e → Used l (e - 1)) × ((j : ℕ) → e ≤ j → j < n → Used l j → ⊥)
+up-to-holds zero l e q =
+    let z = q ∙ up-to-none l in
+    (omega arith, (λ lt. absurd (let b : ⊥ = omega arith in b)), (λ j le lt u. absurd (let b : ⊥ = omega arith in b)))
+up-to-holds (suc n) l e q =
+    by-test (isUsed (slotAt l n))
+    (λ u. let z = q ∙ up-to-stop l n u in
+    let g : n ≡ e - 1 = omega arith in
+    (omega arith, (λ _. ap (λ (k : ℕ). isUsed (slotAt l k)) (sym g) ∙ u), (λ j le lt _. absurd (let b : ⊥ = omega arith in b))))
+    (λ u. let ih = up-to-holds n l e (q ∙ up-to-turn l n u) in (
       (let b = ih .0 in omega arith),
-      each l d u (ih .1) c g,
-      (λ lt w. ih .2 (omega arith) (ap isUsed (slot-next l d ∙ ap (slotAt l) (sym g)) ∙ w)),
+      ih .1,
+      (λ j le lt v. ⊎-elim (λ g. false≢true (sym u ∙ ap (λ (k : ℕ). isUsed (slotAt l k)) (sym g) ∙ v)) (λ less. ih .2 j le less v)
+          (eq-or-lt-of-le (let b : j ≤ n = omega arith in b))),
     ))
-    (λ u.
-    let g : c ≡ 0 = e ∙ ap length (front-stops n l u) in (
-      omega arith,
-      (λ j lt. absurd (let b : ⊥ = omega arith in b)),
-      (λ lt w. false≢true (sym u ∙ ap isUsed (sym (slot-first l) ∙ ap (slotAt l) (sym g)) ∙ w)),
-    ))
-  where
-    each : (l : List ℕ) (d : ℕ) → isUsed (take 16 l) ≡ true → ((j : ℕ) → j < d → Used (drop 16 l) j) → (c : ℕ) → c ≡ suc d → (j : ℕ) → j < c → Used l j
-    each l d u h c g zero lt = ap isUsed (slot-first l) ∙ u
-    each l d u h c g (suc j) lt = ap isUsed (sym (slot-next l j)) ∙ h j (omega arith)
 
-pub count-holds : (l : List ℕ) → AreInFront l (frontCount l)
-unfolding frontCount slots
-count-holds l = in-front (length l / 16) l (length (front (slotsIn (length l / 16) l))) refl
+pub extent-holds : (l : List ℕ) → IsBehindLast l (extent l)
+unfolding extent slots
+extent-holds l = up-to-holds (length l / 16) l _ refl
 
--- "no unused record": each one is used
+-- and only that number says it
+up-to-is : (l : List ℕ) (k m : ℕ) → (0 < k → Used l (k - 1)) → ((j : ℕ) → k ≤ j → j < k + m → Used l j → ⊥) → upToLast (slotsIn (k + m) l) ≡ k
+up-to-is l zero zero u none = up-to-none l
+up-to-is l (suc k) zero u none =
+    ap (λ (i : ℕ). upToLast (slotsIn i l)) (let e : suc k + 0 ≡ suc k = omega arith in e)
+    ∙ up-to-stop l k (ap (λ (i : ℕ). isUsed (slotAt l i)) (let e : k ≡ suc k - 1 = omega arith in e) ∙ u (omega arith))
+up-to-is l k (suc m) u none =
+    ap (λ (i : ℕ). upToLast (slotsIn i l)) (let e : k + suc m ≡ suc (k + m) = omega arith in e)
+    ∙ up-to-turn l (k + m) (not-used l (k + m) (none (k + m) (omega arith) (omega arith)))
+    ∙ up-to-is l k m u (λ j le lt. none j le (omega arith))
+
+pub extent-is : (l : List ℕ) (k : ℕ) → IsBehindLast l k → extent l ≡ k
+unfolding extent slots
+extent-is l k h =
+    let n = length l / 16 in
+    let e : n ≡ k + (n - k) = omega (arith, h .0) in
+    ap (λ (i : ℕ). upToLast (slotsIn i l)) e ∙ up-to-is l k (n - k) (h .1) (λ j le lt. h .2 j le (omega arith))
+
+pub extent-le : (l : List ℕ) → extent l ≤ length l / 16
+extent-le l = extent-holds l .0
+
+-- ---- "no unused record": each one is used
+
+pub every-in : (n : ℕ) (l : List ℕ) → allUsed (slotsIn n l) ≡ true → (k : ℕ) → k < n → Used l k
+unfolding slotsIn allUsed
+every-in zero l u k h = absurd (let z : ⊥ = omega arith in z)
+every-in (suc n) l u zero h = ap isUsed (slot-first l) ∙ by-test (isUsed (take 16 l)) (λ t. t) (λ t. absurd (false≢true (rw t at u)))
+every-in (suc n) l u (suc k) h =
+    by-test (isUsed (take 16 l)) (λ t. ap isUsed (sym (slot-next l k)) ∙ every-in n (drop 16 l) (rw t at u) k (omega arith))
+    (λ t. absurd (false≢true (rw t at u)))
+
+in-every : (n : ℕ) (l : List ℕ) → ((k : ℕ) → k < n → Used l k) → allUsed (slotsIn n l) ≡ true
+unfolding slotsIn allUsed
+in-every zero l h = refl
+in-every (suc n) l h =
+    ap₂ _&&_ (ap isUsed (sym (slot-first l)) ∙ h 0 (omega arith)) (in-every n (drop 16 l) (λ k lt. ap isUsed (slot-next l k) ∙ h (suc k) (omega arith)))
+
 pub every-used : (l : List ℕ) → allUsed (slots l) ≡ true → EveryUsed l
-every-used l u k h = count-holds l .1 k (let e = all-count l u in omega arith)
+unfolding slots
+every-used l u = every-in (length l / 16) l u
 
 pub used-every : (l : List ℕ) → EveryUsed l → allUsed (slots l) ≡ true
-used-every l h = count-all l (count-is l (length l / 16) (omega arith, h, (λ lt. absurd (let b : ⊥ = omega arith in b))))
+unfolding slots
+used-every l h = in-every (length l / 16) l h
 
--- ---- a record written over record k
+-- ---- the next used record: the turns of a loop that looks for it
 
-module _ (l : List ℕ) (k : ℕ) (s : List ℕ) (n : length s ≡ 16) (inside : 16 * k + 16 ≤ length l) where
-  abbrev after : List ℕ
-  after = overwrite l (16 * k) s
+pub next-stop : (l : List ℕ) (k : ℕ) → k < length l / 16 → Used l k → nextUsed l k ≡ k
+unfolding nextUsed skipped
+next-stop l k h u = rw (slots-from l k h, skipped, u) (let e : k + 0 ≡ k = omega arith in e)
 
-  abbrev before : List ℕ
-  before = take (16 * k) l
+pub next-turn : (l : List ℕ) (k : ℕ) → k < length l / 16 → isUsed (slotAt l k) ≡ false → nextUsed l k ≡ nextUsed l (k + 1)
+unfolding nextUsed skipped
+next-turn l k h u =
+    rw (slots-from l k h, skipped, u)
+    (let e : k + (1 + skipped (drop (k + 1) (slots l))) ≡ k + 1 + skipped (drop (k + 1) (slots l)) = omega arith in e)
 
-  length-before : length before ≡ 16 * k
-  length-before = length-take-le (16 * k) l (omega arith)
-
-  apart : after ≡ before ++ (s ++ drop (16 * k + length s) l)
-  unfolding overwrite
-  apart = append-assoc before s (drop (16 * k + length s) l)
-
-  pub length-written : length after ≡ length l
-  length-written = length-overwrite l (16 * k) s (omega arith)
-
-  -- it stands there, those before it stay, and so does all behind it
-  pub slot-written : slotAt after k ≡ s
-  unfolding slotAt
-  slot-written =
-      ap (take 16) (ap (drop (16 * k)) apart ∙ drop-at before (s ++ drop (16 * k + length s) l) (16 * k) length-before)
-      ∙ take-at s (drop (16 * k + length s) l) 16 n
-
-  slot-of-before : (j : ℕ) (t : List ℕ) → j < k → slotAt (before ++ t) j ≡ slotAt before j
-  unfolding slotAt
-  slot-of-before j t h =
-      ap (take 16) (drop-append-le (16 * j) before t (let e = length-before in omega arith))
-      ∙ take-append-le 16 (drop (16 * j) before) t (let e = length-before in let d = length-drop (16 * j) before in omega arith)
-
-  pub slot-before : (j : ℕ) → j < k → slotAt after j ≡ slotAt l j
-  slot-before j h =
-      ap (λ (m : List ℕ). slotAt m j) apart
-      ∙ slot-of-before j (s ++ drop (16 * k + length s) l) h
-      ∙ sym (slot-of-before j (drop (16 * k) l) h)
-      ∙ ap (λ (m : List ℕ). slotAt m j) (take-append-drop (16 * k) l)
-
-  pub all-behind : drop (16 * (k + 1)) after ≡ drop (16 * (k + 1)) l
-  all-behind =
-      let e : 16 * (k + 1) ≡ 16 * k + length s = omega arith in
-      let g : 16 * k + length s ≡ length before + length s = (let b = length-before in omega arith) in
-      ap (λ (i : ℕ). drop i after) (e ∙ g)
-      ∙ ap (drop (length before + length s)) apart
-      ∙ drop-append-add before (s ++ drop (16 * k + length s) l) (length s)
-      ∙ drop-at s (drop (16 * k + length s) l) (length s) refl
-      ∙ ap (λ (i : ℕ). drop i l) (sym e)
-
-  -- a used record is written over the first unused one: the search goes on behind it, in the log before or after the write
-  pub unused-after : unusedFrom after (k + 1) ≡ unusedFrom l (k + 1)
-  unfolding unusedFrom
-  unused-after =
-      ap₂ (λ (m : ℕ) (t : List ℕ). k + 1 + length (front (slotsIn (m / 16 - (k + 1)) t))) length-written all-behind
-
-  pub count-after : isUsed s ≡ true → k ≡ frontCount l → frontCount after ≡ unusedFrom after (k + 1)
-  count-after u e =
-      count-from after (k + 1) (let g = length-written in omega arith)
-      (λ j h. ⊎-elim (λ q. ap (λ (i : ℕ). isUsed (slotAt after i)) q ∙ ap isUsed slot-written ∙ u)
-      (λ lt. ap isUsed (slot-before j lt) ∙ count-holds l .1 j (omega arith)) (eq-or-lt-of-le (let b : j ≤ k = omega arith in b)))
+pub next-end : (l : List ℕ) (k : ℕ) → length l / 16 ≤ k → nextUsed l k ≡ k
+unfolding nextUsed skipped
+next-end l k h = rw (slots-end l k h, skipped) (let e : k + 0 ≡ k = omega arith in e)

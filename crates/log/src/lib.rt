@@ -1,15 +1,16 @@
-// The reading log (document 02, item 4): records of 16 octets in a lent buffer. Meaning: specs/.
+// The reading log (document 02, items 4 and 11): records of 16 octets in a lent buffer. Meaning: specs/.
 ghost use mathlib.Core.Path.{_≡_};
-ghost use Prim.Native.Nat.{_+_, _*_, _≤_, _<_, _^_};
+ghost use Prim.Native.Nat.{_+_, _*_, _%_, _≤_, _<_, _^_};
 ghost use mathlib.Core.List.{_++_};
 ghost use lib.ListN.{length};
 ghost use Rattle.line.specs.Line.{overwrite};
 ghost use Rattle.line.specs.Octets.{lowFirst};
 ghost use Rattle.splice.specs.Written.{Put};
 ghost use Rattle.log.specs.Numbers.{logRefusalNumber};
-ghost use Rattle.log.specs.Log.{lowOctets, octetsOfRecord, recordOf, logging, appending, recordRead, firstUnused, usedInFront};
-ghost use Rattle.log.specs.Readers.{nextStep, readerOf, handing, handOut};
-ghost use Rattle.log.specs.Searched.{unusedFrom};
+ghost use Rattle.log.specs.Log.{lowOctets, octetsOfRecord, recordOf, usedCount, extent, compacted, roomy, logging, appending, recordRead, usedRecords};
+ghost use Rattle.log.specs.Room.{deleting, numbered, deletingAll, compacting};
+ghost use Rattle.log.specs.Readers.{nextUsed, nextStep, readerOf, handing, handOut};
+ghost use Rattle.log.specs.Steps.{movedLog, movedCount};
 
 // The five fields of a record, at their widths.
 pub struct Record {
@@ -140,47 +141,104 @@ pub fn record_of(s: &[u8]) -> Record
 
 // ---- the log
 
-// The first unused record from record `from` on; where there is none, the number of records, or `from` behind it. A caller who writes record after
-// record searches on from where it wrote.
-pub fn unused_from(log: &[u8], from: usize) -> usize
-    ensures { λ r. ⌜ r ≡ unusedFrom (now (log .entry)) from ⌝ }
+// How many records there are up to the last used one, that one included: the number of the slot behind it. The search begins at the end.
+pub fn extent_of(log: &[u8]) -> usize
+    ensures { λ r. ⌜ r ≡ extent (now (log .entry)) ⌝ }
 {
-    let n = log.len() / 16;
-    let mut k = from;
-    while k < n {
-        if log[16 * k + 4] == 0 {
+    let mut k = log.len() / 16;
+    while 0 < k {
+        let last = k - 1;
+        if log[16 * last + 4] != 0 {
             return k;
         }
+        k = last;
+    }
+    0
+}
+
+// How many records are used.
+pub fn used_records(log: &[u8]) -> LogNumber
+    ensures { λ r. ⌜ r ≡ usedRecords (now (log .entry)) ⌝ }
+{
+    if log.len() % 16 != 0 {
+        return LogNumber::Refused(LogRefusal::BadLog);
+    }
+    let records = log.len() / 16;
+    let mut i: usize = 0;
+    let mut used: usize = 0;
+    while i < records {
+        if log[16 * i + 4] != 0 {
+            used += 1;
+        }
+        i += 1;
+    }
+    LogNumber::Number(used)
+}
+
+// ---- compaction
+
+// Moves record k to place j if it is used; the place behind what is kept. A record that stands there already is not written.
+fn keep_record(log: &mut [u8], k: usize, j: usize) -> usize
+    requires { ⌜ (j ≤ k) × (16 * k + 16 ≤ length (now log)) ⌝ }
+    ensures { λ r. ⌜ (now (log .exit) ≡ movedLog (now (log .entry)) k j) × (r ≡ movedCount (now (log .entry)) k j) ⌝ }
+{
+    let from = 16 * k;
+    if log[from + 4] == 0 {
+        return j;
+    }
+    if j == k {
+        return j + 1;
+    }
+    let end = from + 16;
+    let r = record_of(&log[from..end]);
+    write_record(log, j, r);
+    j + 1
+}
+
+// Moves the used records to the front and fills the rest with zero octets, in one pass; how many are used.
+fn compact_front(log: &mut [u8]) -> usize
+    requires { ⌜ length (now log) % 16 ≡ 0 ⌝ }
+    ensures { λ r. ⌜ (now (log .exit) ≡ compacted (now (log .entry))) × (r ≡ usedCount (now (log .entry))) ⌝ }
+{
+    let records = log.len() / 16;
+    let mut k: usize = 0;
+    let mut j: usize = 0;
+    while k < records {
+        j = keep_record(log, k, j);
         k += 1;
+    }
+    let at = 16 * j;
+    let rest = log.len() - at;
+    splice::fill(log, at, rest, 0);
+    j
+}
+
+// Sees to room behind the last used record, where there are k records up to that one; how many there are then. For this repository's crates only, since
+// it asks for k: a caller who appends record after record searches once.
+pub fn room(log: &mut [u8], k: usize) -> usize
+    requires { ⌜ (length (now log) % 16 ≡ 0) × (k ≡ extent (now log)) ⌝ }
+    ensures { λ r. ⌜ (now (log .exit) ≡ roomy (now (log .entry))) × (r ≡ extent (roomy (now (log .entry)))) ⌝ }
+{
+    if k == log.len() / 16 {
+        return compact_front(log);
     }
     k
 }
 
-// How many used records stand in front of the first unused one; all of them where none is unused.
-pub fn used_in_front(log: &[u8]) -> LogNumber
-    ensures { λ r. ⌜ r ≡ usedInFront (now (log .entry)) ⌝ }
+// Moves the records that remain to the front, and fills the rest with zero octets.
+pub fn compact(log: &mut [u8]) -> Logged
+    ensures { λ a. ⌜ logging a (now (log .exit)) ≡ compacting (now (log .entry)) ⌝ }
 {
     if log.len() % 16 != 0 {
-        return LogNumber::Refused(LogRefusal::BadLog);
+        return Logged::Refused(LogRefusal::BadLog);
     }
-    LogNumber::Number(unused_from(log, 0))
+    compact_front(log);
+    Logged::Fine
 }
 
-// The number of the first unused record.
-pub fn first_unused(log: &[u8]) -> LogNumber
-    ensures { λ r. ⌜ r ≡ firstUnused (now (log .entry)) ⌝ }
-{
-    if log.len() % 16 != 0 {
-        return LogNumber::Refused(LogRefusal::BadLog);
-    }
-    let k = unused_from(log, 0);
-    if k == log.len() / 16 {
-        return LogNumber::Refused(LogRefusal::LogFull);
-    }
-    LogNumber::Number(k)
-}
+// ---- appending and deleting
 
-// Appends a record in the first unused one; a record of outcome 0 is not appended.
+// Appends a record behind the last used one; a record of outcome 0 is not appended.
 pub fn append(log: &mut [u8], r: Record) -> Logged
     ensures { λ a. ⌜ logging a (now (log .exit)) ≡ appending (now (log .entry)) r ⌝ }
 {
@@ -190,14 +248,59 @@ pub fn append(log: &mut [u8], r: Record) -> Logged
     if r.outcome == 0 {
         return Logged::Fine;
     }
+    let last = extent_of(log);
+    let k = room(log, last);
     let count = log.len() / 16;
-    let k = unused_from(log, 0);
     if k == count {
         return Logged::Refused(LogRefusal::LogFull);
     }
     write_record(log, k, r);
     Logged::Fine
 }
+
+// Deletes a record: its outcome octet becomes 0.
+pub fn delete(log: &mut [u8], k: usize) -> Logged
+    ensures { λ a. ⌜ logging a (now (log .exit)) ≡ deleting (now (log .entry)) k ⌝ }
+{
+    if log.len() % 16 != 0 {
+        return Logged::Refused(LogRefusal::BadLog);
+    }
+    if log.len() / 16 <= k {
+        return Logged::Refused(LogRefusal::NotUsed);
+    }
+    let at = 16 * k + 4;
+    if log[at] == 0 {
+        return Logged::Refused(LogRefusal::NotUsed);
+    }
+    log[at] = 0;
+    Logged::Fine
+}
+
+// Deletes every record of an outcome; how many these were. Outcome 0 is that of no used record.
+pub fn delete_outcome(log: &mut [u8], outcome: u8) -> LogNumber
+    ensures { λ a. ⌜ numbered a (now (log .exit)) ≡ deletingAll (now (log .entry)) outcome ⌝ }
+{
+    if log.len() % 16 != 0 {
+        return LogNumber::Refused(LogRefusal::BadLog);
+    }
+    if outcome == 0 {
+        return LogNumber::Number(0);
+    }
+    let records = log.len() / 16;
+    let mut i: usize = 0;
+    let mut deleted: usize = 0;
+    while i < records {
+        let at = 16 * i + 4;
+        if log[at] == outcome {
+            log[at] = 0;
+            deleted += 1;
+        }
+        i += 1;
+    }
+    LogNumber::Number(deleted)
+}
+
+// ---- reading
 
 // The record of a stated number.
 pub fn read_record(log: &[u8], k: usize) -> LogRead
@@ -220,11 +323,28 @@ pub fn read_record(log: &[u8], k: usize) -> LogRead
 
 // ---- a reader
 
-// The work of a reader: what it hands out at a record number, and the number after that. Every caller with a slice and a number uses this one.
+// The first used record from a number on; where there is none, the number of records, or the number itself beyond them.
+fn next_used(log: &[u8], at: usize) -> usize
+    ensures { λ r. ⌜ r ≡ nextUsed (now (log .entry)) at ⌝ }
+{
+    let records = log.len() / 16;
+    let mut k = at;
+    while k < records {
+        if log[16 * k + 4] != 0 {
+            return k;
+        }
+        k += 1;
+    }
+    k
+}
+
+// The work of a reader: what it hands out from a record number on, deleted records skipped, and the number after that. Every caller with a slice and a
+// number uses this one.
 pub fn next_at(log: &[u8], at: usize) -> Step
     ensures { λ r. ⌜ r ≡ nextStep (now (log .entry)) at ⌝ }
 {
-    let read = read_record(log, at);
+    let k = next_used(log, at);
+    let read = read_record(log, k);
     match read {
         LogRead::Refused(x) => Step {
             read: LogRead::Refused(x),
@@ -232,7 +352,7 @@ pub fn next_at(log: &[u8], at: usize) -> Step
         },
         LogRead::Holds(r) => Step {
             read: LogRead::Holds(r),
-            at: at + 1,
+            at: k + 1,
         },
     }
 }

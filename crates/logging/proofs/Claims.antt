@@ -1,10 +1,11 @@
 -- The claim on a walk that keeps its readings, as a theorem: `walk-keeps`. Assumes nothing.
-use Prim.Native.Nat.{ℕ, zero, suc, _+_, _-_, _≤_}
+use Prim.Native.Nat.{ℕ, zero, suc, _+_, _-_, _*_, _≤_}
 use native.Mathlib.Omega.{arith}
 use mathlib.Core.Path.{_≡_, refl, sym, ap, ap₂, _∙_, subst}
 use mathlib.Core.Bool.{Bool, true, false, false≢true}
 use mathlib.Core.List.{List, [], _∷_, _++_, map, append-assoc, append-nil}
 use lib.ListN.{length, length-append}
+use Rattle.line.specs.Line.{overwrite}
 use Rattle.line.specs.Table.{first}
 use Rattle.station.specs.declared.Settings.{Settings}
 use Rattle.station.specs.declared.State.{State}
@@ -14,10 +15,11 @@ use Rattle.station.specs.declared.Refusal.{Refusal}
 use Rattle.station.specs.declared.Checked.{Checked}
 use Rattle.table.specs.declared.Entry.{Entry}
 use Rattle.log.specs.declared.Record.{Record}
-use Rattle.log.specs.Log.{readBack}
-use Rattle.log.specs.Claims.{Fits, AllFit, IsMultiple, zeroLog, filled}
+use Rattle.log.specs.Log.{octetsOfRecord, extent}
+use Rattle.log.specs.Claims.{readBack, Fits, AllFit, IsMultiple, zeroLog, filled}
 use Rattle.log.proofs.Records.{counts-so, counts-not}
-use Rattle.log.proofs.Filled.{AllCount, filled-multiple, length-filled, count-filled, read-filled, write-filled}
+use Rattle.log.proofs.Filled.{AllCount, filled-multiple, length-filled, extent-filled, write-filled, behind-room}
+use Rattle.log.proofs.Holes.{read-filled}
 use Rattle.log.proofs.Claims.{zero-filled, counted-nil, counted-yes, counted-no, fit-append, count-append, ones-count}
 use Rattle.receive.specs.declared.Answer.{Answer}
 use Rattle.receive.specs.declared.Answer.the-variants.{Counted}
@@ -40,7 +42,7 @@ use Rattle.logging.proofs.Turns.{counted-some, turn-refused, turn-none,
 
 -- ---- the records of readings, one by one
 
-records-counted : (r : Reading) (rs : List Reading) (o : Outcome) (w : ℕ) (q : Part) (v : ℕ) → r .answer ≡ Counted o w q v
+pub records-counted : (r : Reading) (rs : List Reading) (o : Outcome) (w : ℕ) (q : Part) (v : ℕ) → r .answer ≡ Counted o w q v
     → recordsOf (r ∷ rs) ≡ recordOfReading r ∷ recordsOf rs
 unfolding recordsOf
 records-counted r rs o w q v e = counted-yes (recordOfReading r) (map recordOfReading rs) (counts-so (recordOfReading r) (counted-some r o w q v e))
@@ -51,11 +53,11 @@ none-outcome Answer.Nothing h = refl
 none-outcome Answer.Open h = refl
 none-outcome (Counted o w q v) h = absurd (false≢true (sym h))
 
-records-last : (r : Reading) → isCounted (r .answer) ≡ false → recordsOf (r ∷ []) ≡ []
+pub records-last : (r : Reading) → isCounted (r .answer) ≡ false → recordsOf (r ∷ []) ≡ []
 unfolding recordsOf recordOfReading
 records-last r h = counted-no (recordOfReading r) [] (counts-not (recordOfReading r) (none-outcome (r .answer) h)) ∙ counted-nil
 
-records-none : recordsOf [] ≡ []
+pub records-none : recordsOf [] ≡ []
 unfolding recordsOf
 records-none = counted-nil
 
@@ -72,7 +74,7 @@ module _ (most : ℕ) (s : Settings) (job : ℕ) (es : List Entry) (st : State) 
   abbrev then : Bool → List Reading
   then b = here ∷ elim b [ true ↦ readingsFrom most s job es (here .state) os ms (here .next) | false ↦ [] ]
 
-  readings-stop : isCounted (here .answer) ≡ false → readingsFrom (suc most) s job es st os ms p ≡ here ∷ []
+  pub readings-stop : isCounted (here .answer) ≡ false → readingsFrom (suc most) s job es st os ms p ≡ here ∷ []
   unfolding readingsFrom
   readings-stop h = ap then h
 
@@ -82,7 +84,7 @@ module _ (most : ℕ) (s : Settings) (job : ℕ) (es : List Entry) (st : State) 
   readings-on h = ap then h
 
 -- a reading that counts a Start is not refused, so its record has its widths, with a table of 16 entries
-counted-fits : (s : Settings) (job : ℕ) (es : List Entry) → length es ≤ 16 → (st : State) (os ms : List ℕ) (p : ℕ)
+pub counted-fits : (s : Settings) (job : ℕ) (es : List Entry) → length es ≤ 16 → (st : State) (os ms : List ℕ) (p : ℕ)
     → isCounted (reading s job es st os ms p .answer) ≡ true
     → Fits (recordOfReading (reading s job es st os ms p))
 counted-fits s job es few st os ms p h = by-checked (first (readRefusals s job es os ms p)) refl
@@ -180,10 +182,13 @@ module _ (room : ℕ) where
         let small : length us ≤ room = omega arith in
         let size = length-filled room us small in
         let len = length-append us (x ∷ []) in
-        turn-kept s job es st os ms p n (filled room us) (suc most) (omega arith) r refl o w q v e (filled-multiple room us small) (length us)
-        (sym (count-filled room us small f c)) (omega arith)
+        let last = extent-filled room us small f c in
+        let multiple = filled-multiple room us small in
+        let stays = behind-room (filled room us) multiple (omega arith) in
+        turn-kept s job es st os ms p n (filled room us) (suc most) (omega arith) r refl o w q v e multiple (length us)
+        (sym (ap extent stays ∙ last)) (omega arith)
         ∙ ap₂ (λ (m : ℕ) (l : List ℕ). keepFrom m s job es (r .state) os ms (r .next) (n + 1) l) (let z : suc most - 1 ≡ most = omega arith in z)
-        (write-filled room us x (omega arith))
+        (ap (λ (l : List ℕ). overwrite l (16 * length us) (octetsOfRecord x)) stays ∙ write-filled room us x (omega arith))
         ∙ ih (n + 1) (us ++ (x ∷ [])) (fit-append us (x ∷ []) f (counted-fits s job es few st os ms p yes, tt))
         (count-append us (x ∷ []) c (counts-so x (counted-some r o w q v e), tt)) (omega arith)
         ∙ sym (ap (shown n st p us) on ∙ shown-on n st p us r rest o w q v e)
@@ -199,7 +204,7 @@ module _ (room : ℕ) where
 -- ---- the claim
 
 -- a log whose length is a multiple of 16: a refusal is that of the first reading
-from-first : (s : Settings) (job : ℕ) (es : List Entry) (st : State) (os ms : List ℕ) (p : ℕ) (l : List ℕ) → IsMultiple l
+pub from-first : (s : Settings) (job : ℕ) (es : List Entry) (st : State) (os ms : List ℕ) (p : ℕ) (l : List ℕ) → IsMultiple l
     → walkLogged s job es st os ms p l ≡ keepFrom (length os + 1) s job es st os ms p 0 l
 from-first s job es st os ms p l good = by-checked (first (readRefusals s job es os ms p)) refl
   where

@@ -36,13 +36,13 @@ use Rattle.logging.proofs.Turns.{turn-refused, turn-none, turn-open, by
 
 -- ---- the other ends are not `Full`
 
-isFull : LogEnd → ℕ
+unfoldable pub isFull : LogEnd → ℕ
 isFull (LogEnd.Refused x) = 0
 isFull Nothing = 0
 isFull Open = 0
 isFull Full = 1
 
-other-end : (e : LogEnd) (k : Keeping) → isFull e ≡ 0 → k .given .end ≡ e → k .given .end ≡ Full → ⊥
+pub other-end : (e : LogEnd) (k : Keeping) → isFull e ≡ 0 → k .given .end ≡ e → k .given .end ≡ Full → ⊥
 unfolding isFull
 other-end e k h g f = let z : _≡_ {A = ℕ} 0 1 = sym h ∙ ap isFull (sym g ∙ f) in omega arith
 

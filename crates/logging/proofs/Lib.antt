@@ -1,3 +1,4 @@
+pub mod Added
 pub mod Claims
 pub mod Full
 pub mod Loops

@@ -41,15 +41,16 @@ use Rattle.receive.proofs.Cases.{read-none, read-open, read-ended}
 use Rattle.receive.proofs.Parts.{no-part, part-laid, part-told}
 use Rattle.receive.proofs.Refusals.{passed}
 use Rattle.log.specs.declared.Record.{Record}
-use Rattle.log.specs.Log.{octetsOfRecord, frontCount}
-use Rattle.log.specs.Searched.{unusedFrom}
+use Rattle.log.specs.Log.{octetsOfRecord, extent, roomy}
 use Rattle.log.specs.Claims.{Fits, IsMultiple}
+use Rattle.log.proofs.Records.{length-record, used-counts, counts-so}
+use Rattle.log.proofs.Written.{extent-written}
 use Rattle.logging.specs.declared.LogEnd.the-variants.{Nothing, Open, Full}
 use Rattle.logging.specs.Records.{recordAt, recordOfReading}
 use Rattle.logging.specs.Steps.{recordOfFrame}
 use Rattle.logging.specs.Walks.{stopped, keepFrom}
 use Rattle.logging.proofs.Readings.{run-length, reading-fits}
-use Rattle.logging.proofs.Turns.{number-some, next-unused, turn-none, turn-open, turn-full, turn-kept}
+use Rattle.logging.proofs.Turns.{number-some, turn-none, turn-open, turn-full, turn-kept}
 
 -- ---- which outcomes say something of their frame
 
@@ -152,24 +153,25 @@ module _ (s : Settings) (job : ℕ) (es : List Entry) (os ms : List ℕ) (p : �
       same = refl
 
       module _ (n : ℕ) (l : List ℕ) (left : ℕ) (more : 0 < left) (good : IsMultiple l) where
-        pub loop-full : frontCount l ≡ length l / 16 → keepFrom left s job es st os ms p n l ≡ stopped Full st p n l
+        pub loop-full : extent (roomy l) ≡ length l / 16 → keepFrom left s job es st os ms p n l ≡ stopped Full st p n l
         unfolding readRun
         loop-full h = turn-full s job es st os ms p n l left more read is becomes _ _ _ refl good h
 
-        pub loop-kept : (k : ℕ) → k ≡ frontCount l → k < length l / 16
+        pub loop-kept : (k : ℕ) → k ≡ extent (roomy l) → k < length l / 16
             → keepFrom left s job es st os ms p n l
-            ≡ keepFrom (left - 1) s job es (stateAfter becomes (frameOf run) st) os ms e (n + 1) (overwrite l (16 * k) (octetsOfRecord kept))
+            ≡ keepFrom (left - 1) s job es (stateAfter becomes (frameOf run) st) os ms e (n + 1) (overwrite (roomy l) (16 * k) (octetsOfRecord kept))
         unfolding readRun
         loop-kept k h lt =
             turn-kept s job es st os ms p n l left more read is becomes _ _ _ refl good k h lt
             ∙ ap₂ (λ (next : ℕ) (x : Record).
-            keepFrom (left - 1) s job es (stateAfter becomes (frameOf run) st) os ms next (n + 1) (overwrite l (16 * k) (octetsOfRecord x)))
+            keepFrom (left - 1) s job es (stateAfter becomes (frameOf run) st) os ms next (n + 1) (overwrite (roomy l) (16 * k) (octetsOfRecord x)))
             next-is same
 
-    -- behind its record the search for the next unused one goes on
-    pub loop-next : length es ≤ 16 → (l : List ℕ) (k : ℕ) → 16 * k + 16 ≤ length l → k ≡ frontCount l
-        → let m : List ℕ = overwrite l (16 * k) (octetsOfRecord kept) in unusedFrom m (k + 1) ≡ frontCount m
+    -- behind the last used record its record is the last used one
+    pub loop-next : length es ≤ 16 → (l : List ℕ) (k : ℕ) → 16 * k + 16 ≤ length l → k ≡ extent l
+        → extent (overwrite l (16 * k) (octetsOfRecord kept)) ≡ k + 1
     loop-next few l k h g =
         let st : State = record { counters = []; timers = []; deficit = 0 } in
         let fits : Fits kept = subst Fits (sym (ap recordOfReading (is st)) ∙ same st) (reading-fits s job es st os ms p fine few) in
-        next-unused l k kept fits (frame-some s own i (frameOf run) becomes) h g
+        extent-written l k (octetsOfRecord kept) (length-record kept) h
+        (used-counts kept fits ∙ counts-so kept (frame-some s own i (frameOf run) becomes)) g

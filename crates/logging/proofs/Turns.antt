@@ -1,5 +1,5 @@
--- One turn of a walk that keeps its readings, by what the reading answers and whether a record is unused. Assumes nothing.
-use Prim.Native.Nat.{ℕ, suc, _+_, _-_, _*_, _/_, _≤_, _<_}
+-- One turn of a walk that keeps its readings, by what the reading answers and whether the log has room. Assumes nothing.
+use Prim.Native.Nat.{ℕ, suc, _+_, _-_, _*_, _/_, _<_}
 use native.Mathlib.Omega.{arith}
 use mathlib.Core.Path.{_≡_, refl, sym, ap, _∙_, subst}
 use mathlib.Core.List.{List}
@@ -15,15 +15,13 @@ use Rattle.station.specs.declared.Outcome.the-variants.{PauseTaken, PfcTaken, C
 use Rattle.station.specs.declared.Refusal.{Refusal}
 use Rattle.station.specs.Numbers.{outcomeNumber}
 use Rattle.table.specs.declared.Entry.{Entry}
-use Rattle.log.specs.declared.Record.{Record}
 use Rattle.log.specs.declared.LogRefusal.{LogRefusal}
 use Rattle.log.specs.declared.Logged.{Logged}
-use Rattle.log.specs.Log.{octetsOfRecord, frontCount, Logging, appending}
-use Rattle.log.specs.Searched.{unusedFrom}
-use Rattle.log.specs.Claims.{Fits, IsMultiple}
-use Rattle.log.proofs.Records.{length-record, used-counts, counts-so}
-use Rattle.log.proofs.Searches.{count-all, count-after}
-use Rattle.log.proofs.Calls.{good-log, append-full, append-at}
+use Rattle.log.specs.Log.{octetsOfRecord, extent, roomy, Logging, appending}
+use Rattle.log.specs.Claims.{IsMultiple}
+use Rattle.log.proofs.Records.{counts-so}
+use Rattle.log.proofs.Calls.{good-log, append-full}
+use Rattle.log.proofs.Filled.{room-full, append-roomy}
 use Rattle.receive.specs.declared.Answer.{Answer}
 use Rattle.receive.specs.declared.Answer.the-variants.{Counted}
 use Rattle.receive.specs.declared.Reading.{Reading}
@@ -57,11 +55,6 @@ number-some HandedOut h = omega arith
 pub counted-some : (r : Reading) (o : Outcome) (w : ℕ) (q : Part) (v : ℕ) → r .answer ≡ Counted o w q v → recordOfReading r .outcome ≡ 0 → ⊥
 unfolding recordOfReading
 counted-some r o w q v e h = number-some o (sym (ap answerOutcome e) ∙ h)
-
--- it is written over the first unused record: the search for the next one goes on behind it
-pub next-unused : (l : List ℕ) (k : ℕ) (r : Record) → Fits r → (r .outcome ≡ 0 → ⊥) → 16 * k + 16 ≤ length l → k ≡ frontCount l
-    → let m : List ℕ = overwrite l (16 * k) (octetsOfRecord r) in unusedFrom m (k + 1) ≡ frontCount m
-next-unused l k r f h inside e = sym (count-after l k (octetsOfRecord r) (length-record r) inside (used-counts r f ∙ counts-so r h) e)
 
 -- ---- one turn
 
@@ -122,15 +115,17 @@ module _ (s : Settings) (job : ℕ) (es : List Entry) (st : State) (os ms : List
           by-logged Logged.Fine e = subst (λ (g : Logged). P (branch g)) (sym e) on
           by-logged (Logged.Refused x) e = subst (λ (g : Logged). P (branch g)) (sym e) (full x e)
 
-      pub turn-full : IsMultiple l → frontCount l ≡ length l / 16 → keepFrom left s job es st os ms p n l ≡ stopped Full st p n l
+      -- there is no room behind the last used record, or a record is written there
+      pub turn-full : IsMultiple l → extent (roomy l) ≡ length l / 16 → keepFrom left s job es st os ms p n l ≡ stopped Full st p n l
       turn-full good h =
           counted
-          ∙ ap (given r) (append-full l (recordOfReading r) (good-log l good) (counts-so (recordOfReading r) (counted-some r o w q v e)) (count-all l h))
+          ∙ ap (given r)
+          (append-full l (recordOfReading r) (good-log l good) (counts-so (recordOfReading r) (counted-some r o w q v e)) (room-full l good h .1))
 
-      pub turn-kept : IsMultiple l → (k : ℕ) → k ≡ frontCount l → k < length l / 16
+      pub turn-kept : IsMultiple l → (k : ℕ) → k ≡ extent (roomy l) → k < length l / 16
           → keepFrom left s job es st os ms p n l
-          ≡ keepFrom (left - 1) s job es (r .state) os ms (r .next) (n + 1) (overwrite l (16 * k) (octetsOfRecord (recordOfReading r)))
-      turn-kept good k h lt = counted ∙ ap (given r) (append-at l (recordOfReading r) k good (counted-some r o w q v e) h lt)
+          ≡ keepFrom (left - 1) s job es (r .state) os ms (r .next) (n + 1) (overwrite (roomy l) (16 * k) (octetsOfRecord (recordOfReading r)))
+      turn-kept good k h lt = counted ∙ ap (given r) (append-roomy l good (recordOfReading r) (counted-some r o w q v e) k h lt)
 
 -- ---- the whole walk
 

@@ -1,18 +1,19 @@
--- What the claims on a walk that keeps its readings speak of. The theorems are proofs/Claims.antt, proofs/Refused.antt and proofs/Full.antt.
+-- What the claims on a walk that keeps its readings speak of. The theorems are proofs/Claims.antt, proofs/Added.antt, proofs/Refused.antt and
+-- proofs/Full.antt.
 use Prim.Native.Nat.{ℕ, _+_, _-_, _<_}
 use mathlib.Core.Path.{_≡_}
 use mathlib.Core.Bool.{true, false}
 use mathlib.Core.Logic.{_↔_}
 use mathlib.Core.List.{List, [], _∷_, _++_, map}
-use lib.ListN.{length}
+use lib.ListN.{length, take}
 use Rattle.station.specs.declared.Settings.{Settings}
 use Rattle.station.specs.declared.State.{State}
 use Rattle.station.specs.Numbers.{refusalNumber}
 use Rattle.table.specs.declared.Entry.{Entry}
 use Rattle.log.specs.declared.Record.{Record}
 use Rattle.log.specs.Numbers.{logRefusalNumber, loggedRefusal}
-use Rattle.log.specs.Log.{readBack, appending}
-use Rattle.log.specs.Claims.{zeroLog, appendAll, countedOnes, filled, IsMultiple}
+use Rattle.log.specs.Log.{remaining, appending}
+use Rattle.log.specs.Claims.{zeroLog, appendAll, countedOnes, readBack, filled, IsMultiple, EveryUsed, unusedCount}
 use Rattle.receive.specs.declared.Reading.{Reading}
 use Rattle.receive.specs.declared.Walked.{Walked}
 use Rattle.receive.specs.declared.Walked.the-variants.{Ended}
@@ -49,6 +50,16 @@ pub record KeepsWalk (s : Settings) (job : ℕ) (es : List Entry) (st : State) (
   pub end : walkLogged s job es st os ms 0 (zeroLog room) .given .end ≡ endOf (walked s job es st os ms .answer)
   pub next : walkLogged s job es st os ms 0 (zeroLog room) .given .next ≡ lastNext 0 (walk s job es st os ms)
   pub kept : walkLogged s job es st os ms 0 (zeroLog room) .given .kept ≡ length (recordsOf (walk s job es st os ms))
+
+-- ---- Any log: item 11, "Appending now goes after the last used record, and compacts first if that one is the last slot"
+
+-- a walk with these counted readings' records to keep, n kept before: what remained remains, and behind it these records, as many as there were unused
+-- ones in the log; it ends with a full log exactly when there are more, and then "every record is used"
+pub record Adds (l : List ℕ) (n : ℕ) (k : Keeping) (rs : List Record) : Type 0 where
+  pub remains : remaining (k .log) ≡ remaining l ++ take (unusedCount l) rs
+  pub kept : k .given .kept ≡ n + length (take (unusedCount l) rs)
+  pub full : (k .given .end ≡ Full) ↔ (unusedCount l < length rs)
+  pub used : k .given .end ≡ Full → EveryUsed (k .log)
 
 -- ---- Refusals: 1, 14, 2, 3 and 20 as a reading at that place, then "11 log length no multiple of 16"; it never gives 12
 

@@ -1,11 +1,12 @@
-// Readings kept in a log (document 02, item 4), of a job and by the address table (item 10). Meaning: specs/.
+// Readings kept in a log (document 02, items 4 and 11), of a job and by the address table (item 10). Meaning: specs/.
 use fields::Layout;
 use line::Found;
 use log::LogRefusal;
 use log::Logged;
 use log::Record;
 use log::append;
-use log::unused_from;
+use log::extent_of;
+use log::room;
 use log::write_record;
 use receive::Answer;
 use receive::Reading;
@@ -50,7 +51,7 @@ pub enum LogEnd {
     Nothing,
     // `open`
     Open,
-    // a further Start would be counted, and no record is unused
+    // a further Start would be counted, and every record is used
     Full,
 }
 
@@ -218,8 +219,9 @@ fn check_keep(
     KeepChecked::Fine
 }
 
-// The walk where nothing is refused, the FCS by tables if they are lent. Counters and timers stay where they are, as in `receive::walk`. Every record
-// before record k is used, so the search for an unused one goes over the log once. A full log is seen before the outcome is: that costs no FCS.
+// The walk where nothing is refused, the FCS by tables if they are lent. Counters and timers stay where they are, as in `receive::walk`. The last used
+// record is looked for once: what is appended is the last one then. So there is a compaction when the last slot is reached, and another that finds every
+// record used. A full log is seen before the outcome is: that costs no FCS.
 fn keep_on(
     t: &[u32],
     s: Settings,
@@ -240,7 +242,7 @@ fn keep_on(
     let mut timers = state.timers;
     let mut n: usize = 0;
     let mut at = place;
-    let mut k = unused_from(log, 0);
+    let mut k = extent_of(log);
     loop {
         let Found::At(start) = line::find_start(octets, marks, at) else {
             return LogWalk {
@@ -267,6 +269,7 @@ fn keep_on(
                 kept: n,
             };
         };
+        k = room(log, k);
         if k == records {
             return LogWalk {
                 end: LogEnd::Full,
@@ -292,7 +295,7 @@ fn keep_on(
             k,
             record_of_run(s, job, table, start, &octets[from..end], o),
         );
-        k = unused_from(log, k + 1);
+        k += 1;
         n += 1;
         at = end;
     }

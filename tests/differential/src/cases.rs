@@ -8,12 +8,15 @@ use crate::generate::{self, Sending, Symbols, IDLE, START, SYMBOLS, TERMINATE};
 use crate::prng::Prng;
 use crate::seen_jobs::TableCall;
 use crate::{raw, records};
-use reference::{Client, Flow, Form, Port, Settings};
+use reference::{Client, Flow, Form, LogEnd, Port, Settings};
+
+/// Too many Starts for a log that is walked into until no further one is left, a few at a time.
+const MANY: usize = 1000;
 
 /// Makes the calls of one case of a seed.
 pub fn run(bench: &mut Bench, seed: u64, case: u64) -> Result<(), Difference> {
     let mut prng = bench.begin(seed, case);
-    match prng.below(27) {
+    match prng.below(28) {
         0..=7 => reading(bench, &mut prng),
         8..=13 => sending(bench, &mut prng),
         14 => holding(bench, &mut prng),
@@ -26,6 +29,7 @@ pub fn run(bench: &mut Bench, seed: u64, case: u64) -> Result<(), Difference> {
         23 => counting(bench, &mut prng),
         24 => counted_line(bench, &mut prng),
         25 => table_calls(bench, &mut prng),
+        26 => room(bench, &mut prng),
         _ => screens(bench, &mut prng),
     }
 }
@@ -293,11 +297,73 @@ fn logging(bench: &mut Bench, prng: &mut Prng) -> Result<(), Difference> {
             }
             _ => bench.log_used(&log)?,
         }
+        if prng.one_in(4) {
+            delete(bench, prng, &mut log)?;
+        }
     }
     let from = generate::record_number(prng, records);
     bench.log_read_on(&log, from)?;
     bench.log_read_on(&log, 0)?;
     all_appended(bench, prng)
+}
+
+/// Records of a log are deleted: one, or those of an outcome. Or it is compacted.
+fn delete(bench: &mut Bench, prng: &mut Prng, log: &mut LentLog) -> Result<(), Difference> {
+    match prng.below(7) {
+        0..=2 => {
+            let records = log.octets().len() / raw::RECORD;
+            let number = generate::record_number(prng, records);
+            bench.delete(log, number)
+        }
+        3..=4 => {
+            let outcome = generate::outcome_of(prng, log.octets());
+            bench.delete_outcome(log, outcome)
+        }
+        _ => bench.compact(log),
+    }
+}
+
+/// A log is appended to, deleted from, compacted, read and walked into, call after call.
+fn room(bench: &mut Bench, prng: &mut Prng) -> Result<(), Difference> {
+    let drawn = generate::settings(prng);
+    let settings = generate::settings_record(prng, &drawn);
+    let listener = generate::sound_listener(prng, &drawn);
+    let symbols = generate::capture(prng, &drawn, &listener);
+    let lent = lend(prng, &symbols);
+    let state = generate::state(prng);
+    let mut numbers = generate::state_record(prng, &state);
+    let mut place = 0;
+    let log = match prng.below(3) {
+        0 => generate::short_log(prng),
+        _ => generate::alike_log(prng),
+    };
+    let mut log = LentLog::new(prng, &log);
+    let records = log.octets().len() / raw::RECORD;
+    for _ in 0..prng.between(10, 30) {
+        match prng.below(8) {
+            0..=2 => {
+                let record = generate::record(prng);
+                bench.append(&mut log, &record)?;
+            }
+            3..=5 => delete(bench, prng, &mut log)?,
+            6 => {
+                let number = generate::record_number(prng, records);
+                bench.log_record(&log, number)?;
+                bench.log_used(&log)?;
+                bench.log_read_on(&log, prng.below(records + 1))?;
+            }
+            _ => {
+                // where it was full before, it goes on
+                let on = &mut numbers;
+                let logged = bench.walk_log(&settings, &listener, on, &lent, place, &mut log)?;
+                place = match logged.end {
+                    LogEnd::Full => logged.next,
+                    _ => generate::place(prng, &symbols),
+                };
+            }
+        }
+    }
+    bench.log_read_on(&log, 0)
 }
 
 /// The reading of each of a few Starts is appended to a fresh log.
@@ -369,7 +435,12 @@ fn keeping(bench: &mut Bench, prng: &mut Prng) -> Result<(), Difference> {
     // some six logs take all
     let capacity = starts.div_ceil(prng.between(1, 6));
     let on = (&settings, &listener);
-    bench.going_on(prng, on, &numbers, &lent, (place, capacity))
+    bench.going_on(prng, on, &numbers, &lent, (place, capacity))?;
+    // one record may be deleted at a time
+    if starts > MANY {
+        return Ok(());
+    }
+    bench.going_on_in_one(prng, on, &numbers, &lent, (place, capacity))
 }
 
 /// Captures with totals: these are asked and filled, and a call keeps them that is often refused.

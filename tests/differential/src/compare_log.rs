@@ -3,6 +3,7 @@
 use crate::compare::{by_reference_read, first_other, heard, Bench, Difference, Lent, AROUND};
 use crate::compare_c::after;
 use crate::generate::Listener;
+use crate::plain_log::{self, is_used, place_of, slots, Slot};
 use crate::prng::Prng;
 use crate::seen::{CCall, CSeen};
 use crate::seen_log::{appended, GoingOnSeen, KeepSeen, LogCall, LogOf, LogSeen};
@@ -47,24 +48,30 @@ impl LentLog {
     }
 }
 
-/// An appending by the reference and by both faces: what it gave, and the log after it.
+/// A number that a call gives, if it gives one.
+type Number = Option<usize>;
+
+/// A call that may change a log, by the reference and by both faces: the number that it gave, or its
+/// refusal, and the log after it. C has a number in any case; where it gives none, it is left.
 struct Sides {
-    expected: (u8, LentLog),
-    in_c: (u32, LentLog),
-    in_rust: Option<(Result<(), Refusal>, LentLog)>,
+    expected: (Result<Number, u8>, LentLog),
+    in_c: ((u32, usize), LentLog),
+    in_rust: Option<(Result<Number, Refusal>, LentLog)>,
+}
+
+/// The answer of a call that gives no number.
+fn no_number<T, E>(answer: Result<T, E>) -> Result<Number, E> {
+    answer.map(|_| None)
+}
+
+/// The same in C.
+fn none_in_c(refusal: u32) -> (u32, usize) {
+    (refusal, raw::LEFT_NUMBER)
 }
 
 /// The answer's refusal, or 0.
 pub(crate) fn refusal<T>(answer: &Result<T, u8>) -> u8 {
     *answer.as_ref().err().unwrap_or(&0)
-}
-
-/// Refused by this number, or not by 0.
-fn by_refusal(refusal: u8) -> Result<(), u8> {
-    match refusal {
-        0 => Ok(()),
-        _ => Err(refusal),
-    }
 }
 
 impl Bench {
@@ -90,15 +97,15 @@ impl Bench {
     ) -> Result<(), Difference> {
         let meant = records::record(record);
         let sides = Sides {
-            expected: log.after(|log| refusal(&reference::append(log, &meant))),
-            in_c: log.after(|log| raw::log_append(log, record)),
+            expected: log.after(|log| no_number(reference::append(log, &meant))),
+            in_c: log.after(|log| none_in_c(raw::log_append(log, record))),
             in_rust: Some(log.after(|octets| {
                 let mut log = Log::new(octets)?;
-                log.append(face::record(&meant))
+                no_number(log.append(face::record(&meant)))
             })),
         };
         let given = || format!("{record:02X?}");
-        self.appended(log, LogCall::Append(meant), sides, given)
+        self.changed(log, LogCall::Append(meant), sides, given)
     }
 
     /// Appends the record of the reading at a place, with the numbers that `c_read` holds C's to.
@@ -117,21 +124,21 @@ impl Bench {
         let listener = face::listener(s, l, &table);
         let in_rust = capture.read(listener, &mut face::state(state), place);
         let sides = Sides {
-            expected: log.after(|log| refusal(&reference::append_reading(log, &reading))),
-            in_c: log.after(|log| raw::log_append_reading(log, &numbers)),
+            expected: log.after(|log| no_number(reference::append_reading(log, &reading))),
+            in_c: log.after(|log| none_in_c(raw::log_append_reading(log, &numbers))),
             // a refused reading is none to append
             in_rust: in_rust.ok().map(|reading| {
                 log.after(|octets| {
                     let mut log = Log::new(octets)?;
-                    match &reading {
+                    no_number(match &reading {
                         fenhamper::Reading::Counted(counted) => log.append_counted(counted),
                         other => log.append_reading(other),
-                    }
+                    })
                 })
             }),
         };
         let call = LogCall::AppendReading(&numbers, Record::of(&reading));
-        self.appended(log, call, sides, || format!("{reading:?}"))
+        self.changed(log, call, sides, || format!("{reading:?}"))
     }
 
     /// Appends the record of any numbers, which no reading need give.
@@ -142,17 +149,66 @@ impl Bench {
     ) -> Result<(), Difference> {
         let meant = records::reading_record(numbers);
         let sides = Sides {
-            expected: log.after(|log| refusal(&reference::append(log, &meant))),
-            in_c: log.after(|log| raw::log_append_reading(log, numbers)),
+            expected: log.after(|log| no_number(reference::append(log, &meant))),
+            in_c: log.after(|log| none_in_c(raw::log_append_reading(log, numbers))),
             in_rust: None,
         };
         let call = LogCall::AppendReading(numbers, meant);
         let given = || format!("{numbers:X?}\nmeant: {meant:?}");
-        self.appended(log, call, sides, given)
+        self.changed(log, call, sides, given)
     }
 
-    /// Compares what an appending gave, and the logs after it; the log goes on to that after it.
-    fn appended(
+    /// Deletes the record of a number.
+    pub(crate) fn delete(&mut self, log: &mut LentLog, number: usize) -> Result<(), Difference> {
+        let sides = Sides {
+            expected: log.after(|log| no_number(reference::delete_record(log, number))),
+            in_c: log.after(|log| none_in_c(raw::log_delete(log, number))),
+            in_rust: Some(log.after(|octets| {
+                let mut log = Log::new(octets)?;
+                no_number(log.delete(number))
+            })),
+        };
+        self.changed(log, LogCall::Delete(number), sides, || {
+            format!("record {number}")
+        })
+    }
+
+    /// Deletes the records of an outcome.
+    pub(crate) fn delete_outcome(
+        &mut self,
+        log: &mut LentLog,
+        outcome: u8,
+    ) -> Result<(), Difference> {
+        let sides = Sides {
+            expected: log.after(|log| reference::delete_outcome(log, outcome).map(Some)),
+            in_c: log.after(|log| raw::log_delete_outcome(log, outcome)),
+            in_rust: Some(log.after(|octets| {
+                let mut log = Log::new(octets)?;
+                Ok(Some(log.delete_outcome(outcome)))
+            })),
+        };
+        self.changed(log, LogCall::DeleteOutcome(outcome), sides, || {
+            format!("outcome {outcome}")
+        })
+    }
+
+    /// Compacts a log. The reference tells how many records remain, which no other call does.
+    pub(crate) fn compact(&mut self, log: &mut LentLog) -> Result<(), Difference> {
+        let sides = Sides {
+            expected: log.after(|log| no_number(reference::compact(log))),
+            in_c: log.after(|log| none_in_c(raw::log_compact(log))),
+            in_rust: Some(log.after(|octets| {
+                let mut log = Log::new(octets)?;
+                log.compact();
+                Ok(None)
+            })),
+        };
+        self.changed(log, LogCall::Compact, sides, String::new)
+    }
+
+    /// Compares what a call gave, and the logs after it, which are also held to a plain list; the log
+    /// goes on to that after it.
+    fn changed(
         &mut self,
         log: &mut LentLog,
         call: LogCall,
@@ -165,24 +221,37 @@ impl Bench {
         let whole = self.whole;
         let inputs = || format!("{}\nlog: {}", given(), show::log(before.octets(), whole));
         let (answer, in_c) = sides.in_c;
-        let answers = (answer, u32::from(expected));
-        self.same(("append in C", "refusal"), answers, inputs)?;
-        self.same_log("append in C", (&in_c, log), inputs)?;
+        let number = expected.ok().flatten();
+        let left = number.unwrap_or(raw::LEFT_NUMBER);
+        let refusal = refusal(&expected);
+        let in_c_by = format!("{} in C", call.name());
+        self.same(
+            (&in_c_by, "answer"),
+            (answer, (refusal.into(), left)),
+            inputs,
+        )?;
+        self.same_log(&in_c_by, (&in_c, log), inputs)?;
         if let Some((answer, in_rust)) = sides.in_rust {
-            let answers = (by_number(answer), by_refusal(expected));
-            self.same(("append", "refusal"), answers, inputs)?;
-            self.same_log("append", (&in_rust, log), inputs)?;
+            let answers = (by_number(answer), expected);
+            self.same((call.name(), "answer"), answers, inputs)?;
+            self.same_log(call.name(), (&in_rust, log), inputs)?;
             if let Err(refusal) = answer {
-                self.refused("append", refusal, inputs)?;
+                self.refused(call.name(), refusal, inputs)?;
             }
         }
+        let (by_list, number_by_list, octets) = plain_log::answered(before.octets(), &call);
+        let answers = ((refusal, number), (by_list, number_by_list));
+        self.same((call.name(), "answer, by a plain list"), answers, inputs)?;
+        let other = first_other(log.octets(), &octets, 0);
+        let thing = "log, first other by a plain list";
+        self.same((call.name(), thing), (other, None), inputs)?;
         self.coverage.log(&LogSeen {
             call,
             before: LogOf::new(before.octets()),
             after: LogOf::new(log.octets()),
-            refusal: expected,
+            refusal,
             given: None,
-            number: 0,
+            number: number.unwrap_or(0),
         });
         Ok(())
     }
@@ -261,12 +330,12 @@ impl Bench {
         }
     }
 
-    /// How many used records stand in front of the first unused one.
+    /// How many records are used.
     pub(crate) fn log_used(&mut self, log: &LentLog) -> Result<(), Difference> {
         self.calls += 1;
         let octets = log.octets();
         let inputs = || format!("log: {}", show::log(octets, self.whole));
-        let expected = reference::used_in_front(octets);
+        let expected = reference::used_records(octets);
         let left = expected.unwrap_or(raw::LEFT_NUMBER);
         let sides = (raw::log_used(octets), (refusal(&expected).into(), left));
         self.same(("used in C", "answer"), sides, inputs)?;
@@ -353,6 +422,11 @@ impl Bench {
             (log_before.octets(), log.octets()),
             expected,
         );
+        // one whose length is refused is no list
+        let by_list = (seen.appended(), seen.log.whole());
+        self.same(("walk_log", "log is a plain list's"), by_list, inputs)?;
+        let many = (seen.kept.len(), expected.appended);
+        self.same(("walk_log", "records appended"), many, inputs)?;
         self.coverage.keep(&seen);
         self.coverage.c(&CSeen {
             settings,
@@ -370,51 +444,142 @@ impl Bench {
     pub(crate) fn going_on(
         &mut self,
         prng: &mut Prng,
-        (settings, l): (&raw::Settings, &Listener),
+        on: (&raw::Settings, &Listener),
         numbers: &raw::State,
         lent: &Lent,
         (place, capacity): (usize, usize),
     ) -> Result<(), Difference> {
-        let (call, whole) = ("walk_log, going on", self.whole);
-        let inputs = |appended: &[usize]| {
-            let (s, state) = (records::settings(settings), records::state(numbers));
-            let meant = heard(&s, l, &state, lent, place, whole);
-            format!("logs of {capacity} records, to which {appended:?} were appended\n{meant}")
-        };
         let (mut state, mut at) = (*numbers, place);
-        let mut records: Vec<u8> = Vec::new();
+        let mut records: Vec<Slot> = Vec::new();
         let mut seen = GoingOnSeen {
             appended: Vec::new(),
             end: LogEnd::Full,
-            gaps: false,
+            holes: false,
+            one_log: false,
         };
         while seen.end == LogEnd::Full {
             let before = generate::log_with_room(prng, capacity);
             let mut log = LentLog::new(prng, &before);
-            let logged = self.walk_log(settings, l, &mut state, lent, at, &mut log)?;
-            // or it would not end: a full log, which had room, took a Start
-            let on = (logged.end != LogEnd::Full || logged.next > at, true);
-            self.same((call, "goes on"), on, || inputs(&seen.appended))?;
+            let logged = self.walk_log(on.0, on.1, &mut state, lent, at, &mut log)?;
+            self.took_a_start(&logged, at)?;
             let before = LogOf::new(&before);
-            let kept = appended(before, LogOf::new(log.octets()));
-            records.extend(kept.flatten());
+            records.extend(appended(before, LogOf::new(log.octets())));
             seen.appended.push(logged.appended);
-            seen.gaps |= before.has_gap();
+            seen.holes |= before.has_hole();
             (seen.end, at) = (logged.end, logged.next);
         }
+        self.keep_what_one_keeps(
+            prng,
+            on,
+            (numbers, &state),
+            lent,
+            (place, at),
+            records,
+            seen,
+        )
+    }
 
+    /// The same with one log, of which records are deleted where it is full: those that were deleted
+    /// and those that remain are what one walk keeps.
+    pub(crate) fn going_on_in_one(
+        &mut self,
+        prng: &mut Prng,
+        on: (&raw::Settings, &Listener),
+        numbers: &raw::State,
+        lent: &Lent,
+        (place, capacity): (usize, usize),
+    ) -> Result<(), Difference> {
+        let (mut state, mut at) = (*numbers, place);
+        let mut log = LentLog::new(prng, &vec![0; raw::RECORD * capacity.max(1)]);
+        let mut records: Vec<Slot> = Vec::new();
+        let mut seen = GoingOnSeen {
+            appended: Vec::new(),
+            end: LogEnd::Full,
+            holes: false,
+            one_log: true,
+        };
+        while seen.end == LogEnd::Full {
+            let logged = self.walk_log(on.0, on.1, &mut state, lent, at, &mut log)?;
+            self.took_a_start(&logged, at)?;
+            seen.appended.push(logged.appended);
+            (seen.end, at) = (logged.end, logged.next);
+            // of a full log some records are deleted, and in the end all are taken
+            let full = log.clone();
+            if seen.end == LogEnd::Full {
+                self.delete_some(prng, &mut log)?;
+            } else {
+                log = LentLog::new(prng, &[]);
+            }
+            let left = LogOf::new(log.octets());
+            let taken = slots(full.octets()).enumerate();
+            let taken = taken.filter(|(k, slot)| is_used(slot) && !left.used(*k));
+            records.extend(taken.map(|(_, slot)| slot));
+            seen.holes |= left.has_hole();
+            if prng.one_in(4) {
+                self.compact(&mut log)?;
+            }
+        }
+        // they were not deleted in the order of their Starts
+        records.sort_by_key(place_of);
+        self.keep_what_one_keeps(
+            prng,
+            on,
+            (numbers, &state),
+            lent,
+            (place, at),
+            records,
+            seen,
+        )
+    }
+
+    /// Deletes a record of a full log, or all of its outcome, so that there is room.
+    fn delete_some(&mut self, prng: &mut Prng, log: &mut LentLog) -> Result<(), Difference> {
+        let number = prng.below(log.octets().len() / raw::RECORD);
+        if prng.coin() {
+            return self.delete(log, number);
+        }
+        let outcome = log.octets()[raw::RECORD * number + raw::RECORD_OUTCOME];
+        self.delete_outcome(log, outcome)
+    }
+
+    /// A walk that found its log full, which had room, took a Start; or going on would not end.
+    fn took_a_start(&self, logged: &Logged, at: usize) -> Result<(), Difference> {
+        let on = (logged.end != LogEnd::Full || logged.next > at, true);
+        let inputs = || format!("from {at}: {logged:?}");
+        self.same(("walk_log, going on", "goes on"), on, inputs)
+    }
+
+    /// Walks that went on kept, in their order, the records that one walk keeps, and left the state
+    /// that it leaves.
+    #[allow(clippy::too_many_arguments)] // All that the walks were given and gave.
+    fn keep_what_one_keeps(
+        &mut self,
+        prng: &mut Prng,
+        (settings, l): (&raw::Settings, &Listener),
+        (before, after): (&raw::State, &raw::State),
+        lent: &Lent,
+        (place, at): (usize, usize),
+        records: Vec<Slot>,
+        seen: GoingOnSeen,
+    ) -> Result<(), Difference> {
+        let (call, whole) = ("walk_log, going on", self.whole);
+        let inputs = || {
+            let (s, state) = (records::settings(settings), records::state(before));
+            let meant = heard(&s, l, &state, lent, place, whole);
+            format!("to logs {:?} were appended\n{meant}", seen.appended)
+        };
         let many: usize = seen.appended.iter().sum();
         let mut large = LentLog::new(prng, &vec![0; raw::RECORD * (many + 1)]);
-        let mut at_once = *numbers;
+        let mut at_once = *before;
         let logged = self.walk_log(settings, l, &mut at_once, lent, place, &mut large)?;
-        let inputs = || inputs(&seen.appended);
         let answers = (
             (seen.end, at, many),
             (logged.end, logged.next, logged.appended),
         );
         self.same((call, "answers"), answers, inputs)?;
-        self.same((call, "state"), (state, at_once), inputs)?;
+        self.same((call, "state"), (*after, at_once), inputs)?;
         let expected = &large.octets()[..raw::RECORD * logged.appended];
+        let records = records.concat();
         let other = first_other(&records, expected, 0);
         self.same((call, "records, first other"), (other, None), inputs)?;
         let lengths = (records.len(), expected.len());

@@ -1,5 +1,5 @@
 //! The proved library, through its Rust face and through its C face, against the reference
-//! implementation of document 01 and of items 1 to 10 of document 02, on drawn inputs.
+//! implementation of document 01 and of items 1 to 11 of document 02, on drawn inputs.
 #![deny(unsafe_code)]
 #![warn(missing_docs)]
 
@@ -19,6 +19,7 @@ mod compare_reason;
 mod compare_row;
 mod compare_totals;
 mod face;
+mod plain_log;
 mod raw;
 mod records;
 mod seen;

@@ -236,6 +236,14 @@ extern "C" {
         record: &mut Record,
     ) -> u32;
     fn fenhamper_log_used(log: *const u8, log_length: usize, used: &mut usize) -> u32;
+    fn fenhamper_log_delete(log: *mut u8, log_length: usize, number: usize) -> u32;
+    fn fenhamper_log_delete_outcome(
+        log: *mut u8,
+        log_length: usize,
+        outcome: u8,
+        deleted: &mut usize,
+    ) -> u32;
+    fn fenhamper_log_compact(log: *mut u8, log_length: usize) -> u32;
     fn fenhamper_screen(state: &State, shown: &mut [u32; OUTCOMES]);
     fn fenhamper_table_empty(table: &mut Table);
     fn fenhamper_table_add(
@@ -469,6 +477,24 @@ pub fn log_used(log: &[u8]) -> (u32, usize) {
     // SAFETY: the pointer and the length are one slice's.
     let refusal = unsafe { fenhamper_log_used(log.as_ptr(), log.len(), &mut used) };
     (refusal, used)
+}
+
+pub fn log_delete(log: &mut [u8], number: usize) -> u32 {
+    // SAFETY: the pointer and the length are one slice's, and it is lent alone.
+    unsafe { fenhamper_log_delete(log.as_mut_ptr(), log.len(), number) }
+}
+
+pub fn log_delete_outcome(log: &mut [u8], outcome: u8) -> (u32, usize) {
+    let mut deleted = LEFT_NUMBER;
+    let (octets, length) = (log.as_mut_ptr(), log.len());
+    // SAFETY: the pointer and the length are one slice's, and it is lent alone.
+    let refusal = unsafe { fenhamper_log_delete_outcome(octets, length, outcome, &mut deleted) };
+    (refusal, deleted)
+}
+
+pub fn log_compact(log: &mut [u8]) -> u32 {
+    // SAFETY: the pointer and the length are one slice's, and it is lent alone.
+    unsafe { fenhamper_log_compact(log.as_mut_ptr(), log.len()) }
 }
 
 /// Writes an empty table over this one.

@@ -1,7 +1,7 @@
 -- `fenhamper::fenhamper_log_append_reading` meets its contract. Assumes nothing.
 use mathlib.Core.Path.{ap, _∙_}
 use Rattle.log.specs.Log.{appending}
-use Rattle.fenhamper.proofs.Crossing.{append-crosses}
+use Rattle.fenhamper.proofs.Crossing.{log-crosses}
 use borrow.Author.Needs.{needs}
 use Rattle.fenhamper.proofs.fenhamper_log_append_reading.Statement.{statement}
 use Rattle.fenhamper.proofs.fenhamper_log_append_reading.Tie as tie
@@ -23,7 +23,7 @@ same-length : tie.Need-same-length
 same-length c = search needs
 
 returns : tie.Need-returns
-returns c = append-crosses (c .logged-number .ensures) (called c .append .ensures ∙ ap (appending _) (called c .before .record-named .ensures))
+returns c = log-crosses (c .logged-number .ensures) (called c .append .ensures ∙ ap (appending _) (called c .before .record-named .ensures))
 
 pub fenhamper-log-append-reading-spec : {M : Type 1} → statement M
 fenhamper-log-append-reading-spec =

@@ -1,8 +1,7 @@
--- `logging::keep_on` meets its contract. The invariant: what is left of the walk here is the whole walk, and k is the first unused record. The measure is
--- what is left of the capture. Assumes nothing.
+-- `logging::keep_on` meets its contract. The invariant: what is left of the walk here is the whole walk, and there are k records up to the last used one.
+-- The measure is what is left of the capture. Assumes nothing.
 use Prim.Native.Nat.{ℕ, _+_, _-_, _*_, _/_, _≤_, _<_}
 use native.Mathlib.Omega.{arith}
-use native.Mathlib.Nat.{lt-of-not-le}
 use mathlib.Core.Path.{_≡_, refl, sym, ap, ap₂, _∙_}
 use mathlib.Core.List.{List}
 use mathlib.Core.Option.{Option}
@@ -27,16 +26,17 @@ use Rattle.table.proofs.Entries.{entries-sixteen}
 use Rattle.outcome.specs.Outcomes.{outcome, frameOf}
 use Rattle.outcome.proofs.Rules.{judged-outcome}
 use Rattle.log.specs.declared.Record.{Record}
-use Rattle.log.specs.Log.{frontCount, octetsOfRecord}
-use Rattle.log.specs.Searched.{unusedFrom}
+use Rattle.log.specs.Log.{octetsOfRecord, extent, roomy}
 use Rattle.log.specs.Claims.{IsMultiple}
-use Rattle.log.proofs.Searches.{unused-start, count-le, length-written}
 use Rattle.log.proofs.Records.{length-record}
+use Rattle.log.proofs.Written.{length-written}
+use Rattle.log.proofs.Filled.{length-roomy, room-full, room-left}
 use Rattle.receive.specs.Reading.{readRefusals, stateAfter}
 use Rattle.receive.proofs.Refusals.{passed, still-fine}
 use Rattle.receive.proofs.Sights.{at-state}
+use Rattle.logging.specs.declared.LogEnd.the-variants.{Full}
 use Rattle.logging.specs.Steps.{recordOfFrame}
-use Rattle.logging.specs.Walks.{keepFrom, walkLogged}
+use Rattle.logging.specs.Walks.{stopped, keepFrom, walkLogged}
 use Rattle.logging.proofs.Readings.{run-length}
 use Rattle.logging.proofs.Refusals.{keep-fine}
 use Rattle.logging.proofs.Turns.{walk-fine}
@@ -51,13 +51,14 @@ Inv-loop t s job table state octets marks place log₀ records counters₀ timer
     × (n ≤ at)
     × (at ≤ length octets)
     × (length log ≡ length log₀)
-    × (k ≡ frontCount log)
+    × (k ≡ extent log)
 
 abbrev μ-loop : tie.MeasureT-loop
 μ-loop t s job table state octets marks place log₀ records counters₀ timers₀ n₀ at₀ k₀ log counters timers n at k = length octets - at
 
 -- the places that others look back to: the call, from a turn of the loop; the turn, from where its Start is found; that, from where the end of its run is
--- found; where a record is unused, from where the outcome is known; that, from where the timers are; and that, from where the record is made
+-- found; that, from where room is made; that, from where there is room; that, from where the outcome is known; that, from where the timers are; and that,
+-- from where the record is made
 abbrev call : tie.At-loop Inv-loop μ-loop → tie.Start Inv-loop μ-loop
 call c = c .before .before .before .before .before .before .before .before .before
 
@@ -67,11 +68,20 @@ turning c = c .before .before .before .before
 abbrev starting : tie.After-known-told2 Inv-loop μ-loop → tie.After-known-told Inv-loop μ-loop
 starting c = c .before .before .before .before
 
-abbrev unused : tie.After-judge Inv-loop μ-loop → tie.Else1 Inv-loop μ-loop
-unused c = c .before .before .before
+abbrev ending : tie.After-room Inv-loop μ-loop → tie.After-known-told2 Inv-loop μ-loop
+ending c = c .before .before
+
+abbrev roomed : tie.Else1 Inv-loop μ-loop → tie.After-room Inv-loop μ-loop
+roomed c = c .before .before .before
+
+abbrev free : tie.After-judge Inv-loop μ-loop → tie.Else1 Inv-loop μ-loop
+free c = c .before .before .before
 
 abbrev settled : tie.Joined2 Inv-loop μ-loop → tie.After-judge Inv-loop μ-loop
 settled c = c .before .before .before .before
+
+abbrev judged : tie.Joined2 Inv-loop μ-loop → tie.After-known-told2 Inv-loop μ-loop
+judged c = ending (roomed (free (settled c)))
 
 abbrev made : tie.After-record-of-run Inv-loop μ-loop → tie.Joined2 Inv-loop μ-loop
 made c = c .before .before .before
@@ -125,17 +135,15 @@ end-inside c =
     let e = control-found _ _ (passed _ _ _ _ _ _ (fine (turning (starting c))) .even) _ _ (found-end c) in
     (e .0, e .1)
 
--- where the log is not full it has record k
-inside : (c : tie.Else1 Inv-loop μ-loop) → let l = turning (starting (c .before)) in l .loop .k < length (log l) / 16
+-- where the log is not full it has the record behind the last used one
+inside : (c : tie.Else1 Inv-loop μ-loop) → roomed c .room .result < length (log (turning (starting (ending (roomed c))))) / 16
 inside c =
-    let l = turning (starting (c .before)) in
-    let e = l .loop .inv .4 in
-    let g = count-le (log l) in
-    let s = l .loop .inv .3 in
-    lt-of-not-le (λ n. c .if1 .left (omega arith))
+    let r = roomed c in
+    let l = turning (starting (ending r)) in
+    room-left (log l) (good l) (r .room .result) (r .room .ensures .1) (λ e. c .if1 .left (e ∙ ap (λ (m : ℕ). m / 16) (l .loop .inv .3)))
 
-unused-from-requires : tie.Need-unused-from-requires Inv-loop μ-loop
-unused-from-requires c κs = search needs
+extent-of-requires : tie.Need-extent-of-requires Inv-loop μ-loop
+extent-of-requires c κs = search needs
 
 loop-holds : tie.Need-loop-holds Inv-loop μ-loop
 loop-holds c =
@@ -149,7 +157,7 @@ loop-holds c =
       omega arith,
       omega arith,
       refl,
-      c .unused-from .ensures ∙ unused-start _,
+      c .extent-of .ensures,
     )
 
 find-start-requires : tie.Need-find-start-requires Inv-loop μ-loop
@@ -192,32 +200,38 @@ returns-2 c =
     let unended = sym (c .before .before .find-control .ensures) ∙ c .enum-told2 .given .1 in
     sym (loop-open _ _ _ _ _ _ (fine l) _ _ _ _ (more l) _ (found-start k) unended) ∙ l .loop .inv .0
 
+room-requires : tie.Need-room-requires Inv-loop μ-loop
+room-requires c κs = let l = turning (starting (c .before)) in (good l, l .loop .inv .4)
+
 same-length-3 : tie.Need-same-length-3 Inv-loop μ-loop
 same-length-3 c = search needs
 
 returns-3 : tie.Need-returns-3 Inv-loop μ-loop
 returns-3 c =
-    let k = c .before in
+    let r = c .before .before .before in
+    let k = ending r in
     let l = turning (starting k) in
     let i = l .loop .inv in
-    sym (loop-full _ _ _ _ _ _ (fine l) _ (found-start (starting k)) _ (found-end k) _ _ _ _ (more l) (good l)
-    (sym (i .4) ∙ c .if1 .taken ∙ ap (λ (m : ℕ). m / 16) (sym (i .3))))
+    let h : extent (roomy (log l)) ≡ length (log l) / 16 = sym (r .room .ensures .1) ∙ c .if1 .taken ∙ ap (λ (m : ℕ). m / 16) (sym (i .3)) in
+    ap (stopped Full (at-state (call l .args .state .deficit) (l .loop .counters) (l .loop .timers)) (l .loop .at) (l .loop .n))
+    (r .room .ensures .0 ∙ room-full (log l) (good l) h .0)
+    ∙ sym (loop-full _ _ _ _ _ _ (fine l) _ (found-start (starting k)) _ (found-end k) _ _ _ _ (more l) (good l) h)
     ∙ i .0
 
 sub-judge : tie.Need-sub-judge Inv-loop μ-loop
-sub-judge c = let e = end-inside (c .before) in omega arith
+sub-judge c = let e = end-inside (ending (roomed c)) in omega arith
 
 part-judge-start : tie.Need-part-judge-start Inv-loop μ-loop
-part-judge-start c = let e = end-inside (c .before) in omega arith
+part-judge-start c = let e = end-inside (ending (roomed c)) in omega arith
 
 part-judge-end : tie.Need-part-judge-end Inv-loop μ-loop
-part-judge-end c = let e = end-inside (c .before) in omega arith
+part-judge-end c = let e = end-inside (ending (roomed c)) in omega arith
 
 shared-slice-read-judge : tie.Need-shared-slice-read-judge Inv-loop μ-loop
-shared-slice-read-judge c = let e = end-inside (c .before .before .before) in omega arith
+shared-slice-read-judge c = let e = end-inside (ending (roomed (c .before .before))) in omega arith
 
 judge-requires : tie.Need-judge-requires Inv-loop μ-loop
-judge-requires c κs = call (turning (starting (c .before .before .before))) .pre .0
+judge-requires c κs = call (turning (starting (ending (roomed (c .before .before))))) .pre .0
 
 count-requires : tie.Need-count-requires Inv-loop μ-loop
 count-requires c κs = search needs
@@ -226,13 +240,13 @@ sets-timers-requires : tie.Need-sets-timers-requires Inv-loop μ-loop
 sets-timers-requires c κs = search needs
 
 sub-frame-of : tie.Need-sub-frame-of Inv-loop μ-loop
-sub-frame-of c = let e = end-inside (unused (c .before .before .before .before) .before) in omega arith
+sub-frame-of c = let e = end-inside (ending (roomed (free (c .before .before .before .before)))) in omega arith
 
 part-frame-of-start : tie.Need-part-frame-of-start Inv-loop μ-loop
-part-frame-of-start c = let e = end-inside (unused (c .before .before .before .before) .before) in omega arith
+part-frame-of-start c = let e = end-inside (ending (roomed (free (c .before .before .before .before)))) in omega arith
 
 part-frame-of-end : tie.Need-part-frame-of-end Inv-loop μ-loop
-part-frame-of-end c = let e = end-inside (unused (c .before .before .before .before) .before) in omega arith
+part-frame-of-end c = let e = end-inside (ending (roomed (free (c .before .before .before .before)))) in omega arith
 
 frame-of-requires : tie.Need-frame-of-requires Inv-loop μ-loop
 frame-of-requires c κs = search needs
@@ -241,82 +255,83 @@ timers-after-requires : tie.Need-timers-after-requires Inv-loop μ-loop
 timers-after-requires c κs = search needs
 
 sub-record-of-run : tie.Need-sub-record-of-run Inv-loop μ-loop
-sub-record-of-run c = let e = end-inside (unused (settled (c .before)) .before) in omega arith
+sub-record-of-run c = let e = end-inside (judged (c .before)) in omega arith
 
 part-record-of-run-start : tie.Need-part-record-of-run-start Inv-loop μ-loop
-part-record-of-run-start c = let e = end-inside (unused (settled (c .before)) .before) in omega arith
+part-record-of-run-start c = let e = end-inside (judged (c .before)) in omega arith
 
 part-record-of-run-end : tie.Need-part-record-of-run-end Inv-loop μ-loop
-part-record-of-run-end c = let e = end-inside (unused (settled (c .before)) .before) in omega arith
+part-record-of-run-end c = let e = end-inside (judged (c .before)) in omega arith
 
 record-of-run-requires : tie.Need-record-of-run-requires Inv-loop μ-loop
 unfolding between
 record-of-run-requires c κs =
-    let k = unused (settled (c .before .before)) .before in
+    let k = judged (c .before .before) in
     let e = end-inside k in
     let s = start-inside (starting k) in
     let n = run-length (octets (turning (starting k))) (start (starting k) + 1) (end k) (omega arith) in
     omega arith
 
-write-record-requires : tie.Need-write-record-requires Inv-loop μ-loop
-write-record-requires c κs = let h = inside (unused (settled (made c))) in omega arith
+-- the log with room, from where the record is made
+abbrev place : tie.Joined2 Inv-loop μ-loop → tie.After-room Inv-loop μ-loop
+place c = roomed (free (settled c))
 
-add-unused-from : tie.Need-add-unused-from Inv-loop μ-loop
-add-unused-from c =
-    let u = unused (settled (made (c .before .before .before .before))) in
-    let l = turning (starting (u .before)) in
-    let h = inside u in
+same-size : (c : tie.After-room Inv-loop μ-loop) → length (c .room .last .0) ≡ length (log (turning (starting (ending c))))
+same-size c = let l = turning (starting (ending c)) in ap length (c .room .ensures .0) ∙ length-roomy (log l) (good l)
+
+write-record-requires : tie.Need-write-record-requires Inv-loop μ-loop
+write-record-requires c κs = let h = inside (free (settled (made c))) in let e = same-size (place (made c)) in omega arith
+
+-- the place where the record was written, from the end of a turn
+abbrev wrote : tie.After-slice-known3 Inv-loop μ-loop → tie.After-write-record Inv-loop μ-loop
+wrote c = c .before .before
+
+add-k : tie.Need-add-k Inv-loop μ-loop
+add-k c =
+    let j = made (wrote c .before) in
+    let l = turning (starting (judged j)) in
+    let h = inside (free (settled j)) in
     let i = l .loop .inv .3 in
     let g = call l .good .1 .1 .1 .1 .1 .1 .1 .1 .0 .0 in
     omega arith
 
-unused-from-requires-2 : tie.Need-unused-from-requires-2 Inv-loop μ-loop
-unused-from-requires-2 c κs = search needs
-
--- the place where the record was written, from the end of a turn; and that where the run's end was found, from there
-abbrev wrote : tie.After-unused-from2 Inv-loop μ-loop → tie.After-write-record Inv-loop μ-loop
-wrote c = c .before .before .before .before
-
-abbrev ending : tie.Joined2 Inv-loop μ-loop → tie.After-known-told2 Inv-loop μ-loop
-ending c = unused (settled c) .before
-
 add-n : tie.Need-add-n Inv-loop μ-loop
 add-n c =
-    let k = ending (made (wrote c .before)) in
+    let k = judged (made (wrote c .before)) in
     let e = end-inside k in
     let s = start-inside (starting k) in
     let i = turning (starting k) .loop .inv .1 in
     omega arith
 
 loop-less : tie.Need-loop-less Inv-loop μ-loop
-loop-less c = let k = ending (made (wrote c .before)) in let e = end-inside k in let s = start-inside (starting k) in omega arith
+loop-less c = let k = judged (made (wrote c .before)) in let e = end-inside k in let s = start-inside (starting k) in omega arith
 
 -- the run, its outcome and the record of its frame
 abbrev run : tie.Joined2 Inv-loop μ-loop → List ℕ
-run c = let k = ending c in between (octets (turning (starting k))) (start (starting k) + 1) (end k)
+run c = let k = judged c in between (octets (turning (starting k))) (start (starting k) + 1) (end k)
 
 abbrev becomes : tie.Joined2 Inv-loop μ-loop → Outcome
-becomes c = let k = ending c in let l = turning (starting k) in outcome (call l .args .s) (own l) (run c) (getD (octets l) (end k) 0)
+becomes c = let k = judged c in let l = turning (starting k) in outcome (call l .args .s) (own l) (run c) (getD (octets l) (end k) 0)
 
 abbrev recorded : tie.Joined2 Inv-loop μ-loop → Record
-recorded c = let k = starting (ending c) in recordOfFrame (call (turning k) .args .s) (own (turning k)) (start k) (frameOf (run c)) (becomes c)
+recorded c = let k = starting (judged c) in recordOfFrame (call (turning k) .args .s) (own (turning k)) (start k) (frameOf (run c)) (becomes c)
 
 outcome-is : (c : tie.Joined2 Inv-loop μ-loop) → settled c .judge .result .outcome ≡ becomes c
 unfolding between
 outcome-is c = judged-outcome _ _ _ _ (settled c .judge .ensures)
 
 -- the counters and the timers after a turn, these set or left as they were
-counters-now : (c : tie.Joined2 Inv-loop μ-loop) → c .before .before .count .last .1 .0 ≡ counted (becomes c) (turning (starting (ending c)) .loop .counters)
-counters-now c = c .before .before .count .ensures ∙ ap (λ (x : Outcome). counted x (turning (starting (ending c)) .loop .counters)) (outcome-is c)
+counters-now : (c : tie.Joined2 Inv-loop μ-loop) → c .before .before .count .last .1 .0 ≡ counted (becomes c) (turning (starting (judged c)) .loop .counters)
+counters-now c = c .before .before .count .ensures ∙ ap (λ (x : Outcome). counted x (turning (starting (judged c)) .loop .counters)) (outcome-is c)
 
 abbrev Moved : tie.Joined2 Inv-loop μ-loop → Outcome → Type 0
-Moved c o = c .if2 .timers ≡ timersAfter o (frameOf (run c)) (turning (starting (ending c)) .loop .timers)
+Moved c o = c .if2 .timers ≡ timersAfter o (frameOf (run c)) (turning (starting (judged c)) .loop .timers)
 
 timers-now : (c : tie.Joined2 Inv-loop μ-loop) → Moved c (becomes c)
 unfolding between
 timers-now c =
     let o = settled c .judge .result .outcome in
-    let was = turning (starting (ending c)) .loop .timers in
+    let was = turning (starting (judged c)) .loop .timers in
     ⊎-elim {C = Moved c o}
     (λ w. w .4 ∙ w .3 .ensures ∙ ap (λ (l : List ℕ). timersAfter o l was) (w .2 .ensures))
     (λ w. w .1 ∙ stays _ _ _ (sym (c .before .sets-timers .ensures) ∙ w .0 .left))
@@ -325,22 +340,23 @@ timers-now c =
 
 -- the log after a turn
 log-now : (c : tie.After-write-record Inv-loop μ-loop)
-    → let j = made (c .before) in let l = turning (starting (ending j)) in
-    c .write-record .last .0 ≡ overwrite (log l) (16 * l .loop .k) (octetsOfRecord (recorded j))
+    → let j = made (c .before) in let l = turning (starting (judged j)) in
+    c .write-record .last .0 ≡ overwrite (roomy (log l)) (16 * place j .room .result) (octetsOfRecord (recorded j))
 unfolding between
 log-now c =
     let j = made (c .before) in
-    let k = starting (ending j) in
+    let k = starting (judged j) in
     let l = turning k in
     c .write-record .ensures
-    ∙ ap (λ (x : Record). overwrite (log l) (16 * l .loop .k) (octetsOfRecord x))
+    ∙ ap₂ (λ (m : List ℕ) (x : Record). overwrite m (16 * place j .room .result) (octetsOfRecord x))
+    (place j .room .ensures .0)
     (c .before .record-of-run .ensures ∙ ap (recordOfFrame (call l .args .s) (own l) (start k) (frameOf (run j))) (outcome-is j))
 
 loop-again : tie.Need-loop-again Inv-loop μ-loop
 unfolding stateAfter
 loop-again c =
     let j = made (wrote c .before) in
-    let k = ending j in
+    let k = judged j in
     let l = turning (starting k) in
     let a = call l .args in
     let es = entriesOf (now (a .table)) in
@@ -348,8 +364,10 @@ loop-again c =
     let x = recorded j in
     let s = start-inside (starting k) in
     let e = end-inside k in
-    let g = inside (unused (settled j)) in
-    let m : List ℕ = overwrite (log l) (16 * l .loop .k) (octetsOfRecord x) in
+    let r = place j .room in
+    let g = inside (free (settled j)) in
+    let size = length-roomy (log l) (good l) in
+    let m : List ℕ = overwrite (roomy (log l)) (16 * r .result) (octetsOfRecord x) in
     let same = log-now (wrote c) in
     let few : length es ≤ 16 = omega (arith, entries-sixteen (now (a .table))) in
     let start-is = found-start (starting k) in
@@ -363,15 +381,12 @@ loop-again c =
           keepFrom (length (octets l) + 1 - l .loop .n - 1) (a .s) (a .job) es (at-state (a .state .deficit) cs ts) (octets l) (now (a .marks)) (end k)
           (l .loop .n + 1) m)
           (counters-now j) (timers-now j)
-          ∙ sym (loop-kept _ _ _ _ _ _ (fine l) _ start-is _ end-is _ _ _ _ (more l) (good l) _ (i .4) g)
+          ∙ sym (loop-kept _ _ _ _ _ _ (fine l) _ start-is _ end-is _ _ _ _ (more l) (good l) _ (r .ensures .1) g)
           ∙ i .0,
       omega arith,
       omega arith,
-      ap length same ∙ length-written (log l) (l .loop .k) _ (length-record x) (omega arith) ∙ i .3,
-      c .unused-from2 .ensures
-          ∙ ap (λ (y : List ℕ). unusedFrom y (l .loop .k + 1)) same
-          ∙ loop-next _ _ _ _ _ _ (fine l) _ start-is _ end-is few (log l) (l .loop .k) (omega arith) (i .4)
-          ∙ ap frontCount (sym same),
+      ap length same ∙ length-written (roomy (log l)) (r .result) _ (length-record x) (omega arith) ∙ size ∙ i .3,
+      sym (loop-next _ _ _ _ _ _ (fine l) _ start-is _ end-is few (roomy (log l)) (r .result) (omega arith) (r .ensures .1)) ∙ ap extent (sym same),
     )
 
 pub keep-on-spec : {M : Type 1} → statement M
@@ -380,7 +395,7 @@ keep-on-spec =
     (tie.spec
     Inv-loop
     μ-loop
-    unused-from-requires
+    extent-of-requires
     loop-holds
     find-start-requires
     enum-known-start
@@ -393,6 +408,7 @@ keep-on-spec =
     enum-told-2
     same-length-2
     returns-2
+    room-requires
     same-length-3
     returns-3
     sub-judge
@@ -412,8 +428,7 @@ keep-on-spec =
     part-record-of-run-end
     record-of-run-requires
     write-record-requires
-    add-unused-from
-    unused-from-requires-2
+    add-k
     add-n
     loop-less
     loop-again)

@@ -102,6 +102,36 @@ pub fn log_with_room(prng: &mut Prng, records: usize) -> Vec<u8> {
     log
 }
 
+/// A log of a few records of two or three outcomes, with unused records anywhere.
+pub fn alike_log(prng: &mut Prng) -> Vec<u8> {
+    let mut log = log(prng, 3);
+    let few = [outcome(prng), outcome(prng), outcome(prng)];
+    for _ in 0..prng.between(0, 6) {
+        let used = !prng.one_in(4);
+        log.extend(slot(prng, used));
+    }
+    for slot in log.chunks_exact_mut(RECORD) {
+        if slot[RECORD_OUTCOME] != 0 {
+            slot[RECORD_OUTCOME] = prng.pick(&few);
+        }
+    }
+    log
+}
+
+/// An outcome of which records are to be deleted: mostly one that a record of the log has, at times 0.
+pub fn outcome_of(prng: &mut Prng, log: &[u8]) -> u8 {
+    let records = log.chunks_exact(RECORD);
+    let used: Vec<_> = records
+        .map(|slot| slot[RECORD_OUTCOME])
+        .filter(|&outcome| outcome != 0)
+        .collect();
+    if used.is_empty() || prng.one_in(8) {
+        let any = outcome(prng);
+        return prng.pick(&[0, any]);
+    }
+    prng.pick(&used)
+}
+
 /// The number of a record, of one behind the last, or a great one.
 pub fn record_number(prng: &mut Prng, records: usize) -> usize {
     let any = prng.below(records + 2);

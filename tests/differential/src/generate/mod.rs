@@ -15,7 +15,7 @@ pub use captures::{capture, longest_capture, shown_capture, tabled_capture};
 pub use captures::{place, start_places, starts, Symbols};
 pub use listeners::{broken_table, named_address, sound_table, table_job};
 pub use listeners::{listener, misnumbered, sound_listener, Listener};
-pub use logs::{log, log_with_room, record, record_number, short_log};
+pub use logs::{alike_log, log, log_with_room, outcome_of, record, record_number, short_log};
 pub use logs::{reading_record, BEYOND_THE_LOG};
 pub use reasons::explained_capture;
 pub use records::{client_record, port_octet, settings_record, spoil, state_record};

@@ -2,7 +2,9 @@
 use super::Table;
 use crate::generate::{BEYOND_32_BITS, SYMBOLS, TABLES_FROM};
 use crate::names::OUTCOMES;
-use crate::seen_log::{Further, GoingOnSeen, KeepSeen};
+use crate::plain_log::{is_used, place_of, slots, Slot};
+use crate::seen_log::{Further, GoingOnSeen, KeepSeen, LogOf};
+use crate::table::log::differ;
 use reference::LogEnd;
 
 /// Each way to end.
@@ -15,6 +17,7 @@ const ENDS: [(&str, LogEnd); 3] = [
 pub fn rows(t: &mut Table) {
     ends(t);
     room(t);
+    compaction(t);
     fullness(t);
     places(t);
     refusals(t);
@@ -46,7 +49,7 @@ fn ends(t: &mut Table) {
     }
 }
 
-/// As many records as Starts, one fewer, one more; unused ones between used ones.
+/// As many unused records as Starts, one fewer, one more, wherever they stand.
 fn room(t: &mut Table) {
     for (name, end) in ENDS.into_iter().take(2) {
         let name_of = |records: &str| format!("walk_log: {records}: {name}");
@@ -68,36 +71,89 @@ fn room(t: &mut Table) {
             k.log.unused > 1 && more
         },
     );
-    for (name, end) in ENDS {
-        let name = format!("walk_log: used records between those appended: left, {name}");
-        t.keep(name, move |k| {
-            k.logged.end == end && k.logged.appended > 1 && between(k) && used_stay(k)
-        });
-    }
     t.keep("walk_log: unused records left: as they were", |k| {
-        let left = |i: &usize| !k.log.used(*i) && !k.log_after.used(*i);
-        let mut left = (0..k.log.len()).filter(left);
-        let anything = |i: usize| {
-            let slot = k.log.slot(i);
-            slot == k.log_after.slot(i) && slot.is_some_and(|slot| slot.iter().any(|&o| o != 0))
-        };
-        k.logged.appended > 0 && left.any(anything)
+        let left = |i: usize| k.log.unused_and_other(i) && k.log.slot(i) == k.log_after.slot(i);
+        k.logged.appended > 0 && k.appended() && (0..k.log.len()).any(left)
     });
 }
 
-/// A used record stands between two that were appended.
-fn between(k: &KeepSeen) -> bool {
-    let appended = |i: &usize| !k.log.used(*i) && k.log_after.used(*i);
-    let mut places = (0..k.log.len()).filter(appended);
-    let first = places.next().unwrap_or(0);
-    let last = places.next_back().unwrap_or(0);
-    (first..last).any(|i| k.log.used(i))
+/// Each record goes where appending puts it: behind the last used one, and the log is compacted
+/// where that is the last slot, if a further Start is counted.
+fn compaction(t: &mut Table) {
+    for (name, end) in ENDS.into_iter().take(2) {
+        let name_of = |records: &str| format!("walk_log: {records}, {name}");
+        // the first unused record shows if it is filled with zeros or written
+        let left = |k: &KeepSeen| {
+            let hole = (0..k.log.behind).find(|&i| !k.log.used(i));
+            hole.is_some_and(|i| k.log.unused_and_other(i) && k.log.slot(i) == k.log_after.slot(i))
+        };
+        t.keep(
+            name_of("a hole, and room behind: the hole is left"),
+            move |k| {
+                let room = k.log.behind + k.logged.appended < k.log.len();
+                k.logged.end == end && k.logged.appended > 0 && room && left(k) && k.appended()
+            },
+        );
+        t.keep(
+            name_of("a hole, and room just enough behind: the hole is left"),
+            move |k| {
+                let enough = k.log.behind + k.logged.appended == k.log.len();
+                k.logged.end == end && k.logged.appended > 0 && enough && left(k) && k.appended()
+            },
+        );
+        t.keep(
+            name_of("the last slot used and a hole, no Start: not compacted"),
+            move |k| {
+                let stays = k.log.octets == k.log_after.octets && left(k);
+                k.logged.end == end && k.log.wants_compaction() && stays
+            },
+        );
+    }
+    for (name, end) in ENDS {
+        let name_of = |records: &str| format!("walk_log: {records}, {name}");
+        t.keep(
+            name_of("the last slot used and a hole: compacted for a Start"),
+            move |k| {
+                let appended = k.logged.appended > 0 && k.appended();
+                k.logged.end == end && k.log.wants_compaction() && appended
+            },
+        );
+        t.keep(
+            name_of("a hole, and the last slot reached: compacted for a further Start"),
+            move |k| {
+                let room = k.log.len() - k.log.behind;
+                let reached = room > 0 && k.logged.appended > room;
+                k.logged.end == end && k.log.has_hole() && reached && k.appended()
+            },
+        );
+        t.keep(
+            name_of("three records remain, in their order, in front of those appended"),
+            move |k| {
+                let many = k.log.in_use > 2 && k.logged.appended > 0 && differ(k.log.octets);
+                k.logged.end == end && many && remain_in_front(k)
+            },
+        );
+    }
+    t.keep("walk_log: compacted, and room left: zeros behind", |k| {
+        let behind = k.log_after.behind..k.log_after.len();
+        let zeros = |i: usize| k.log_after.slot(i) == Some(&[0; 16]);
+        let other = behind.clone().any(|i| k.log.shows(i));
+        let compacted = k.log.wants_compaction() && k.logged.appended > 0;
+        compacted && other && behind.clone().all(zeros)
+    });
+    t.keep(
+        "walk_log: holes: full only when every record is used",
+        |k| {
+            let all = k.logged.appended == k.log.unused && k.log_after.full();
+            k.further.is_some() && k.log.has_hole() && all
+        },
+    );
 }
 
-/// Each record that was used is as it was.
-fn used_stay(k: &KeepSeen) -> bool {
-    let stays = |i: usize| !k.log.used(i) || k.log.slot(i) == k.log_after.slot(i);
-    (0..k.log.len()).all(stays)
+/// What remained before stands in front of what was appended.
+fn remain_in_front(k: &KeepSeen) -> bool {
+    let used = |log: LogOf| -> Vec<Slot> { slots(log.octets).copied().filter(is_used).collect() };
+    used(k.log_after).starts_with(&used(k.log))
 }
 
 /// Where a full log stops: before the Start that it has no record for, which is not counted.
@@ -144,19 +200,11 @@ fn fullness(t: &mut Table) {
     }
 }
 
-/// The place that stands in a record, low octet first.
-pub(super) fn place_of(slot: &[u8]) -> usize {
-    slot[..4]
-        .iter()
-        .rev()
-        .fold(0, |n, &octet| n << 8 | usize::from(octet))
-}
-
 /// Where a walk begins and where it goes on.
 fn places(t: &mut Table) {
     let first = |k: &KeepSeen| k.kept.first().map(|slot| place_of(slot));
     t.keep("walk_log: place 0: kept from there", move |k| {
-        k.place == 0 && k.log.front == 0 && first(k).is_some()
+        k.place == 0 && k.log.in_use == 0 && first(k).is_some()
     });
     t.keep("walk_log: place at a Start: it is kept first", move |k| {
         k.place > 0 && k.start_at(k.place) && first(k) == Some(k.place)
@@ -311,27 +359,28 @@ fn records(t: &mut Table) {
     );
 }
 
-/// Walks that go on with other logs.
+/// Walks that go on with other logs, or with the same one after deletions.
 fn going_on(t: &mut Table) {
-    let many = |g: &GoingOnSeen| g.appended.len() > 1;
-    for n in [2, 3] {
-        t.going_on(
-            format!("going on: {n} logs keep what one keeps"),
-            move |g| g.appended.len() == n && g.appended.iter().all(|&appended| appended > 0),
-        );
-    }
-    t.going_on("going on: five logs or more keep what one keeps", |g| {
-        g.appended.len() >= 5
-    });
-    t.going_on("going on: a log of one record at a time", move |g| {
-        many(g) && g.appended.iter().all(|&appended| appended == 1)
-    });
-    t.going_on("going on: unused records in front of used ones", move |g| {
-        many(g) && g.gaps
-    });
-    for (name, end) in ENDS.into_iter().take(2) {
-        t.going_on(format!("going on: {name} in the end"), move |g| {
-            many(g) && g.end == end
+    for (one_log, name) in [(false, "logs"), (true, "one log, deletions")] {
+        let many = move |g: &GoingOnSeen| g.one_log == one_log && g.appended.len() > 1;
+        for n in [2, 3] {
+            let name = format!("going on, {name}: {n} walks keep what one keeps");
+            t.going_on(name, move |g| {
+                let all = g.appended.iter().all(|&appended| appended > 0);
+                many(g) && g.appended.len() == n && all
+            });
+        }
+        let five = format!("going on, {name}: five walks or more keep what one keeps");
+        t.going_on(five, move |g| many(g) && g.appended.len() >= 5);
+        let single = format!("going on, {name}: one record at a time");
+        t.going_on(single, move |g| {
+            many(g) && g.appended.iter().all(|&appended| appended == 1)
         });
+        let holes = format!("going on, {name}: unused records in front of used ones");
+        t.going_on(holes, move |g| many(g) && g.holes);
+        for (end_name, end) in ENDS.into_iter().take(2) {
+            let name = format!("going on, {name}: {end_name} in the end");
+            t.going_on(name, move |g| many(g) && g.end == end);
+        }
     }
 }

@@ -1,23 +1,35 @@
 //! Calls on a log: its length, which records are used, what stands in them, and what is appended.
 use super::Table;
 use crate::generate::BEYOND_THE_LOG;
+use crate::plain_log::{is_used, slots, Slot};
 use crate::raw;
 use crate::seen_log::{octets_of, LogCall, LogSeen};
 use reference::Record;
 
 /// The calls on a log.
-const CALLS: [&str; 5] = ["append", "append reading", "record", "next", "used"];
+const CALLS: [&str; 8] = [
+    "append",
+    "append reading",
+    "record",
+    "next",
+    "used",
+    "delete",
+    "delete outcome",
+    "compact",
+];
 
 pub fn rows(t: &mut Table) {
     lengths(t);
     appending(t);
+    full(t);
+    compacting_first(t);
     appended_fields(t);
     appended_readings(t);
     numbers_of_readings(t);
     records(t);
     contents(t);
     readers(t);
-    used_in_front(t);
+    used(t);
 }
 
 /// Refusal 11, on both sides of each multiple of 16; it comes before 12 and 13.
@@ -54,33 +66,103 @@ fn lengths(t: &mut Table) {
         "log: record: a used one, and 11 holds: refusal 11",
         |l| matches!(l.call, LogCall::Record(k) if l.refusal == 11 && l.before.used(k)),
     );
+    t.log("log: next: 11 and 13 hold: refusal 11", |l| {
+        let none = |at| l.before.next_used(at).is_none();
+        matches!(l.call, LogCall::Next(at) if l.refusal == 11 && none(at))
+    });
+    t.log("log: delete: 11 and 13 hold: refusal 11", |l| {
+        matches!(l.call, LogCall::Delete(k) if l.refusal == 11 && !l.before.used(k) && l.stays())
+    });
+    t.log("log: delete: a used one, and 11 holds: refusal 11", |l| {
+        matches!(l.call, LogCall::Delete(k) if l.refusal == 11 && l.before.used(k) && l.stays())
+    });
     t.log(
-        "log: next: 11 and 13 hold: refusal 11",
-        |l| matches!(l.call, LogCall::Next(k) if l.refusal == 11 && !l.before.used(k)),
+        "log: delete outcome: a record of it, and 11 holds: refusal 11",
+        |l| {
+            let has = |o| slots(l.before.octets).any(|slot| is_used(slot) && slot[4] == o);
+            matches!(l.call, LogCall::DeleteOutcome(o) if l.refusal == 11 && has(o) && l.stays())
+        },
     );
-}
-
-/// Appending takes the first unused record, and refusal 12 is given where there is none.
-fn appending(t: &mut Table) {
-    for (first, of) in [(0, 1), (0, 2), (1, 2), (0, 5), (2, 5), (4, 5)] {
-        let name = format!("append: record {first} of {of} is the first unused: appended there");
+    for call in ["append", "append reading", "compact"] {
+        let name = format!("log: {call}: room by compaction alone, and 11 holds: refusal 11");
         t.log(name, move |l| {
-            l.appends(|r| r.outcome != 0)
-                && l.before.len() == of
-                && l.before.front == first
-                && l.wrote()
+            let counted = l.record().is_none_or(|record| record.outcome != 0);
+            l.name() == call && counted && l.refusal == 11 && l.before.has_hole() && l.stays()
         });
     }
+}
+
+/// Appending goes behind the last used record, and leaves all else while there is room there.
+fn appending(t: &mut Table) {
+    for (behind, of) in [(0, 1), (0, 2), (1, 2), (0, 5), (2, 5), (4, 5)] {
+        let name = format!("append: {behind} of {of}, and no hole: appended behind them");
+        t.log(name, move |l| {
+            l.before.len() == of
+                && l.before.behind == behind
+                && !l.before.has_hole()
+                && l.appends(|r| r.outcome != 0)
+                && l.wrote_behind()
+        });
+    }
+    for (name, hole) in [
+        ("the first unused", 0),
+        ("the second unused", 1),
+        ("the third unused", 2),
+    ] {
+        let name = format!("append: {name}, used ones behind it, and room: it is left");
+        t.log(name, move |l| {
+            hole + 1 < l.before.behind
+                && l.before.unused_and_other(hole)
+                && l.appends(|r| r.outcome != 0)
+                && l.wrote_behind()
+        });
+    }
+    t.log("append: two holes, and room behind: both are left", |l| {
+        l.before.behind >= l.before.in_use + 2 && l.appends(|r| r.outcome != 0) && l.wrote_behind()
+    });
     t.log(
-        "append: used records behind the first unused one: left",
-        |l| l.appends(|r| r.outcome != 0) && l.before.has_gap() && l.wrote(),
+        "append: a hole, and one slot behind the last used one: taken",
+        |l| {
+            l.before.has_hole()
+                && l.before.behind + 1 == l.before.len()
+                && l.appends(|r| r.outcome != 0)
+                && l.wrote_behind()
+        },
     );
-    t.log("append: two are unused: the second stays unused", |l| {
-        l.appends(|r| r.outcome != 0) && l.before.unused == 2 && l.after.unused == 1 && l.wrote()
+    t.log("append: the slot behind the next one: left", |l| {
+        l.before.unused_and_other(l.before.behind + 1)
+            && l.appends(|r| r.outcome != 0)
+            && l.wrote_behind()
     });
-    t.log("append: the last unused one: the log is full", |l| {
-        l.appends(|r| r.outcome != 0) && l.before.unused == 1 && l.after.full() && l.wrote()
+    t.log("append: none used, octets not 0: in the first slot", |l| {
+        l.before.in_use == 0
+            && l.before.unused_and_other(0)
+            && l.appends(|r| r.outcome != 0)
+            && l.wrote_behind()
     });
+    t.log(
+        "append: other octets of the slot taken are not 0: overwritten",
+        |l| {
+            let slot = l.before.slot(l.before.behind);
+            l.appends(|r| r.outcome != 0) && slot.is_some_and(others) && l.wrote_behind()
+        },
+    );
+    for outcome in [1, 11, 12, 128, 255] {
+        let name = format!("append: a record of zeros but for outcome {outcome}: passed");
+        t.log(name, move |l| {
+            let zeros = |slot: &Slot| (0..16).all(|i| slot[i] == if i == 4 { outcome } else { 0 });
+            l.appends(|r| r.outcome != 0) && slots(l.before.octets).any(zeros) && l.wrote()
+        });
+    }
+}
+
+/// All octets but that of the outcome are other than 0.
+pub(super) fn others(slot: &Slot) -> bool {
+    (0..16).all(|i| (slot[i] == 0) == (i == 4))
+}
+
+/// Refusal 12 is given exactly when every record is used.
+fn full(t: &mut Table) {
     for of in [0, 1, 2, 5] {
         t.log(
             format!("append: all {of} records used: refusal 12"),
@@ -92,6 +174,17 @@ fn appending(t: &mut Table) {
             },
         );
     }
+    for (name, at) in [("the first", 0), ("the second", 1), ("the third", 2)] {
+        let name = format!("append: of several all but {name} used: the log is full");
+        t.log(name, move |l| {
+            let alone = l.before.unused == 1 && l.before.len() > 3 && !l.before.used(at);
+            alone && l.appends(|r| r.outcome != 0) && l.after.full() && l.wrote()
+        });
+    }
+    t.log("append: all but the last used: the log is full", |l| {
+        let alone = l.before.unused == 1 && l.before.behind + 1 == l.before.len();
+        alone && l.appends(|r| r.outcome != 0) && l.after.full() && l.wrote()
+    });
     let outcome_0 = |l: &LogSeen| l.appends(|r| r.outcome == 0) && l.stays();
     t.log(
         "append: outcome 0, no record: nothing, and no refusal",
@@ -101,25 +194,52 @@ fn appending(t: &mut Table) {
         "append: outcome 0, a full log: nothing, and no refusal",
         move |l| outcome_0(l) && l.before.full(),
     );
-    t.log("append: outcome 0, an unused record: nothing", move |l| {
-        outcome_0(l) && l.before.unused > 0
+    t.log("append: outcome 0, room behind: nothing", move |l| {
+        outcome_0(l) && l.before.behind < l.before.len()
     });
     t.log(
-        "append: other octets of the unused record are not 0: overwritten",
-        |l| {
-            let slot = l.before.slot(l.before.front);
-            let others = |slot: &[u8]| (0..16).all(|i| (slot[i] == 0) == (i == 4));
-            l.appends(|r| r.outcome != 0) && slot.is_some_and(others) && l.wrote()
-        },
+        "append: outcome 0, the last slot used and a hole: not compacted",
+        move |l| outcome_0(l) && l.before.wants_compaction(),
     );
-    for outcome in [1, 11, 12, 128, 255] {
-        let name = format!("append: a record of zeros but for outcome {outcome}: passed");
+}
+
+/// Where the last slot is used and another is not, appending compacts first.
+fn compacting_first(t: &mut Table) {
+    let compacts =
+        |l: &LogSeen| l.before.wants_compaction() && l.appends(|r| r.outcome != 0) && l.wrote();
+    for (name, at) in [("the first", 0), ("the second", 1), ("the third", 2)] {
+        let name = format!("append: the last slot used, {name} of several not: compacted first");
         t.log(name, move |l| {
-            let mut slots = l.before.octets.chunks_exact(16).take(l.before.front);
-            let zeros = |slot: &[u8]| (0..16).all(|i| slot[i] == if i == 4 { outcome } else { 0 });
-            l.appends(|r| r.outcome != 0) && slots.any(zeros) && l.wrote()
+            let alone = l.before.unused == 1 && l.before.len() > 3 && !l.before.used(at);
+            alone && compacts(l)
         });
     }
+    t.log(
+        "append: the last slot used alone: moved to the front",
+        move |l| l.before.in_use == 1 && l.before.len() > 2 && compacts(l),
+    );
+    t.log("append: compacted, and room left: zeros behind", move |l| {
+        let mut left = l.after.behind..l.after.len();
+        left.len() > 1 && left.all(|k| l.before.shows(k)) && compacts(l)
+    });
+    t.log(
+        "append: compacted, three remain: in their order",
+        move |l| l.before.in_use >= 3 && differ(l.before.octets) && compacts(l),
+    );
+    t.log(
+        "append: a hole on both sides of a used one: compacted first",
+        move |l| {
+            let between = |k: usize| l.before.used(k) && !l.before.used(k + 1);
+            compacts(l) && !l.before.used(0) && (1..l.before.len() - 1).any(between)
+        },
+    );
+}
+
+/// No two used records are alike.
+pub(super) fn differ(log: &[u8]) -> bool {
+    let mut used: Vec<_> = slots(log).filter(|slot| is_used(slot)).collect();
+    used.sort_unstable();
+    used.windows(2).all(|pair| pair[0] != pair[1])
 }
 
 /// The five fields at their widths, each written as given.
@@ -193,13 +313,21 @@ fn appended_readings(t: &mut Table) {
             let LogCall::AppendReading(numbers, _) = l.call else {
                 return false;
             };
-            let (way, slot) = (numbers[raw::READING_WAY], l.after.slot(l.before.front));
+            let (way, slot) = (numbers[raw::READING_WAY], l.after.slot(l.taken()));
             way >> 8 != 0 && l.wrote() && slot.is_some_and(|slot| slot[5] == (way & 0xFF) as u8)
         },
     );
     t.log("append reading: octets handed out: appended", |l| {
         l.name() == "append reading" && l.record().is_some_and(|r| r.handed > 0) && l.wrote()
     });
+    t.log(
+        "append reading: the last slot used and a hole: compacted first",
+        move |l| l.name() == "append reading" && l.before.wants_compaction() && l.wrote(),
+    );
+    t.log(
+        "append reading: a hole, and room behind: behind the last used one",
+        move |l| l.name() == "append reading" && l.before.has_hole() && l.wrote_behind(),
+    );
     t.log(
         "append reading: counted, a full log: refusal 12",
         move |l| {
@@ -217,11 +345,12 @@ fn appended_readings(t: &mut Table) {
         let uncounted = move |l: &LogSeen| of(l, 0, kind, refusal) && l.refusal == 0 && l.stays();
         t.log(format!("append reading: {name}: nothing"), move |l| {
             // zeros would show
-            let slot = l.before.slot(l.before.front);
-            uncounted(l) && slot.is_some_and(|slot| slot.iter().any(|&octet| octet != 0))
+            uncounted(l) && l.before.unused_and_other(l.before.behind)
         });
-        let name = format!("append reading: {name}, a full log: nothing, and no refusal");
-        t.log(name, move |l| uncounted(l) && l.before.full());
+        let full = format!("append reading: {name}, a full log: nothing, and no refusal");
+        t.log(full, move |l| uncounted(l) && l.before.full());
+        let hole = format!("append reading: {name}, the last slot used and a hole: not compacted");
+        t.log(hole, move |l| uncounted(l) && l.before.wants_compaction());
     }
 }
 
@@ -260,7 +389,7 @@ fn records(t: &mut Table) {
         l.before.len() == 1 && read(l, &|_| true)
     });
     t.log("record: used, behind an unused one: read", move |l| {
-        read(l, &|k| k > l.before.front)
+        read(l, &|k| (0..k).any(|k| !l.before.used(k)))
     });
     let refused = |l: &LogSeen, test: &dyn Fn(usize) -> bool| matches!(l.call, LogCall::Record(k) if l.refusal == 13 && test(k));
     t.log("record: the first, unused: refusal 13", move |l| {
@@ -272,7 +401,6 @@ fn records(t: &mut Table) {
         })
     });
     t.log("record: unused, other octets not 0: refusal 13", move |l| {
-        let others = |slot: &[u8]| (0..16).all(|i| (slot[i] == 0) == (i == 4));
         refused(l, &|k| l.before.slot(k).is_some_and(others))
     });
     t.log(
@@ -345,36 +473,70 @@ fn contents(t: &mut Table) {
     }
 }
 
-/// A reader moves on by one, and stays where it is refused.
+/// A reader hands out the next used record and goes on behind it; it stays where it is refused.
 fn readers(t: &mut Table) {
-    let moves = |l: &LogSeen, test: &dyn Fn(usize) -> bool| {
-        l.name() == "next" && l.reads(|k, _| l.number == k + 1 && test(k))
+    // at this number, to this record
+    let moves = |l: &LogSeen, test: &dyn Fn(usize, usize) -> bool| match l.call {
+        LogCall::Next(at) => l.reads(|k, _| l.number == k + 1 && test(at, k)),
+        _ => false,
     };
     t.log("next: at the first: moves on", move |l| {
-        moves(l, &|k| k == 0)
+        moves(l, &|at, k| (at, k) == (0, 0))
     });
     t.log("next: in the middle: moves on", move |l| {
-        moves(l, &|k| k > 0 && k + 1 < l.before.len())
+        moves(l, &|at, k| at == k && k > 0 && k + 1 < l.before.len())
     });
     t.log("next: at the last: moves on", move |l| {
-        moves(l, &|k| k > 0 && k + 1 == l.before.len())
+        moves(l, &|at, k| at == k && k > 0 && k + 1 == l.before.len())
     });
     t.log("next: behind an unused one: moves on", move |l| {
-        moves(l, &|k| k > l.before.front)
+        moves(l, &|at, k| at == k && k > 0 && !l.before.used(k - 1))
+    });
+    for (skipped, name) in [(1, "one unused"), (2, "two unused"), (3, "three unused")] {
+        let front = format!("next: {name} in front: skipped");
+        t.log(front, move |l| moves(l, &|at, k| at == 0 && k == skipped));
+        let middle = format!("next: {name} in the middle: skipped");
+        t.log(middle, move |l| {
+            moves(l, &|at, k| {
+                at > 0 && k == at + skipped && k + 1 < l.before.len()
+            })
+        });
+        let last = format!("next: {name} before the last: skipped");
+        t.log(last, move |l| {
+            moves(l, &|at, k| {
+                at > 0 && k == at + skipped && k + 1 == l.before.len()
+            })
+        });
+    }
+    t.log("next: unused, other octets not 0: skipped", move |l| {
+        moves(l, &|at, k| {
+            k == at + 1 && l.before.slot(at).is_some_and(others)
+        })
     });
     let stays = |l: &LogSeen, test: &dyn Fn(usize) -> bool| match l.call {
         LogCall::Next(k) => l.refusal == 13 && l.number == k && test(k),
         _ => false,
     };
-    t.log("next: at the first, unused: stays", move |l| {
+    t.log("next: at the first, none used: stays", move |l| {
         stays(l, &|k| k == 0 && !l.before.octets.is_empty())
     });
     t.log("next: of no record: stays", move |l| {
         stays(l, &|k| k == 0 && l.before.octets.is_empty())
     });
     t.log(
-        "next: at an unused one, used ones behind: stays",
-        move |l| stays(l, &|k| k == l.before.front && l.before.has_gap()),
+        "next: behind the last used one, an unused one there: stays",
+        move |l| stays(l, &|k| k > 0 && k == l.before.behind && k < l.before.len()),
+    );
+    t.log(
+        "next: behind the last used one, unused ones in front: stays",
+        move |l| {
+            let hole = l.before.has_hole();
+            hole && stays(l, &|k| k > l.before.behind && k < l.before.len())
+        },
+    );
+    t.log(
+        "next: unused ones only, other octets not 0: stays",
+        move |l| stays(l, &|k| l.before.slot(k).is_some_and(others)),
     );
     t.log("next: behind the last, all used: stays", move |l| {
         stays(l, &|k| k == l.before.len() && l.before.full())
@@ -393,15 +555,15 @@ fn readers(t: &mut Table) {
     );
 }
 
-/// How many are used in front.
-fn used_in_front(t: &mut Table) {
+/// How many are used.
+fn used(t: &mut Table) {
     for (used, of) in [(0, 0), (0, 1), (1, 1), (0, 5), (1, 5), (4, 5), (5, 5)] {
-        t.log(format!("used: {used} of {of} in front: {used}"), move |l| {
-            let in_front = (l.before.front, l.before.len()) == (used, of);
-            l.name() == "used" && l.refusal == 0 && in_front && l.number == used
+        t.log(format!("used: {used} of {of}: {used}"), move |l| {
+            let in_use = (l.before.in_use, l.before.len()) == (used, of);
+            l.name() == "used" && l.refusal == 0 && in_use && l.number == used
         });
     }
-    t.log("used: used ones behind an unused one: not counted", |l| {
-        l.name() == "used" && l.refusal == 0 && l.before.has_gap() && l.number == l.before.front
+    t.log("used: used ones behind an unused one: counted", |l| {
+        l.name() == "used" && l.refusal == 0 && l.before.has_hole() && l.number == l.before.in_use
     });
 }

@@ -10,6 +10,7 @@ mod log;
 mod ports;
 mod reading;
 mod reasons;
+mod room;
 mod screens;
 mod sending;
 mod tags;
@@ -36,6 +37,7 @@ pub(crate) fn rows() -> Vec<Row> {
     sending::rows(&mut table);
     ports::rows(&mut table);
     log::rows(&mut table);
+    room::rows(&mut table);
     keeping::rows(&mut table);
     totals::rows(&mut table);
     counted::rows(&mut table);

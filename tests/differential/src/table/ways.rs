@@ -1,8 +1,8 @@
 //! Which address let a frame in: items 7 and 10 of document 02, in readings and in what walks keep.
 use super::jobs::NO_HOLDERS;
-use super::keeping::place_of;
 use super::Table;
 use crate::generate::{BROADCAST, RESERVED_GROUP};
+use crate::plain_log::{place_of, Slot};
 use crate::raw;
 use crate::seen::{FrameSeen, ReadingSeen};
 use crate::seen_log::KeepSeen;
@@ -363,12 +363,14 @@ fn kept_over(t: &mut Table) {
             format!("walk_log: way {name} over one above 31"),
             move |k| {
                 let over = |i: usize| {
-                    let way = |slot: Option<&[u8]>| slot.map_or(0, |slot| slot[5]);
+                    let way = |slot: Option<&Slot>| slot.map_or(0, |slot| slot[5]);
                     let fresh = !k.log.used(i) && k.log_after.used(i);
                     let after = way(k.log_after.slot(i));
                     fresh && way(k.log.slot(i)) > 31 && after <= 31 && (after > 0) == let_in
                 };
-                (0..k.log.len()).any(over)
+                // nothing was moved
+                let room = k.log.behind + k.logged.appended <= k.log.len();
+                room && (0..k.log.len()).any(over)
             },
         );
     }
