@@ -538,7 +538,7 @@ fn table_calls(bench: &mut Bench, prng: &mut Prng) -> Result<(), Difference> {
         false => prng.between(4, 24),
     };
     for _ in 0..calls {
-        let job = generate::table_job(prng);
+        let job = generate::table_job(prng, broken);
         let address = generate::named_address(prng, &s, table.octets());
         let call = match prng.below(8) < removals {
             true => TableCall::Remove,

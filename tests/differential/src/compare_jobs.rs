@@ -121,9 +121,7 @@ impl Bench {
         let before = table.clone();
         let mut meant = records::table(before.octets());
         let expected = by_reference(&mut meant, call, job, address);
-        if let Ok(entry) = expected {
-            *table.lent() = records::table_written(before.octets(), &meant, entry);
-        }
+        *table.lent() = records::table_written(before.octets(), &meant);
         let inputs = || {
             let address = show::octets(&address, true);
             let table = show::table(before.octets());

@@ -42,19 +42,25 @@ pub fn table(octets: &raw::Table) -> Table {
     }))
 }
 
-/// A table whose entry of this number was taken or freed: its eight octets are written, a free one's
-/// as zeros, and no other octet.
-pub fn table_written(before: &raw::Table, table: &Table, k: usize) -> raw::Table {
+/// A table after a call: of an entry that was taken or freed all eight octets are written, a free
+/// one's as zeros, and no other octet.
+pub fn table_written(before: &raw::Table, after: &Table) -> raw::Table {
     let mut octets = *before;
-    let entry = &mut octets[raw::ENTRY * k..][..raw::ENTRY];
-    let (holder, address) = match table.entries()[k] {
-        Entry::Free => (raw::FREE, [0; raw::ADDRESS]),
-        Entry::Job0(address) => (raw::JOB_0, address),
-        Entry::Job1(address) => (raw::JOB_1, address),
-    };
-    entry[raw::HOLDER] = holder;
-    entry[raw::LISTED..][..raw::ADDRESS].copy_from_slice(&address);
-    entry[raw::ENTRY_SPARE] = 0;
+    let entries = table(before);
+    let entries = entries.entries().iter().zip(after.entries());
+    for (entry, (before, after)) in octets.chunks_exact_mut(raw::ENTRY).zip(entries) {
+        if before == after {
+            continue;
+        }
+        let (holder, address) = match *after {
+            Entry::Free => (raw::FREE, [0; raw::ADDRESS]),
+            Entry::Job0(address) => (raw::JOB_0, address),
+            Entry::Job1(address) => (raw::JOB_1, address),
+        };
+        entry[raw::HOLDER] = holder;
+        entry[raw::LISTED..][..raw::ADDRESS].copy_from_slice(&address);
+        entry[raw::ENTRY_SPARE] = 0;
+    }
     octets
 }
 

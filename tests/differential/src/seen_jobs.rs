@@ -79,6 +79,17 @@ impl<'a> TableOf<'a> {
         self.has_twice(job) && !self.has_twice(1 - job) && most
     }
 
+    /// Nothing is wrong with it but that a job has one address in two entries, which stand so.
+    pub fn only_pair(self, job: u8, stand: Pair) -> bool {
+        let first = |k: usize| self.listed_at(job, &self.address(k)).next();
+        let mut later = self.of(job).filter(|&k| first(k) != Some(k));
+        let (Some(second), None) = (later.next(), later.next()) else {
+            return false;
+        };
+        let stands = |first: usize| stand(self, job, first, second);
+        self.only_twice(job) && first(second).is_some_and(stands)
+    }
+
     /// The only entry of which octets differ from those of another table.
     pub fn only_other(self, other: TableOf) -> Option<usize> {
         let mut differing = (0..16).filter(|&k| self.entry(k) != other.entry(k));
@@ -86,6 +97,18 @@ impl<'a> TableOf<'a> {
         first.filter(|_| differing.next().is_none())
     }
 }
+
+/// How two entries of a job stand, the lower first.
+pub type Pair = fn(TableOf, u8, usize, usize) -> bool;
+
+/// How those by which it has an address twice may stand.
+pub const PAIRS: [(&str, Pair); 3] = [
+    ("next to each other", |_, _, i, j| i + 1 == j),
+    ("others of it between", |table, job, i, j| {
+        table.of(job).any(|k| i < k && k < j)
+    }),
+    ("first and last entry", |_, _, i, j| (i, j) == (0, 15)),
+];
 
 /// Which call on a table it was.
 #[derive(Clone, Copy, Debug, PartialEq, Eq)]

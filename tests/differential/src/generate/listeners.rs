@@ -224,19 +224,30 @@ pub fn broken_table(prng: &mut Prng, s: &Settings) -> raw::Table {
     let mut octets = held(prng, s);
     loop {
         let holder = prng.pick(&[raw::JOB_0, raw::JOB_1]);
-        if prng.coin() {
+        let wrong = prng.below(4);
+        if wrong < 2 {
             let most = prng.pick(&[13, 13, 14, 16]);
             hold_so_many(prng, &mut octets, holder, most);
         }
-        if prng.coin() {
-            let (i, j) = (entry(prng), entry(prng));
+        if wrong > 0 {
+            let (i, j) = two_entries(prng);
             let address = address_in(&octets, i);
             put_entry(&mut octets, i, holder, &address);
             put_entry(&mut octets, j, holder, &address);
         }
-        if prng.coin() {
+        if !prng.one_in(4) {
             return octets;
         }
+    }
+}
+
+/// The numbers of two entries: next to each other, the first and the last, or any.
+fn two_entries(prng: &mut Prng) -> (usize, usize) {
+    let i = prng.below(raw::ENTRIES - 1);
+    match prng.below(4) {
+        0..=1 => (i, i + 1),
+        2 => (0, raw::ENTRIES - 1),
+        _ => (i, prng.between(i + 1, raw::ENTRIES - 1)),
     }
 }
 
@@ -298,12 +309,12 @@ pub fn heard_by_control(prng: &mut Prng, s: &Settings, listener: &Listener) -> [
     }
 }
 
-/// A job for a call on a table; one in sixteen is none.
-pub fn table_job(prng: &mut Prng) -> u8 {
+/// A job for a call on a table; one in sixteen is none, and of a broken table one in four.
+pub fn table_job(prng: &mut Prng, broken: bool) -> u8 {
     let any = prng.between(2, 255) as u8;
-    match prng.below(16) {
-        0 => prng.pick(&[2, 3, 128, 255, any]),
-        _ => prng.below(2) as u8,
+    match prng.one_in(if broken { 4 } else { 16 }) {
+        true => prng.pick(&[2, 3, 128, 255, any]),
+        false => prng.below(2) as u8,
     }
 }
 

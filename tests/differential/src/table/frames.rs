@@ -212,7 +212,8 @@ fn addresses(t: &mut Table) {
         t.reading(name, move |r| {
             let mut listed = r.table.of(r.job).map(|k| r.table.address(k));
             r.addressed(7, |to| {
-                listed.any(|entry| only_octet(to, &entry) == Some(i))
+                // broadcast goes by its setting alone
+                *to != BROADCAST && listed.any(|entry| only_octet(to, &entry) == Some(i))
             })
         });
     }

@@ -1,9 +1,10 @@
 //! Calls on the table that two jobs share: item 10 of document 02.
 use super::Table;
 use crate::generate::{BROADCAST, RESERVED_GROUP};
+use crate::raw;
 use crate::seen::only_octet;
 use crate::seen_jobs::TableCall::{Add, Remove};
-use crate::seen_jobs::{TableCall, TableOf, TableSeen};
+use crate::seen_jobs::{TableCall, TableOf, TableSeen, PAIRS};
 
 const CALLS: [(&str, TableCall); 2] = [("add", Add), ("remove", Remove)];
 /// Jobs that there are not.
@@ -14,6 +15,7 @@ pub const NO_HOLDERS: [u8; 3] = [3, 128, 255];
 pub fn rows(t: &mut Table) {
     entries(t);
     octets(t);
+    free_entries(t);
     freed(t);
     numbers(t);
     twelve_and_sixteen(t);
@@ -48,9 +50,13 @@ fn entries(t: &mut Table) {
             }
         });
     }
-    t.table("table: add: entries in use behind a free one", |c| {
-        let behind = |k: usize| (k..16).any(|other| c.before.job(other).is_some());
-        c.done(Add, behind)
+    let behind = |c: &TableSeen, k: usize| (k..16).any(|other| c.before.job(other).is_some());
+    t.table("table: add: entries in use behind a free one", move |c| {
+        c.done(Add, |k| behind(c, k))
+    });
+    let name = "table: add: entries in use behind a free one, the last one free";
+    t.table(name, move |c| {
+        c.before.job(15).is_none() && c.done(Add, |k| behind(c, k))
     });
 }
 
@@ -101,14 +107,24 @@ fn octets(t: &mut Table) {
             })
         },
     );
-    t.table(
-        "table: add: the address stands in a free entry: listed",
-        |c| {
-            c.done(Add, |_| {
-                c.before.free().any(|k| c.before.address(k) == c.address)
-            })
-        },
-    );
+}
+
+/// What stands in a free entry is listed by nobody, whichever octet makes it free.
+fn free_entries(t: &mut Table) {
+    let holders = [raw::FREE].into_iter().chain(NO_HOLDERS);
+    for (octet, job) in holders.flat_map(|octet| [(octet, 0), (octet, 1)]) {
+        let stands = move |c: &TableSeen| {
+            let here = |k| c.before.holder(k) == octet && c.before.address(k) == c.address;
+            c.job == job && (0..16).any(here)
+        };
+        let there = format!("job {job}: it stands in an entry of holder {octet}");
+        t.table(format!("table: add, {there}: added"), move |c| {
+            stands(c) && c.done(Add, |_| true)
+        });
+        t.table(format!("table: remove, {there}: refusal 18"), move |c| {
+            stands(c) && sound(c.before) && c.refusal == 18
+        });
+    }
 }
 
 /// "so freed ones are used again".
@@ -214,23 +230,20 @@ fn same_address(t: &mut Table) {
         t.table(name, move |c| {
             c.job == job && others(c).is_some() && sound(c.before) && c.refusal == 17
         });
-        let name = format!("table: remove, job {job}: the other lists it too: that one stays");
-        t.table(name, move |c| {
-            let stays = |i: usize| c.after.entry(i) == c.before.entry(i);
-            c.job == job && others(c).is_some_and(stays) && c.done(Remove, |_| true)
-        });
+        for (where_, lower) in [("lower", true), ("higher", false)] {
+            let too = format!("the other lists it too, by a {where_} entry");
+            let name = format!("table: remove, job {job}: {too}: that one stays");
+            t.table(name, move |c| {
+                let stays = |i: usize| c.after.entry(i) == c.before.entry(i);
+                let theirs = |k: usize| others(c).is_some_and(|i| (i < k) == lower && stays(i));
+                c.job == job && c.done(Remove, theirs)
+            });
+        }
         let name = format!("table: remove, job {job}: the other alone lists it: refusal 18");
         t.table(name, move |c| {
             c.job == job && others(c).is_some() && sound(c.before) && c.refusal == 18
         });
     }
-    t.table(
-        "table: remove: it stands in a free entry: refusal 18",
-        |c| {
-            let stands = c.before.free().any(|k| c.before.address(k) == c.address);
-            stands && sound(c.before) && c.refusal == 18
-        },
-    );
 }
 
 /// All six octets are compared.
@@ -332,9 +345,15 @@ fn broken(t: &mut Table) {
                 };
                 let row = format!("table: {name}, job {job}: job {of} holds 13: refusal 20");
                 t.table(row, move |c| called(c) && c.before.only_holds(of, 13));
-                let row =
-                    format!("table: {name}, job {job}: job {of} has an address twice: refusal 20");
-                t.table(row, move |c| called(c) && c.before.only_twice(of));
+                let row = format!("table: {name}, job {job}: job {of} has an address twice");
+                t.table(format!("{row}: refusal 20"), move |c| {
+                    called(c) && c.before.only_twice(of)
+                });
+                for (stand, pair) in PAIRS {
+                    t.table(format!("{row}, {stand}: refusal 20"), move |c| {
+                        called(c) && c.before.only_pair(of, pair)
+                    });
+                }
             }
         }
         t.table(

@@ -5,6 +5,7 @@ use crate::generate::{
 };
 use crate::names::OUTCOMES;
 use crate::seen::{By, Fcs, ReadingSeen};
+use crate::seen_jobs::PAIRS;
 use reference::Walked;
 
 pub fn rows(t: &mut Table) {
@@ -155,10 +156,15 @@ fn tables(t: &mut Table) {
                     r.job == job && r.table.only_holds(of, n) && r.refusal == refusal
                 });
             }
-            let name = format!("table: job {job} reads, job {of} has an address twice: refusal 20");
-            t.reading(name, move |r| {
+            let name = format!("table: job {job} reads, job {of} has an address twice");
+            t.reading(format!("{name}: refusal 20"), move |r| {
                 r.job == job && r.table.only_twice(of) && r.refusal == 20
             });
+            for (stand, pair) in PAIRS {
+                t.reading(format!("{name}, {stand}: refusal 20"), move |r| {
+                    r.job == job && r.table.only_pair(of, pair) && r.refusal == 20
+                });
+            }
         }
         let name = format!("table: job {job} reads, both jobs have one address: taken");
         t.reading(name, move |r| {

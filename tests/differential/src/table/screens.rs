@@ -1,10 +1,10 @@
 //! The screen call: the client data of the chosen job, out of its capture and no other.
 use super::jobs::NO_JOBS;
 use super::Table;
-use crate::generate::BEYOND_32_BITS;
+use crate::generate::{BEYOND_32_BITS, BROADCAST};
 use crate::names::OUTCOMES;
 use crate::seen::bad_buffers;
-use crate::seen_jobs::ScreenSeen;
+use crate::seen_jobs::{ScreenSeen, PAIRS};
 
 pub fn rows(t: &mut Table) {
     for job in 0..2 {
@@ -60,7 +60,8 @@ fn nothing(t: &mut Table, job: u8) {
     let name = format!("screen: job {job}: to an address of the other job: nothing");
     t.screen(name, move |c| {
         let others = c.reading.addressed(7, |to| {
-            !c.reading.listed(to) && c.reading.others_at(to).next().is_some()
+            let theirs = c.reading.others_at(to).next().is_some();
+            *to != BROADCAST && !c.reading.listed(to) && theirs
         });
         c.job() == job && others && c.nothing()
     });
@@ -142,11 +143,17 @@ fn refusals(t: &mut Table) {
                 let held = c.reading.table.only_holds(of, 13);
                 c.job() == job && held && c.refusal == 20
             });
-            let name = format!("screen: job {job}: job {of} has an address twice: refusal 20");
-            t.screen(name, move |c| {
+            let name = format!("screen: job {job}: job {of} has an address twice");
+            t.screen(format!("{name}: refusal 20"), move |c| {
                 let twice = c.reading.table.only_twice(of);
                 c.job() == job && twice && c.refusal == 20
             });
+            for (stand, pair) in PAIRS {
+                t.screen(format!("{name}, {stand}: refusal 20"), move |c| {
+                    let twice = c.reading.table.only_pair(of, pair);
+                    c.job() == job && twice && c.refusal == 20
+                });
+            }
         }
     }
 }

@@ -124,29 +124,26 @@ fn of_the_other(t: &mut Table) {
 /// What stands in a free entry has no say, whichever octet makes it free.
 fn free_entries(t: &mut Table) {
     for octet in [raw::FREE].into_iter().chain(NO_HOLDERS) {
-        let stands = move |r: &ReadingSeen, to: &[u8; 6]| {
-            let here = |k: usize| r.table.holder(k) == octet && r.table.address(k) == *to;
-            by_table(r.s, to) && (0..16).any(here)
+        // it stands in such an entry below this one
+        let below = move |r: &ReadingSeen, to: &[u8; 6], k: usize| {
+            let here = |i: usize| r.table.holder(i) == octet && r.table.address(i) == *to;
+            by_table(r.s, to) && (0..k).any(here)
         };
-        let name = format!("way: in an entry of holder {octet}");
-        t.reading(format!("{name}: filtered, 0"), move |r| {
-            r.way == 0 && r.addressed(7, |to| stands(r, to))
-        });
-        t.reading(format!("{name}, promiscuous: 7"), move |r| {
-            client_by(r, 7, |to| stands(r, to) && !r.listed(to))
-        });
-        t.reading(format!("{name}, listed by a higher entry: that one"), {
-            move |r| {
-                let own = |f: &FrameSeen| r.listed_at(&f.to).next();
-                let Some(k) = r.frame.as_ref().and_then(own) else {
-                    return false;
-                };
-                let lower = |to: &[u8; 6]| {
-                    let here = |i: usize| r.table.holder(i) == octet && r.table.address(i) == *to;
-                    by_table(r.s, to) && (0..k).any(here)
-                };
-                client_by(r, entry(k), lower)
-            }
+        for job in 0..2 {
+            let name = format!("way: job {job}, in an entry of holder {octet}");
+            t.reading(format!("{name}: filtered, 0"), move |r| {
+                r.job == job && r.way == 0 && r.addressed(7, |to| below(r, to, 16))
+            });
+            t.reading(format!("{name}, promiscuous: 7"), move |r| {
+                r.job == job && client_by(r, 7, |to| below(r, to, 16) && !r.listed(to))
+            });
+        }
+        let name =
+            format!("way: in an entry of holder {octet}, listed by a higher entry: that one");
+        t.reading(name, move |r| {
+            let own = |f: &FrameSeen| r.listed_at(&f.to).next();
+            let listed = r.frame.as_ref().and_then(own);
+            listed.is_some_and(|k| client_by(r, entry(k), |to| below(r, to, k)))
         });
     }
 }
