@@ -1082,7 +1082,8 @@ LOOKS += [{"log": [1, 1], "more": n, "number": k} for n in BAD_LENGTHS for k in 
 DELETES = [{"log": log, "number": n} for log in LOGS for n in range(len(log) + 1)] + [{"log": [1, 1], "number": n} for n in (3, 2**32, 2**60, 2**64 - 1)]
 DELETES += [{"log": [1, x], "more": n, "number": k} for n in BAD_LENGTHS for k, x in ((0, 1), (1, 0), (9, 1))]
 ALIKE = ([], [7], [0], [7, 7, 7], [7, 0, 5, 7], [0, 7, 7, 1, 0], [5, 1], [7, 255, 7])
-DELETE_ALLS = [{"log": log, "outcome": o} for log in ALIKE for o in (7, 0, 1, 255)] + [{"log": [7, 7], "more": n, "outcome": o} for n in BAD_LENGTHS for o in (7, 0)]
+DELETE_ALLS = [{"log": log, "outcome": o} for log in ALIKE for o in (7, 0, 1, 255)]
+DELETE_ALLS += [{"log": [7, 7], "more": n, "outcome": o} for n in BAD_LENGTHS for o in (7, 0)]
 COMPACTS = [{"log": log} for log in LOGS] + [{"log": [0, 7], "more": n} for n in BAD_LENGTHS]
 COMPACTS += [{"log": log} for log in ([0, 1, 2, 3], [1, 0, 2, 3], [1, 2, 0, 3], [1, 2, 3, 0], [0, 1, 0, 2, 0, 3], [1, 2, 3, 4, 5], [0, 0, 0, 0])]
 KEEPS = [{"parts": p, "log": log} for p in ([], ["frame"], ["cut", "preamble"], ["cut", "open"], ["wrong", "pause"], ["small", "frame", "start", "preamble"])
@@ -1245,9 +1246,10 @@ MUST = (
        "next refused 13", "next, unused ones alone")]
     + [f"{c}: {x}" for c in ("delete", "delete_all", "compact") for x in ("done", "refused 11", "room behind the last, a hole", "room behind the last, no hole",
        "the last slot used, a hole", "the last slot used, no hole")]
-    + [f"delete: {x}" for x in ("refused 13", "the only", "the first", "the last", "in the middle", "an unused record", "beyond the log", "11, 13 too", "11, used")]
-    + [f"delete_all: {x}" for x in ("0 deleted, others left", "0 deleted, none left", "1 deleted, others left", "1 deleted, none left", "2 deleted, others left",
-       "2 deleted, none left", "outcome 0, others left", "outcome 0, none left")] + ["delete_all: no record, no hole", "compact: no record, no hole"]
+    + [f"delete: {x}" for x in ("refused 13", "the only", "the first", "the last", "in the middle", "an unused record", "beyond the log", "11, 13 too",
+       "11, used")]
+    + [f"delete_all: {x} left" for x in ("0 deleted, others", "0 deleted, none", "1 deleted, others", "1 deleted, none", "2 deleted, others", "2 deleted, none",
+       "outcome 0, others", "outcome 0, none")] + ["delete_all: no record, no hole", "compact: no record, no hole"]
     + [f"compact: {x} remain" for x in ("changed, 0", "changed, 1", "changed, 3+", "nothing changes, 0", "nothing changes, 1", "nothing changes, 3+")]
     + [f"keep: refused {n}" for n in (1, 2, 3, 11, 14, 20)] + [f"keep: refusal {a} before {b}" for a, b in [(1, 2), (2, 3), (3, 11), (14, 11), (20, 11)]]
     + [f"keep: {x}" for x in ("0 kept, ends none", "0 kept, ends open", "0 kept, ends full", "2+ kept, ends none", "2+ kept, ends full", "used records stay")]
@@ -1291,8 +1293,8 @@ def coverage(cases) -> str:
         for hit in c.hits:
             counts[hit] = counts.get(hit, 0) + 1
     lines = []
-    for call in ("reading", "walk", "why", "client", "pause", "pfc", "idle", "fcs", "append", "look", "delete", "delete_all", "compact", "keep", "fill", "before", "add", "remove",
-                 "bad", "screen"):
+    for call in ("reading", "walk", "why", "client", "pause", "pfc", "idle", "fcs", "append", "look", "delete", "delete_all", "compact", "keep", "fill",
+                 "before", "add", "remove", "bad", "screen"):
         mine = {k.split(": ", 1)[1]: v for k, v in counts.items() if k.startswith(call + ": ")}
         lines.append(f"{call} ({sum(c.call == call for c in cases)} cases)")
         key = lambda k: [int(w) if w.isdigit() else w for w in k.split()]

@@ -211,8 +211,9 @@ def fields(c):
     sent = [("kind", 1), ("refusal", 1), ("place", 1)] + STATE + [("octets", len(c.octets or [])), ("marks", len(c.marks or [])), ("totals", None)]
     place = 0
     known = {"reading": READING, "walk": WALK, "why": WHY, "fcs": [("check", 1), ("its octets", None)], "append": LOGGING, "look": LOOK, "delete": LOGGING,
-             "delete_all": [("refusal", 1), ("how many", 1), ("log", None)], "compact": LOGGING, "keep": KEEP, "fill": [("refusal", 1), ("totals", None)], "before": [("refusal", 1), ("Starts", None)], "add": CHANGE, "remove": CHANGE,
-             "bad": [("20", None)], "screen": [("refusal", 1), ("part", 2), ("octets of the part", None)]}
+             "delete_all": [("refusal", 1), ("how many", 1), ("log", None)], "compact": LOGGING, "keep": KEEP, "fill": [("refusal", 1), ("totals", None)],
+             "before": [("refusal", 1), ("Starts", None)], "add": CHANGE, "remove": CHANGE, "bad": [("20", None)],
+             "screen": [("refusal", 1), ("part", 2), ("octets of the part", None)]}
     for name, n in known.get(c.call, sent):
         n = len(c.answer) - place if n is None else n
         yield name, place, n
