@@ -1,8 +1,9 @@
-"""An independent model of document 01 with items 1 to 11 of document 02, written from their text alone and not from the definitions in crates/*/specs.
+"""An independent model of document 01 with items 1 to 12 of document 02, written from their text alone and not from the definitions in crates/*/specs.
 
 Each piece stands under the sentence of the documents that it renders. The check is zlib's crc32, not a loop of our own, and a log's record is laid
 out by struct.
 """
+import random
 import struct
 import zlib
 from dataclasses import dataclass, field, replace
@@ -394,6 +395,122 @@ def showing(s: Settings, captures: List[Tuple[List[int], List[int]]], place: int
     r = reading(s, State(), octets, marks, place, job, table)
     assert r.data == octets[r.part[0]:sum(r.part)]
     return r.refusal, r.part
+
+
+# ---- A plain reader (item 12)
+
+# "the first octets" of a run: the rules look at none behind the preamble, the addresses, eight tags and a field; a control frame's quanta end before that
+FIRST = 7 + 12 + 4 * MOST_TAGS + 2
+
+
+@dataclass(frozen=True)
+class Run:
+    """"keeps a run count, the first octets and a running FCS in its state". The check runs four octets behind, since the last four may be the FCS."""
+    count: int = 0
+    first: List[int] = field(default_factory=list)
+    check: int = 0  # of the frame's octets before the last four
+    last: List[int] = field(default_factory=list)
+
+    def with_octet(self, octet: int) -> "Run":
+        of_frame = self.last + [octet] * (self.count >= 7)
+        check_on = zlib.crc32(bytes(of_frame[:-4]), self.check)
+        return Run(self.count + 1, (self.first + [octet])[:FIRST], check_on, of_frame[-4:])
+
+    def number(self, place: int) -> int:
+        """Two octets of the frame, "read high octet first"; fewer where the run is shorter."""
+        return int.from_bytes(bytes(self.first[7 + place:9 + place]), "big")
+
+
+@dataclass(frozen=True)
+class PlainReader:
+    """Open point: a reader reads one capture from its front; counters and timers go on from the state that it is given."""
+    taken: int = 0  # how many symbols
+    run: Optional[Run] = None  # "stop with a run in progress exactly when the walk says `open`"
+    state: State = field(default_factory=State)
+
+
+@dataclass(frozen=True)
+class Ended:
+    outcome: int
+    status: int = 0
+    part: Tuple[int, int] = (0, 0)  # "the data's place and length in the capture, 0 and 0 for outcomes 1 to 10"
+    address: int = 0
+
+
+@dataclass
+class Taking:
+    refusal: int  # 0: taken
+    ended: Optional[Ended]  # "answers at each ending control symbol"
+    reader: PlainReader
+
+
+def run_ended(s: Settings, reader: PlainReader, by: int, mine: Own) -> Tuple[Ended, State]:
+    """All rules on one page, without a Frame; what a short run lacks is never asked for, since rows 1 to 3 stand in front."""
+    run, state = reader.run, reader.state
+    length, destination, opcode = run.count - 7, run.first[7:13], run.number(14)
+    tags = next((n for n in range(MOST_TAGS) if run.number(12 + 4 * n) not in TAG_KINDS), MOST_TAGS)
+    number, data = run.number(12 + 4 * tags), length - 18 - 4 * tags
+    if number < 46:
+        keeps_length = data in (46, max(number, 46 - 4 * tags))
+    else:
+        keeps_length = number >= 1536 or number <= 1500 and data == number
+    control, to_group, to_own = run.number(12) == CONTROL, destination == RESERVED_GROUP, destination == s.own
+    everyone, otherwise = destination == BROADCAST, 7 if s.promiscuous else 0
+    if control and to_group:
+        address = 8
+    elif everyone:
+        address = 6 if s.broadcast else otherwise
+    else:
+        address = 1 if to_own else next((16 + n for n, entry in mine if entry == destination), otherwise)
+    outcome = next(row for row, holds in [
+        (1, by != TERMINATE), (2, run.first[:7] != PREAMBLE), (3, length < 64), (4, length > s.limit + 4 * tags),
+        (5, int.from_bytes(bytes(run.last), "little") != run.check), (6, s.checking and not keeps_length), (7, address == 0),
+        (8, control and (to_group or to_own) and opcode == 0x0001 and s.flow == "pause"),
+        (9, control and to_group and opcode == 0x0101 and s.flow == "PFC"), (10, control and not s.pass_control), (11, True)] if holds)
+    state = counted(state, outcome)
+    if outcome <= 7:
+        return Ended(outcome), state
+    named = {8: 0xFF, 9: run.number(16) % 256}.get(outcome, 0)
+    quanta = [run.number(16 if outcome == 8 else 18 + 2 * n) for n in range(8)]
+    state = replace(state, timers=[64 * quanta[n] if named >> n & 1 else state.timers[n] for n in range(8)])
+    group, handed = destination[0] % 2 == 1, number if outcome == 11 and s.checking and number < 46 else data
+    bits = [outcome == 9, not group, group and not everyone, everyone, outcome == 8, control, tags == 1, tags > 1]  # 39 to 32
+    status = int("".join(str(int(bit)) for bit in bits), 2) << 32 | length << 16 | handed
+    # The run ends right before the symbol that is being taken.
+    return Ended(outcome, status, (reader.taken - length + 14 + 4 * tags, handed) if outcome == 11 else (0, 0), address), state
+
+
+def taking(s: Settings, reader: PlainReader, octet: int, mark: int, job: int = 0, table: Table = EMPTY) -> Taking:
+    """"it takes one symbol at a time"; "Refusals: 1, 14, 20 as in reading, then 2 for a symbol after 65,536 of them, with the state kept." Open point: a run is
+    judged by what comes with its ending symbol."""
+    refusal = first((1, bad_settings(s)), (14, bad_job(job)), (20, bad_table(table))) or first((2, reader.taken >= 65536))
+    if refusal:
+        return Taking(refusal, None, reader)
+    ended, run, state = None, reader.run, reader.state
+    if not is_data(mark):
+        if run is not None:
+            ended, state = run_ended(s, reader, octet, own_entries(table, job))
+        run = Run() if is_start(octet, mark) else None  # also the one that ended a run
+    elif run is not None:
+        run = run.with_octet(octet)
+    return Taking(0, ended, PlainReader(reader.taken + 1, run, state))
+
+
+def plain_walk(s: Settings, state: State, octets: List[int], marks: List[int], job: int = 0, table: Table = EMPTY) -> Tuple[int, List[Ended], PlainReader]:
+    """A capture taken symbol by symbol, to its end or a refusal: that one or 0, what ended, and the reader then."""
+    reader, answers = PlainReader(state=state), []
+    for octet, mark in zip(octets, marks):
+        step = taking(s, reader, octet, mark, job, table)
+        reader, answers = step.reader, answers + [step.ended] * (step.ended is not None)
+        if step.refusal:
+            return step.refusal, answers, reader
+    # "It must give the same outcomes, status words, counters and timers as the walk over any valid capture, and stop with a run in progress exactly when the
+    # walk says `open`."
+    *starts, last = walk(s, state, octets, marks, 0, job, table)
+    if last.kind != "refused":
+        assert answers == [Ended(r.outcome, r.status, r.part, r.address) for r in starts]
+        assert reader.state == last.state and (reader.run is not None) == (last.kind == "open") and reader.taken == len(octets)
+    return 0, answers, reader
 
 
 # ---- Why was it thrown away? (item 8)
@@ -1447,3 +1564,79 @@ def try_totals():
 
 
 try_totals()
+
+
+# ---- The plain reader, held against the walk
+
+
+def try_plain():
+    own, other, group = PRINTING.own, [2, 0, 0, 0, 0, 9], [1, 2, 3, 4, 5, 6]
+    before = State([2**64 - 1] * 11, [5] * 8, 77)  # a state that any counting and any setting would change
+    table = [None, (0, other), (1, group), (0, BROADCAST), (1, own)] + [None] * 11
+
+    def framed(header, data, destination=own):
+        covered = destination + other + [octet for number in header for octet in high_first(number)] + data
+        return covered + fcs(covered)
+
+    def line(frame, by=TERMINATE):
+        return [(START, 1)] + [(octet, 0) for octet in PREAMBLE + frame] + [(by, 1)]
+
+    def taken(symbols, s=PRINTING, job=0, table_given=EMPTY):
+        """What ended in these symbols, taken behind an Idle and held against the walk."""
+        refusal, answers, reader = plain_walk(s, before, [IDLE] + [octet for octet, _ in symbols], [1] + [mark for _, mark in symbols], job, table_given)
+        assert refusal == 0 and reader.state.deficit == before.deficit
+        return answers
+
+    # Runs of every length, and every front of a capture, that ends open or not; each of the seven octets wrong.
+    good = framed([0x0800], [7] * 46)
+    for n in range(72):
+        run = (PREAMBLE + good)[:n]
+        symbols = [(START, 1)] + [(octet, 0) for octet in run]
+        assert taken(symbols) == [] and taken(symbols + [(ERROR, 1)]) == [Ended(1)] == taken(symbols + [(START, 0x80)])
+        whole = Ended(11, 0x400040002E, (23, 46), 1)
+        assert taken(symbols + [(TERMINATE, 1), (START, 0)]) == [Ended(2) if n < 7 else Ended(3) if n < 71 else whole]
+    for n in range(7):
+        assert taken([(o if at != n + 1 else o ^ 1, mark) for at, (o, mark) in enumerate(line(good))]) == [Ended(2)]
+    # The limits of the frame and the length rule, with each number of tags; the FCS with each octet wrong.
+    tags = [SERVICE, 5, CUSTOMER, 6] * 5
+    for n in (0, 8, 9):
+        most = 1518 + 4 * min(n, 8) - 18 - 4 * n
+        assert [e.outcome for size in (most, most + 1) for e in taken(line(framed(tags[:2 * n] + [0x0800], [7] * size)))] == [11, 4]
+    for n in (0, 1, 2, 8):
+        for number in (0, 14, 15, 42, 45, 46, 47, 1501, 1535, 1536):
+            for size in {46, 47, 46 - 4 * n, min(60, max(number, 46 - 4 * n))}:
+                taken(line(framed(tags[:2 * n] + [number], [7] * size)), replace(PRINTING, checking=n != 2))
+    assert [e.outcome for number in (1500, 1501) for e in taken(line(framed([number], [7] * number)), replace(PRINTING, limit=9618))] == [11, 6]
+    for at in list(range(0, 60, 5)) + [60, 61, 62, 63]:
+        assert taken(line(good[:at] + [good[at] ^ 0x40] + good[at + 1:])) == [Ended(5)]
+    # Addresses, control frames and their timers, by settings of every sort.
+    for number in range(12):
+        job = number % 2
+        s = replace(PRINTING, broadcast=job == 0, promiscuous=number // 2 % 2 == 0, pass_control=job == 1, flow=["none", "pause", "PFC"][number // 4])
+        for destination in (own, other, group, RESERVED_GROUP, BROADCAST):
+            symbols = line(framed([0x0800], [7] * 46, destination)) + line(framed([CUSTOMER, 0, CONTROL], [0, 1] + [7] * 44, destination))
+            for opcode in (0x0100, 0x0101, 1):
+                symbols += line(framed([CONTROL], high_first(opcode) + [9, 0xA6] + list(range(3, 19)) + [7] * 30, destination))
+            taken(symbols, s, job, table)
+    # Drawn symbols and damaged frames.
+    draw = random.Random(12)
+    for _ in range(40):
+        symbols = []
+        for _ in range(draw.randrange(5)):
+            piece = line(framed([draw.choice([0x0800, 20, CONTROL])], [0, 1] + [7] * draw.choice([44, 60])), draw.choice([TERMINATE, START, IDLE]))
+            at = draw.randrange(len(piece))
+            symbols += piece[:at] + [(draw.choice([START, TERMINATE, 0x55, 0xD5]), draw.choice([0, 1])) for _ in range(draw.randrange(4))] + piece[at:]
+        taken(symbols, replace(PRINTING, flow="pause"))
+    # The refusals, one after the other, with the state kept; the symbol 65,536 is taken.
+    bad, broken = replace(PRINTING, limit=0), [(1, own)] * 2 + [None] * 14
+    for at, number in [(0, 0), (65535, 0), (65536, 2), (65537, 2)]:
+        for run in (None, Run(9, [0x55] * 9, 0, [0x55] * 2)):
+            reader = PlainReader(at, run, before)
+            for symbol in [(0x55, 0), (START, 1), (TERMINATE, 1), (IDLE, 1)]:
+                for refusal, given in [(1, (bad, 2, broken)), (14, (PRINTING, 2, broken)), (20, (PRINTING, 1, broken)), (number, (PRINTING, 1, EMPTY))]:
+                    step = taking(given[0], reader, *symbol, *given[1:])
+                    assert step.refusal == refusal and (step.reader == reader if refusal else step.reader.taken == at + 1)
+                    assert (step.ended is not None) == (refusal == 0 and run is not None and symbol[1] == 1)
+
+
+try_plain()

@@ -1,4 +1,4 @@
-//! A reference implementation of document 01, with items 1 to 11 of document 02:
+//! A reference implementation of document 01, with items 1 to 12 of document 02:
 //! the work of an Ethernet MAC on line symbols kept in memory.
 //!
 //! Written from those documents alone, to be compared with the proved program.
@@ -12,6 +12,7 @@ mod counting;
 mod frame;
 mod line;
 mod log;
+mod plain;
 mod port;
 mod print;
 mod reason;
@@ -29,6 +30,7 @@ pub use counting::{send_pause_counting, send_pfc_counting};
 pub use log::{append, append_reading, compact, delete_outcome, delete_record, first_unused};
 pub use log::{record, used_in_front, used_records, walk_log};
 pub use log::{LogEnd, LogReader, Logged, Record};
+pub use plain::{Ended, PlainReader};
 pub use port::Port;
 pub use print::print;
 pub use reason::{explain, Explained, Reason, Why};

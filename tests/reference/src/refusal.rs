@@ -2,7 +2,8 @@
 //! call that makes its checks in their order, with `?` between them, gives the
 //! first: the order is that of the numbers, but 10 stands between 6 and 7, 14
 //! right behind 1, 19, 20, 21 and 22 right behind 3, and 17 before 15. A call on
-//! the table has none of the capture's, so that 20 comes right behind 14 there.
+//! the table has none of the capture's, so that 20 comes right behind 14 there. So
+//! it does in the plain reader, where 2 comes last.
 
 use crate::line::{is_tag, CONTROL_FIELD, FIRST_TYPE, LAST_LENGTH, MAX_SYMBOLS, MAX_TAGS};
 use crate::log::RECORD_LEN;
@@ -31,6 +32,11 @@ pub(crate) fn settings(settings: &Settings) -> Checked {
 pub(crate) fn buffers(octets: &[u8], marks: &[u8]) -> Checked {
     let differ = octets.len() != marks.len();
     refuse(2, differ || octets.len() > MAX_SYMBOLS)
+}
+
+/// Refusal 2 of the plain reader: "for a symbol after 65,536 of them".
+pub(crate) fn symbols(taken: usize) -> Checked {
+    refuse(2, taken >= MAX_SYMBOLS)
 }
 
 /// Refusals 2 and 3. A place equal to the length isn't beyond it.

@@ -3,6 +3,8 @@
 use reference::{read, walk, Answer, Check, Entry, Flow, Reading, Settings, State, Table};
 use reference::{Lent, Tag, TagKind, Walked};
 
+use crate::plain;
+
 pub const KINDS: [Check; 3] = [Check::Bitwise, Check::ByteTable, Check::Slicing16];
 
 pub const IDLE: u8 = 0x07;
@@ -243,11 +245,14 @@ pub struct Seen {
 }
 
 /// Reads a single frame and checks everything that doesn't depend on it: the
-/// places, the one counter that rises, the empty parts of outcomes 1 to 10, and
-/// that an address let in exactly those of outcomes 8 to 11.
+/// places, the one counter that rises, the empty parts of outcomes 1 to 10, that
+/// an address let in exactly those of outcomes 8 to 11, and that the plain reader
+/// says the same.
 pub fn see_with(by: impl Into<Reader>, state: &mut State, frame: &[u8]) -> Seen {
+    let by = by.into();
     let capture = Capture::new().frame(frame).control(IDLE);
     let mut expected = *state;
+    plain::check(&by, &capture, expected);
     let reading = capture.read(by, state, 0);
     assert_eq!(reading.start, 0);
     assert_eq!(reading.next, 8 + frame.len());

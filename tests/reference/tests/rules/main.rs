@@ -1,4 +1,4 @@
-//! The rules of document 01 and of items 1 to 11 of document 02, one module for
+//! The rules of document 01 and of items 1 to 12 of document 02, one module for
 //! each part.
 
 mod addresses;
@@ -10,6 +10,7 @@ mod hand;
 mod jobs;
 mod limits;
 mod log;
+mod plain;
 mod printing;
 mod reading;
 mod reasons;
