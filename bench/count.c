@@ -1,5 +1,5 @@
 /*
- * The driver of tools/count_instructions: `count walk|keep|read|explain|send|lanes OCTETS FRAMES` has that many untagged frames of that size walked in one
+ * The driver of tools/count_instructions: `count walk|keep|read|explain|plain|send|lanes OCTETS FRAMES` has that many untagged frames of that size walked in one
  * call, walked and kept in a log, read, explained or sent one by one, or sent so on the four-lane port. They are good ones of a type, to the own address; of
  * 0 octets they are Starts alone, each of which cuts the one before it. All that is done beside is the same for any number of frames, so that the difference
  * between two numbers is what the frames took. Exits with 1 if an answer is not as expected.
@@ -118,6 +118,16 @@ static void keep_frames(size_t frames, size_t symbols) {
   expect(kept_records[frames - 1].outcome == outcome, "a frame has another outcome");
 }
 
+/* Symbol by symbol, by the plain reader: a frame, its gap too. */
+static void push_frames(size_t frames, size_t symbols) {
+  fenhamper_plain reader = fenhamper_plain_reader();
+  fenhamper_told told;
+  size_t place;
+  for (place = 0; place < symbols; place++)
+    fenhamper_plain_symbol(&settings, 0, &table, &state, (uint64_t *)&reader, reader.first, reader.last, octets[place], marks[place], &told);
+  expect(fenhamper_counter(&state, outcome) == frames, "a frame has another outcome");
+}
+
 int main(int words, char **word) {
   size_t size, frames, frame, symbols;
   expect(words == 4, "count walk|keep|read|explain|send|lanes OCTETS FRAMES");
@@ -133,6 +143,7 @@ int main(int words, char **word) {
     case 'w': walk_frames(frames, symbols); break;
     case 'k': keep_frames(frames, symbols); break;
     case 'r': read_frames(frames); break;
+    case 'p': push_frames(frames, symbols); break;
     case 'e': explain_frames(frames); break;
     case 'l': port = FENHAMPER_PORT_FOUR_LANE; /* and as the next */
     /* fall through */

@@ -1,7 +1,7 @@
 #!/usr/bin/env python3
-"""The programs `readings` and `why`, as built, against the independent model (tools/oracle/model.py).
+"""The programs `readings`, `plain_readings` and `why`, as built, against the independent model (tools/oracle/model.py).
 
-`tests/printing.py [FOLDER] [N] [SEED]` runs both of FOLDER (target/bin if none is named) on every sample, on the edges of document 01, "The
+`tests/printing.py [FOLDER] [N] [SEED]` runs each of FOLDER (target/bin if none is named) on every sample, on the edges of document 01, "The
 printing program", and on N drawn inputs (300), each whole from a file and, of `readings`, again in short pieces through a pipe. Standard output is
 compared to the octet; exit status 0 and nothing on standard error are asked for. It says how many inputs agree, or the first difference, and then
 exits 1.
@@ -180,7 +180,7 @@ def agree(program, text, ways, inputs, rng):
 def main():
     folder = Path(sys.argv[1]).resolve() if len(sys.argv) > 1 else ROOT / "target" / "bin"
     n, seed = int(sys.argv[2]) if len(sys.argv) > 2 else 300, int(sys.argv[3]) if len(sys.argv) > 3 else 1
-    for name in ("readings", "why"):
+    for name in ("readings", "plain_readings", "why"):
         if not (folder / name).is_file():
             fail(f"no program {folder / name}; `rt check {name}` builds target/bin/{name}")
     stale = make.differences()  # so that the samples kept, and what stands beside them, are the model's
@@ -191,6 +191,8 @@ def main():
     inputs.update(edges())
     inputs.update({f"drawn input {i} of seed {seed}": drawn(rng) for i in range(n)})
     agree(folder / "readings", printed, [("whole", whole), ("in pieces", in_pieces)], inputs, rng)
+    # "prints what `readings` prints, octet for octet" (document 02, item 12)
+    agree(folder / "plain_readings", printed, [("whole", whole), ("in pieces", in_pieces)], inputs, rng)
     agree(folder / "why", whys, [("whole", whole)], inputs, rng)
 
 

@@ -1,6 +1,7 @@
 #!/usr/bin/env python3
 """Holds docs/DEFINITIONS.md and docs/PROMISES.md to the sources: every definition and record of crates/*/specs is named there, and every
-name and theorem there exists; and README.md to the samples that it shows.
+name and theorem there exists; README.md to the samples that it shows; and docs/PLAIN.md to the reader's code, all of it and in its order but for
+what it uses and promises, and to the model's rows of its worked capture.
 
 Every public function and no other is in docs/PROMISES.md, each with two must-fail edits or more, and every edit named there exists. Internal files (those whose first line
 says `Internal`) need not be named. Prints what is missing and exits 1, or says nothing.
@@ -65,6 +66,18 @@ for row in re.findall(r"^\| `\w+::\w+`.*$", promises, re.M):
         missing.append(f"docs/PROMISES.md: fewer than two edits: {row.split('|')[1].strip()}")
 readme = (root / "README.md").read_text()
 missing += [f"README.md: samples/{name} is not shown as it is" for name in ("first.txt", "first.log.txt", "room.log.txt") if (root / "samples" / name).read_text() not in readme]
+# docs/PLAIN.md: the code of the reader, and the worked capture
+sys.dont_write_bytecode = True
+sys.path.insert(0, str(root / "tools" / "oracle"))
+import plain_page  # noqa: E402
+
+plain = (root / "docs" / "PLAIN.md").read_text()
+shown = [line for block in re.findall(r"^```rust\n(.*?)^```", plain, re.M | re.S) for line in block.split("\n") if line.strip()]
+code = (root / "crates" / "plain" / "src" / "lib.rt").read_text()
+code = code[code.index("// The reader between"):]
+if shown != [line for line in code.split("\n") if line.strip() and not line.strip().startswith("ensures")]:
+    missing.append("docs/PLAIN.md: the code is not crates/plain/src/lib.rt")
+missing += [f"docs/PLAIN.md: no row {row}" for row in plain_page.rows() if row not in plain]
 for line in missing:
     print(line)
 sys.exit(1 if missing else 0)

@@ -1,5 +1,5 @@
 //! Fenhamper's speed beside an independent Rust program and C: symbols per second of `walk`, of
-//! `walk_log`, of `read` and `explain` Start by Start, of sending, of room in a log and of totals.
+//! `walk_log`, of `read` and `explain` Start by Start, of the plain reader symbol by symbol, of sending, of room in a log and of totals.
 #![deny(unsafe_code)]
 mod baseline;
 mod captures;
@@ -32,7 +32,7 @@ bench/run [--markdown FILE] [--rounds N] [--turn MILLISECONDS]
 const SIZES: [usize; 8] = [128, 1024, 2048, 4096, 8192, 16_384, 32_768, 65_536];
 
 /// What reads and what sends, in the order of the table.
-const READINGS: [&str; 5] = ["walk", "walk_log", "read", "readings", "explain"];
+const READINGS: [&str; 6] = ["walk", "walk_log", "read", "readings", "explain", "plain"];
 const SENDINGS: [(&str, Port, bool); 3] = [
     ("send", Port::Plain, false),
     ("send, four lanes", Port::FourLane, false),
@@ -108,12 +108,21 @@ impl Bench {
             independent(Check::ByteTable, By::Explain),
             independent(Check::Slicing16, By::Explain),
         ];
+        // a call for each symbol, beside the same captures
+        let mut plains: Rivals = vec![
+            proved(By::Plain),
+            independent(Check::ByteTable, By::Plain),
+            independent(Check::Slicing16, By::Plain),
+        ];
         let counted = agree(name, &mut walks);
         let read = agree(name, &mut reads);
         assert!(counted == read, "{name}: walk and read count otherwise");
         let explained = agree(name, &mut whys);
         assert!(read == explained, "{name}: explain counts otherwise");
+        let pushed = agree(name, &mut plains);
+        assert!(read == pushed, "{name}: the plain reader counts otherwise");
         reads.append(&mut whys);
+        reads.append(&mut plains);
 
         let walk = self.rates(symbols, &mut walks);
         let read = self.rates(symbols, &mut reads);
@@ -129,6 +138,7 @@ impl Bench {
                 read[4],
                 [Some(read[5]), Some(read[6]), None, None],
             ),
+            row("plain", read[7], [Some(read[8]), Some(read[9]), None, None]),
         ];
         // the iterator is the same call for each Start: good traffic shows what it adds or saves
         if kind.has_frames() {

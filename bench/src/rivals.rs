@@ -3,7 +3,7 @@ use std::hint::black_box;
 
 use fenhamper::limits::RECORD_SIZE;
 use fenhamper::{blocks, Address, Capture, End, Explained, Frame, Log, Reading, Reason};
-use fenhamper::{Listener, Sender, Settings, State, Table};
+use fenhamper::{Listener, Plain, Sender, Settings, State, Symbol, Table};
 use reference::{Answer, Check, Client, Form, Port, Sent, Walked, Why};
 
 use crate::baseline::{self, Reader};
@@ -95,6 +95,8 @@ pub enum By {
     WalkLog,
     /// A call for each Start that says why it has its outcome.
     Explain,
+    /// A call for each symbol, by the plain reader.
+    Plain,
 }
 
 // Job 0 with this table.
@@ -224,6 +226,22 @@ impl<'a> Proved<'a> {
         tally
     }
 
+    fn plain(&mut self, capture: Capture) -> Tally {
+        let mut tally = Tally::default();
+        let listener = listener(&self.settings, &self.table);
+        let mut plain = Plain::new(listener).with_state(self.state.clone());
+        for symbol in capture.records().map(Symbol::from) {
+            if let Ok(Some(told)) = plain.push(symbol) {
+                tally.count += 1;
+                tally.octets += told.length;
+                tally.status = tally.status.wrapping_add(told.status.word());
+            }
+        }
+        tally.open = plain.is_open();
+        self.state = plain.state;
+        tally
+    }
+
     fn readings(&mut self, capture: Capture) -> Tally {
         let mut tally = Tally::default();
         let listener = listener(&self.settings, &self.table);
@@ -258,6 +276,7 @@ impl Rival for Proved<'_> {
             By::Readings => self.readings(capture),
             By::WalkLog => self.walk_log(capture),
             By::Explain => self.explain(capture),
+            By::Plain => self.plain(capture),
         }
     }
 
@@ -274,7 +293,7 @@ impl Rival for Proved<'_> {
     }
 }
 
-/// The reference, reading by its walk or Start by Start, or explaining.
+/// The reference, reading by its walk, Start by Start or symbol by symbol, or explaining.
 pub struct Independent<'a> {
     check: Check,
     by: By,
@@ -336,6 +355,19 @@ impl Rival for Independent<'_> {
                     Why::None | Why::Refused(_) => return tally,
                 }
             },
+            By::Plain => {
+                let mut reader = reference::PlainReader::new(*state);
+                for (&octet, &mark) in octets.iter().zip(marks) {
+                    if let Ok(Some(ended)) = reader.take(check, s, READER, table, octet, mark) {
+                        tally.count += 1;
+                        tally.octets += ended.len;
+                        tally.status = tally.status.wrapping_add(ended.status);
+                    }
+                }
+                tally.open = reader.run().is_some();
+                *state = *reader.state();
+                return tally;
+            }
             By::Read | By::Readings | By::WalkLog => {}
         }
         loop {

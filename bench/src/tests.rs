@@ -26,7 +26,9 @@ fn same(name: &str, line: &Line, limit: u16) -> Vec<u64> {
     let mut reads: Rivals = vec![
         Box::new(Proved::new(By::Read, line, limit)),
         Box::new(Proved::new(By::Readings, line, limit)),
+        Box::new(Proved::new(By::Plain, line, limit)),
         Box::new(Independent::new(Check::Slicing16, By::Read, line, limit)),
+        Box::new(Independent::new(Check::Slicing16, By::Plain, line, limit)),
     ];
     let mut whys: Rivals = vec![
         Box::new(Proved::new(By::Explain, line, limit)),

@@ -7,7 +7,8 @@
  *   Reentrant     Yes. Nothing is kept between calls but what the caller lends.
  *   Stack         At most FENHAMPER_STACK_READ octets for a reading, its reason or a call on a log or a table,
  *                 .._SCREEN for the screen's data, .._SEND for a sending call, .._COUNTED for one with totals,
- *                 .._WALK for a walk, of which 16 KB are for tables of the FCS; a test measures them.
+ *                 .._WALK for a walk, of which 16 KB are for tables of the FCS, .._PLAIN for a symbol of the plain
+ *                 reader; a test measures them.
  *   Client data   Of a reading: data_length octets from octets + data_place on, in the caller's own octets and
  *                 never a copy. They always lie inside, so that no fenhamper_client_data is needed for them.
  *
@@ -82,6 +83,9 @@ static uint32_t (*const fenhamper_layout)(void) __attribute__((used)) = fenhampe
 #define FENHAMPER_STACK_SEND 640     /* the sending calls and Idle fill, and the two calls on totals alone */
 #define FENHAMPER_STACK_COUNTED 768  /* the sending calls and Idle fill with totals */
 #define FENHAMPER_STACK_WALK 18944   /* fenhamper_walk and fenhamper_walk_log */
+#define FENHAMPER_STACK_PLAIN 1536   /* fenhamper_plain_symbol and fenhamper_plain_fresh */
+#define FENHAMPER_PLAIN_FIRST 53     /* octets of a run that the plain reader keeps from its front, */
+#define FENHAMPER_PLAIN_LAST 4       /* and from its end */
 
 /* ---- settings */
 
@@ -187,14 +191,14 @@ typedef enum fenhamper_outcome {
 
 /*
  * Why a call was refused: the first that holds, in the order of their numbers, but that 14 is tested right after 1; 19,
- * 20, 21 and 22 right after 3; 10 after 6 and before 7; and, where an address is added, 17 before 15 and 16. So a
- * reading and its reason are refused by 1, 14, 2, 3 or 20, a walk that keeps its readings by these or 11, an addition
- * by 14, 20, 17, 15 or 16, a removal by 14, 20 or 18, in these orders. A refused call leaves the state, every symbol,
- * the totals, the log and the table.
+ * 20, 21 and 22 right after 3; 10 after 6 and before 7; where an address is added, 17 before 15 and 16; and, of a symbol
+ * of the plain reader, 2 last. So a reading and its reason are refused by 1, 14, 2, 3 or 20, a walk that keeps its
+ * readings by these or 11, an addition by 14, 20, 17, 15 or 16, a removal by 14, 20 or 18, a symbol by 1, 14, 20 or 2,
+ * in these orders. A refused call leaves the state, every symbol, the totals, the log, the table and the reader.
  */
 typedef enum fenhamper_refusal {
   FENHAMPER_BAD_SETTINGS = 1,    /* own address is a group, or M out of range */
-  FENHAMPER_BAD_BUFFERS = 2,     /* octets and marks differ in length, or exceed FENHAMPER_MOST_SYMBOLS */
+  FENHAMPER_BAD_BUFFERS = 2,     /* octets and marks differ in length, or exceed FENHAMPER_MOST_SYMBOLS; one symbol more */
   FENHAMPER_BAD_PLACE = 3,       /* place beyond the buffers' length; on the four-lane port also one not divisible by 4 */
   FENHAMPER_OTHER_FLOW = 4,      /* pause or PFC asked in another flow mode */
   FENHAMPER_BAD_CLASS = 5,       /* class above 7 */
@@ -353,6 +357,53 @@ FENHAMPER_HOLDS(offsetof(fenhamper_record, outcome) == 4);
 FENHAMPER_HOLDS(offsetof(fenhamper_record, way) == 5);
 FENHAMPER_HOLDS(offsetof(fenhamper_record, data_length) == 6);
 FENHAMPER_HOLDS(offsetof(fenhamper_record, status) == 8);
+
+/*
+ * The plain reader between two symbols: it takes one at a time and keeps no capture. Counters and timers stand in the
+ * state beside it. Any values are some reader; fenhamper_plain_fresh makes the one before the first symbol.
+ */
+typedef struct fenhamper_plain {
+  uint64_t place;                       /* symbols taken, the next one's place; its low 32 bits are read, as of the next */
+  uint64_t running;                     /* is a run in progress? 0 no, anything else yes; written as 0 or 1 */
+  uint64_t start;                       /* the place of the last control symbol: of a run in progress its Start */
+  uint64_t count;                       /* octets behind it, 65,535 at most; the low 16 bits are read */
+  uint64_t check;                       /* the FCS register over those behind the preamble but the last; 32 bits are read */
+  uint64_t spare[3];                    /* not looked at, and written as 0 */
+  uint8_t first[FENHAMPER_PLAIN_FIRST]; /* its first octets */
+  uint8_t last[FENHAMPER_PLAIN_LAST];   /* its last octets, which may be the FCS */
+  uint8_t unused[7];                    /* not looked at, and not written */
+} fenhamper_plain;
+FENHAMPER_HOLDS(sizeof(fenhamper_plain) == 128);
+FENHAMPER_HOLDS(offsetof(fenhamper_plain, place) == 0);
+FENHAMPER_HOLDS(offsetof(fenhamper_plain, running) == 8);
+FENHAMPER_HOLDS(offsetof(fenhamper_plain, start) == 16);
+FENHAMPER_HOLDS(offsetof(fenhamper_plain, count) == 24);
+FENHAMPER_HOLDS(offsetof(fenhamper_plain, check) == 32);
+FENHAMPER_HOLDS(offsetof(fenhamper_plain, spare) == 40);
+FENHAMPER_HOLDS(offsetof(fenhamper_plain, first) == 64);
+FENHAMPER_HOLDS(offsetof(fenhamper_plain, last) == 117);
+FENHAMPER_HOLDS(offsetof(fenhamper_plain, unused) == 121);
+
+/* What the plain reader tells at a symbol. */
+typedef struct fenhamper_told {
+  uint64_t refusal;     /* 0, or the refusal: then the rest is 0 */
+  uint64_t counted;     /* 1 if a run ended here and its Start was counted; else 0, and so is the rest */
+  uint64_t outcome;     /* 1 to 11 if counted */
+  uint64_t status;      /* the status word */
+  uint64_t data_place;  /* the client data: from this place in the capture on, counted from the reader's first symbol, */
+  uint64_t data_length; /* so many octets, 0 possible for outcome 11; else 0 and 0 */
+  uint64_t way;         /* FENHAMPER_WAY_..: which address let the frame in; 0 unless the outcome is 8 to 11 */
+  uint64_t spare;       /* written as 0 */
+} fenhamper_told;
+FENHAMPER_HOLDS(sizeof(fenhamper_told) == 64);
+FENHAMPER_HOLDS(offsetof(fenhamper_told, refusal) == 0);
+FENHAMPER_HOLDS(offsetof(fenhamper_told, counted) == 8);
+FENHAMPER_HOLDS(offsetof(fenhamper_told, outcome) == 16);
+FENHAMPER_HOLDS(offsetof(fenhamper_told, status) == 24);
+FENHAMPER_HOLDS(offsetof(fenhamper_told, data_place) == 32);
+FENHAMPER_HOLDS(offsetof(fenhamper_told, data_length) == 40);
+FENHAMPER_HOLDS(offsetof(fenhamper_told, way) == 48);
+FENHAMPER_HOLDS(offsetof(fenhamper_told, spare) == 56);
 
 /* A sending call's answer. */
 typedef struct fenhamper_sent {
@@ -569,6 +620,25 @@ void fenhamper_fill_idle_counted(fenhamper_state *state, uint8_t *octets, size_t
                                  size_t marks_length, uint16_t *totals, size_t totals_length, size_t place,
                                  size_t idles, fenhamper_sent *sent);
 
+/*
+ * The plain reader, by the parts of its record: `numbers` are its first 64 octets. fenhamper_plain_push below takes the
+ * record itself.
+ */
+
+/* A reader before the first symbol of a capture. */
+void fenhamper_plain_fresh(uint64_t numbers[8], uint8_t first[FENHAMPER_PLAIN_FIRST],
+                           uint8_t last[FENHAMPER_PLAIN_LAST]);
+
+/*
+ * Take the next symbol, as the job with this number. A control symbol behind a Start's run ends it: its outcome is
+ * counted and told, and a pause or PFC frame sets timers, as by a reading of that Start; by no other symbol is the
+ * state written. Refusals are the first of 1, 14, 20 and 2 (FENHAMPER_MOST_SYMBOLS were taken), and leave reader and
+ * state as they were, to the bit.
+ */
+void fenhamper_plain_symbol(const fenhamper_settings *settings, uint8_t job, const fenhamper_table *table,
+                            fenhamper_state *state, uint64_t numbers[8], uint8_t first[FENHAMPER_PLAIN_FIRST],
+                            uint8_t last[FENHAMPER_PLAIN_LAST], uint8_t octet, uint8_t mark, fenhamper_told *told);
+
 /* The FCS of octets, as a number whose low octet is sent first. */
 uint32_t fenhamper_fcs(const uint8_t *octets, size_t length);
 
@@ -698,6 +768,26 @@ static inline uint32_t fenhamper_captures_screen(const fenhamper_settings *setti
                                captures[0].marks, captures[0].length, captures[1].octets, captures[1].length,
                                captures[1].marks, captures[1].length, place, part);
 }
+
+/* The plain reader, as one record: a fresh one. */
+static inline fenhamper_plain fenhamper_plain_reader(void) {
+  fenhamper_plain plain = FENHAMPER_ZEROS;
+  fenhamper_plain_fresh((uint64_t *)&plain, plain.first, plain.last);
+  return plain;
+}
+
+/* Its next symbol. Here too the table may be null. */
+static inline fenhamper_told fenhamper_plain_push(const fenhamper_settings *settings, uint8_t job,
+                                                  const fenhamper_table *table, fenhamper_state *state,
+                                                  fenhamper_plain *plain, uint8_t octet, uint8_t mark) {
+  fenhamper_told told;
+  fenhamper_plain_symbol(settings, job, fenhamper_table_or_empty(table), state, (uint64_t *)plain, plain->first,
+                         plain->last, octet, mark, &told);
+  return told;
+}
+
+/* Whether a run is in progress: a capture that ends here ends OPEN. */
+static inline int fenhamper_plain_open(const fenhamper_plain *plain) { return plain->running != 0; }
 
 /* Here data of no octets may be null. */
 static inline fenhamper_sent fenhamper_line_client(const fenhamper_settings *settings, fenhamper_state *state,

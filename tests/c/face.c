@@ -1401,6 +1401,218 @@ static void jobs_do_not_see_each_other(void) {
 }
 
 /* What is spare in the settings is not looked at, by readings or by sendings. */
+/* ---- the plain reader */
+
+static uint8_t many[FENHAMPER_MOST_SYMBOLS], many_marks[FENHAMPER_MOST_SYMBOLS];
+
+/* Whether what is told at a symbol is what a reading said of the Start whose run it ends. */
+static int tells(fenhamper_told told, const fenhamper_reading *r) {
+  return told.refusal == 0 && told.counted == 1 && told.outcome == r->outcome && told.status == r->status && told.data_place == r->data_place &&
+         told.data_length == r->data_length && told.way == r->way && told.spare == 0;
+}
+
+/* Nothing at all. */
+static int quiet(fenhamper_told told) {
+  static const fenhamper_told zeros = FENHAMPER_ZEROS;
+  return memcmp(&told, &zeros, sizeof told) == 0;
+}
+
+/* Symbol by symbol, beside reading after reading: same answers at each ending symbol and none elsewhere, same state, open at the same ends. */
+static int reads_plainly(const fenhamper_settings *s, uint8_t job, const fenhamper_table *listed, fenhamper_capture capture) {
+  fenhamper_state by_symbol, by_reading;
+  fenhamper_plain reader = fenhamper_plain_reader();
+  fenhamper_reading r;
+  size_t place;
+  fenhamper_fresh_state(&by_symbol);
+  fenhamper_fresh_state(&by_reading);
+  r = fenhamper_capture_read(s, job, listed, &by_reading, capture, 0);
+  for (place = 0; place < capture.length; place++) {
+    fenhamper_told told = fenhamper_plain_push(s, job, listed, &by_symbol, &reader, capture.octets[place], capture.marks[place]);
+    if (r.kind == FENHAMPER_COUNTED && r.next == place) {
+      if (!tells(told, &r) || memcmp(&by_symbol, &by_reading, sizeof by_symbol) != 0) return 0;
+      r = fenhamper_capture_read(s, job, listed, &by_reading, capture, (size_t)r.next);
+    } else if (!quiet(told)) {
+      return 0;
+    }
+  }
+  return r.kind != FENHAMPER_COUNTED && fenhamper_plain_open(&reader) == (r.kind == FENHAMPER_OPEN) && reader.place == capture.length;
+}
+
+static void a_plain_reader_begins_before_the_first_symbol(void) {
+  static const uint8_t zeros[FENHAMPER_PLAIN_FIRST + FENHAMPER_PLAIN_LAST] = FENHAMPER_ZEROS;
+  fenhamper_plain reader;
+  memset(&reader, 0xA5, sizeof reader);
+  fenhamper_plain_fresh((uint64_t *)&reader, reader.first, reader.last);
+  CHECK(reader.place == 0 && reader.running == 0 && reader.start == 0 && reader.count == 0 && reader.check == 0xFFFFFFFF);
+  CHECK(reader.spare[0] == 0 && reader.spare[1] == 0 && reader.spare[2] == 0);
+  CHECK(memcmp(reader.first, zeros, sizeof reader.first) == 0 && memcmp(reader.last, zeros, sizeof reader.last) == 0);
+  CHECK(reader.unused[0] == 0xA5 && reader.unused[6] == 0xA5);
+  CHECK(!fenhamper_plain_open(&reader));
+}
+
+static void a_plain_reader_reads_what_readings_read(void) {
+  fenhamper_settings s = fenhamper_settings_for(own);
+  fenhamper_client client = fenhamper_client_to(own);
+  fenhamper_line line = fresh_line();
+  fenhamper_sent sent;
+  size_t end;
+  s.flow = FENHAMPER_FLOW_PAUSE;
+  sent = fenhamper_line_client(&s, &state, FENHAMPER_PORT_PLAIN, line, 3, &client, (const uint8_t *)"plain", 5);
+  fenhamper_add_tag(&client, FENHAMPER_TAG_CUSTOMER, 5);
+  client.destination = group(1);
+  sent = fenhamper_line_client(&s, &state, FENHAMPER_PORT_PLAIN, line, (size_t)sent.place, &client, (const uint8_t *)"listed", 6);
+  sent = fenhamper_line_pause(&s, &state, FENHAMPER_PORT_PLAIN, line, (size_t)sent.place, 5);
+  CHECK(sent.refusal == 0);
+  /* a Start that ends a run and is itself ended */
+  marks[sent.place] = marks[sent.place + 1] = marks[sent.place + 3] = 1;
+  octets[sent.place] = octets[sent.place + 1] = 0xFB;
+  octets[sent.place + 3] = 0xFD;
+  fenhamper_table_empty(&table);
+  CHECK(adds(1, group(1), 0, 0));
+  for (end = 0; end <= sent.place + 4; end++) {
+    CHECK(reads_plainly(&s, 0, NULL, fenhamper_captured(line, end)));
+    CHECK(reads_plainly(&s, 1, &table, fenhamper_captured(line, end)));
+  }
+  octets[40]++;
+  CHECK(reads_plainly(&s, 0, &table, fenhamper_captured(line, end)));
+}
+
+/* A frame's record at its ending symbol, with what the reader keeps before it. */
+static void a_plain_reader_tells_at_the_ending_symbol(void) {
+  fenhamper_settings s = fenhamper_settings_for(own);
+  fenhamper_client client = fenhamper_client_to(own);
+  fenhamper_line line = fresh_line();
+  fenhamper_plain reader = fenhamper_plain_reader();
+  fenhamper_told told;
+  size_t place;
+  CHECK(fenhamper_line_client(&s, &state, FENHAMPER_PORT_PLAIN, line, 2, &client, (const uint8_t *)"talkback", 8).refusal == 0);
+  marks[0] = marks[1] = 1;
+  for (place = 0; place < 74; place++) CHECK(quiet(fenhamper_plain_push(&s, 0, NULL, &state, &reader, octets[place], marks[place])));
+  CHECK(fenhamper_plain_open(&reader) && reader.place == 74 && reader.start == 2 && reader.count == 71);
+  CHECK(memcmp(reader.first, octets + 3, sizeof reader.first) == 0 && memcmp(reader.last, octets + 70, sizeof reader.last) == 0);
+  CHECK(reader.check == fenhamper_fcs_update(0xFFFFFFFF, octets + 10, 60));
+  CHECK(fenhamper_counter(&state, FENHAMPER_HANDED_OUT) == 0);
+  told = fenhamper_plain_push(&s, 0, NULL, &state, &reader, octets[74], marks[74]);
+  CHECK(told.refusal == 0 && told.counted == 1 && told.outcome == FENHAMPER_HANDED_OUT && told.way == FENHAMPER_WAY_OWN);
+  CHECK(told.data_place == 24 && told.data_length == 8 && memcmp(octets + told.data_place, "talkback", 8) == 0);
+  CHECK(told.status == (FENHAMPER_STATUS_UNICAST | 64 << 16 | 8));
+  CHECK(!fenhamper_plain_open(&reader) && reader.place == 75 && reader.start == 74 && reader.count == 0);
+  CHECK(fenhamper_counter(&state, FENHAMPER_HANDED_OUT) == 1);
+}
+
+/* Any mark but 0 is control. */
+static void a_plain_reader_takes_any_mark(void) {
+  fenhamper_settings s = fenhamper_settings_for(own);
+  fenhamper_plain reader = fenhamper_plain_reader();
+  fenhamper_told told;
+  unsigned mark;
+  fenhamper_fresh_state(&state);
+  for (mark = 1; mark < 256; mark++) {
+    CHECK(quiet(fenhamper_plain_push(&s, 0, NULL, &state, &reader, 0xFB, (uint8_t)mark)));
+    CHECK(fenhamper_plain_open(&reader));
+    told = fenhamper_plain_push(&s, 0, NULL, &state, &reader, 0xFD, (uint8_t)mark);
+    CHECK(told.counted == 1 && told.outcome == FENHAMPER_BAD_PREAMBLE);
+    CHECK(quiet(fenhamper_plain_push(&s, 0, NULL, &state, &reader, 0xFB, 0)));
+    CHECK(!fenhamper_plain_open(&reader));
+  }
+  CHECK(fenhamper_counter(&state, FENHAMPER_BAD_PREAMBLE) == 255);
+}
+
+/* Of a reader's numbers the low bits are read, and no more of them comes back; what is unused stays. */
+static void any_values_are_some_plain_reader(void) {
+  fenhamper_settings s = fenhamper_settings_for(own);
+  fenhamper_plain reader, wide;
+  fenhamper_state wide_state;
+  memset(&reader, 0, sizeof reader);
+  memset(&wide, 0xFF, sizeof wide);
+  reader.place = wide.place = 500;
+  reader.running = 1;
+  reader.start = wide.start = 400;
+  reader.count = wide.count = 99;
+  wide.place |= (uint64_t)7 << 32;
+  wide.start |= (uint64_t)7 << 32;
+  wide.count |= (uint64_t)7 << 16;
+  reader.check = 0xFFFFFFFF;
+  memset(reader.first, 0xFF, sizeof reader.first);
+  memset(reader.last, 0xFF, sizeof reader.last);
+  memset(reader.unused, 0xFF, sizeof reader.unused);
+  fenhamper_fresh_state(&state);
+  memset(&wide_state, 0xFF, sizeof wide_state);
+  CHECK(quiet(fenhamper_plain_push(&s, 0, NULL, &state, &reader, 0x12, 0)));
+  CHECK(quiet(fenhamper_plain_push(&s, 0, NULL, &wide_state, &wide, 0x12, 0)));
+  CHECK(memcmp(&reader, &wide, sizeof reader) == 0);
+  CHECK(reader.place == 501 && reader.running == 1 && reader.start == 400 && reader.count == 100 && reader.last[3] == 0x12);
+  /* a symbol that counts no Start leaves the state, whatever stands there */
+  CHECK(wide_state.timers[0] == UINT64_MAX && wide_state.spare[3] == UINT64_MAX);
+  CHECK(fenhamper_plain_push(&s, 0, NULL, &wide_state, &wide, 0xFD, 1).outcome == FENHAMPER_BAD_PREAMBLE);
+  CHECK(wide_state.counters[1] == 0 && wide_state.counters[0] == UINT64_MAX && wide_state.timers[0] == UINT32_MAX && wide_state.spare[3] == 0);
+}
+
+/* After 65,536 symbols no more is taken; before that the last one is. */
+static void a_plain_reader_takes_65536_symbols(void) {
+  fenhamper_settings s = fenhamper_settings_for(own);
+  fenhamper_plain reader, then;
+  fenhamper_capture capture;
+  fenhamper_state before;
+  fenhamper_told told;
+  size_t place;
+  memset(many, 0x55, sizeof many);
+  memset(many_marks, 0, sizeof many_marks);
+  many[0] = 0xFB;
+  many_marks[0] = many_marks[FENHAMPER_MOST_SYMBOLS - 1] = 1;
+  capture.octets = many;
+  capture.marks = many_marks;
+  capture.length = FENHAMPER_MOST_SYMBOLS;
+  CHECK(reads_plainly(&s, 0, NULL, capture));
+  many[FENHAMPER_MOST_SYMBOLS - 1] = 0xFD;
+  CHECK(reads_plainly(&s, 0, NULL, capture));
+  /* the longest run: 65,535 octets */
+  many_marks[FENHAMPER_MOST_SYMBOLS - 1] = 0;
+  reader = fenhamper_plain_reader();
+  fenhamper_fresh_state(&state);
+  for (place = 0; place < FENHAMPER_MOST_SYMBOLS; place++)
+    CHECK(quiet(fenhamper_plain_push(&s, 0, NULL, &state, &reader, many[place], many_marks[place])));
+  CHECK(reader.place == FENHAMPER_MOST_SYMBOLS && reader.count == 65535 && fenhamper_plain_open(&reader));
+  then = reader;
+  before = state;
+  told = fenhamper_plain_push(&s, 0, NULL, &state, &reader, 0xFD, 1);
+  CHECK(told.refusal == FENHAMPER_BAD_BUFFERS);
+  told.refusal = 0;
+  CHECK(quiet(told));
+  CHECK(memcmp(&reader, &then, sizeof reader) == 0 && memcmp(&state, &before, sizeof state) == 0);
+}
+
+/* Every choice of 1, 14, 20 and 2: the first in that order, and what stands anywhere stays, to the bit. */
+static void a_plain_reader_is_refused_in_order(void) {
+  static const uint64_t numbers[] = {FENHAMPER_BAD_SETTINGS, FENHAMPER_BAD_JOB, FENHAMPER_BAD_TABLE, FENHAMPER_BAD_BUFFERS};
+  unsigned wrongs, i;
+  uint8_t mark;
+  for (wrongs = 1; wrongs < 16; wrongs++) {
+    for (mark = 0; mark < 3; mark++) {
+      fenhamper_settings s = fenhamper_settings_for(own);
+      fenhamper_plain reader, then;
+      fenhamper_state before;
+      fenhamper_told told;
+      if (wrongs & 1) s.limit = FENHAMPER_LEAST_LIMIT - 1;
+      fenhamper_table_empty(&table);
+      if (wrongs & 4) {
+        table.entries[3].holder = table.entries[9].holder = FENHAMPER_HOLDER_1;
+      }
+      memset(&reader, 0xEE, sizeof reader);
+      reader.place = wrongs & 8 ? FENHAMPER_MOST_SYMBOLS : FENHAMPER_MOST_SYMBOLS - 1;
+      memset(&state, 0xDD, sizeof state);
+      then = reader;
+      before = state;
+      told = fenhamper_plain_push(&s, wrongs & 2 ? 2 : 1, &table, &state, &reader, 0xFB, mark);
+      for (i = 0; !(wrongs >> i & 1); i++) continue;
+      CHECK(told.refusal == numbers[i]);
+      told.refusal = 0;
+      CHECK(quiet(told));
+      CHECK(memcmp(&reader, &then, sizeof reader) == 0 && memcmp(&state, &before, sizeof state) == 0);
+    }
+  }
+}
+
 static void spare_settings_are_not_looked_at(void) {
   fenhamper_settings s = fenhamper_settings_for(own), worn = s;
   fenhamper_client client = fenhamper_client_to(other);
@@ -1470,5 +1682,12 @@ int main(void) {
   the_screen_shows_the_chosen_job();
   jobs_do_not_see_each_other();
   spare_settings_are_not_looked_at();
+  a_plain_reader_begins_before_the_first_symbol();
+  a_plain_reader_reads_what_readings_read();
+  a_plain_reader_tells_at_the_ending_symbol();
+  a_plain_reader_takes_any_mark();
+  any_values_are_some_plain_reader();
+  a_plain_reader_takes_65536_symbols();
+  a_plain_reader_is_refused_in_order();
   return wrong;
 }

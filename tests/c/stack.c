@@ -21,6 +21,7 @@ static uint8_t octets[FENHAMPER_MOST_SYMBOLS], marks[FENHAMPER_MOST_SYMBOLS], da
 static fenhamper_settings settings;
 static fenhamper_table table;
 static fenhamper_state state;
+static fenhamper_plain plain;
 static fenhamper_client client;
 static uint16_t quanta[FENHAMPER_CLASSES], totals[FENHAMPER_MOST_BLOCKS];
 static size_t symbols;
@@ -198,6 +199,16 @@ static void fill_idle_counted(void) {
   fenhamper_fill_idle_counted(&state, octets, symbols, marks, symbols, totals, FENHAMPER_MOST_BLOCKS, 0, symbols, &sent);
 }
 
+/* The reader's first octets, and at the end of a frame all that is looked at there. */
+static void plain_fresh(void) { plain = fenhamper_plain_reader(); }
+
+static void plain_data(void) { fenhamper_plain_push(&settings, 0, &table, &state, &plain, 0x55, 0); }
+
+static void plain_end(void) {
+  size_t i;
+  for (i = 0; i < 300; i++) fenhamper_plain_push(&settings, 0, &table, &state, &plain, octets[i], marks[i]);
+}
+
 static int over = 0;
 
 static void hold(const char *name, void (*call)(void), size_t bound) {
@@ -242,6 +253,9 @@ int main(void) {
   hold("table_add", table_add, FENHAMPER_STACK_READ);
   hold("table_remove", table_remove, FENHAMPER_STACK_READ);
   hold("table_empty", table_empty, FENHAMPER_STACK_READ);
+  hold("plain_fresh", plain_fresh, FENHAMPER_STACK_PLAIN);
+  hold("plain_symbol, data", plain_data, FENHAMPER_STACK_PLAIN);
+  hold("plain_symbol", plain_end, FENHAMPER_STACK_PLAIN);
   hold("fill_totals", fill_totals, FENHAMPER_STACK_SEND);
   hold("starts_before", starts_before, FENHAMPER_STACK_SEND);
   hold("send_client", send_client, FENHAMPER_STACK_SEND);

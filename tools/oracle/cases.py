@@ -12,6 +12,7 @@ sys.dont_write_bytecode = True  # nothing is written into the repository
 import model
 from model import (BROADCAST, CONTROL, CUSTOMER, EMPTY, ERROR, IDLE, MOST_TAGS, PREAMBLE, RESERVED_GROUP, START, TAG_KINDS, TERMINATE, Client, LogReader,
                    Record, Settings, State, high_first)
+from log_cases import used_records
 from tape import entries, entry_octets
 
 KINDS = {"refused": 0, "none": 1, "open": 2, "counted": 3}
@@ -38,7 +39,7 @@ PUBLISHED = [
 
 @dataclass
 class Case:
-    call: str  # reading, walk, why, client, pause, pfc, idle, fcs; of a log append, look, delete, delete_all,
+    call: str  # reading, walk, why, plain, client, pause, pfc, idle, fcs; of a log append, look, delete, delete_all,
     # compact, keep; of totals fill, before; of two jobs add, remove, bad, screen
     settings: Any = None
     state: Any = None
@@ -112,6 +113,22 @@ def answer_why(c):
     if w.outcome == 11:
         hits.add(f"why: handed out, {'data' if evidence[1] else 'no data'}")
     return [KINDS[w.kind], w.refusal or w.outcome, w.start, w.next] + evidence, hits
+
+
+def answer_plain(c):
+    """All symbols, one by one: what is told at each, and the reader at the end."""
+    reader, told, hits = model.PlainReader(state=c.state), [], set()
+    for octet, mark in zip(c.octets, c.marks):
+        step = model.taking(c.settings, reader, octet, mark, *heard(c))
+        reader, e = step.reader, step.ended
+        if step.refusal:
+            told += [0, step.refusal]
+            hits |= {f"plain: refused {step.refusal}"} | pairs("plain", [t for t in read_tests(c) if t[0] not in (2, 3)])
+        if e:
+            told += [1, e.outcome, e.status, *e.part, e.address]
+            hits |= {f"plain: outcome {e.outcome}", f"plain: way {e.address}"}
+    hits.add(f"plain: ends {'open' if reader.run else 'none'}")
+    return [reader.taken, int(reader.run is not None)] + state_numbers(reader.state) + told, hits
 
 
 def answer_walk(c):
@@ -287,8 +304,7 @@ def answer_look(c):
     """Record, next record and used records of a log at a record number."""
     refusal, r = model.record_at(c.log, c.asked)
     next_refusal, handed, reader = model.handing_out(LogReader(c.log, c.asked))
-    used = (11, None) if model.bad_log(c.log) else (0, len(model.used_only(c.log)))
-    unused = model.unused_numbers(c.log)
+    used, unused = used_records(c.log), model.unused_numbers(c.log)
     numbers = [refusal] + record_numbers(r) + [reader.place, next_refusal] + record_numbers(handed) + [n or 0 for n in used]
     hits = {f"look: record {f'refused {refusal}' if refusal else 'read'}", f"look: used records {f'refused {used[0]}' if used[0] else 'told'}"}
     if not refusal and any(n < c.asked for n in unused):
@@ -546,7 +562,7 @@ def tag_hits(f, status):
     return hits
 
 
-ANSWERS = {"reading": answer_reading, "walk": answer_walk, "why": answer_why, "client": answer_client, "pause": answer_pause, "pfc": answer_pfc, "idle": answer_idle,
+ANSWERS = {"reading": answer_reading, "walk": answer_walk, "why": answer_why, "plain": answer_plain, "client": answer_client, "pause": answer_pause, "pfc": answer_pfc, "idle": answer_idle,
            "fcs": answer_fcs, "append": answer_append, "look": answer_look, "delete": answer_delete, "delete_all": answer_delete_all,
            "compact": answer_compact, "keep": answer_keep, "fill": answer_fill, "before": answer_before, "add": answer_add, "remove": answer_remove,
            "bad": answer_bad, "screen": answer_screen}
@@ -1164,7 +1180,8 @@ def drawn(r, recipes, n):
 
 def generate(n, seed) -> List[Case]:
     """n drawn cases, three readings or walks to two sendings, one in twenty large; beside them the published values of the check, a call on a log,
-    a call with totals and a call of two jobs for each two of them, each recipe once at most, and of some readings why they have their outcomes."""
+    a call with totals and a call of two jobs for each two of them, each recipe once at most, of some readings why they have their outcomes, and of
+    some captures what the plain reader tells of them."""
     r = random.Random(seed)
     large = min(n // 20, len(LARGE))
     readings = (n - large) * 3 // 5
@@ -1173,7 +1190,7 @@ def generate(n, seed) -> List[Case]:
     cases += [make(r, given) for make, given in drawn(r, LOG_RECIPES, min(n // 2, len(LOG_RECIPES)))]
     cases += [make(r, given) for make, given in drawn(r, TOTALS_RECIPES, min(n // 2, len(TOTALS_RECIPES)))]
     cases += [make(r, given) for make, given in drawn(r, JOB_RECIPES, min(n // 2, len(JOB_RECIPES)))]
-    return cases + why_cases(cases)
+    return cases + why_cases(cases) + plain_cases(cases)
 
 
 def why_cases(cases):
@@ -1187,11 +1204,23 @@ def why_cases(cases):
     return out
 
 
+def plain_cases(cases):
+    """The captures among them that a plain reader can be given: of the short ones one in six, and each that hits something new; longer ones only for that."""
+    given = sorted((c for c in cases if c.call in ("reading", "walk") and len(c.octets) == len(c.marks) <= 1700), key=lambda c: len(c.octets))
+    hit, out = set(), []
+    for n, c in enumerate(Case("plain", c.settings, c.state, c.octets, c.marks, job=c.job, table=c.table) for c in given):
+        if n % 6 == 0 and len(c.octets) <= 200 or c.hits - hit:
+            out.append(c)
+            hit |= c.hits
+    return out
+
+
 # ---- Coverage: what must be hit (every outcome, every refusal of every call, both sides of each limit), and what else was
 
 MUST = (
     ["reading: none", "reading: open"] + [f"reading: outcome {n}" for n in range(1, 12)] + [f"reading: refused {n}" for n in (1, 2, 3, 14, 20)]
     + ["walk: ends none", "walk: ends open", "walk: a Start that ended the run before it"] + [f"walk: refused {n}" for n in (1, 2, 14, 20)]
+    + ["plain: ends none", "plain: ends open"] + [f"plain: outcome {n}" for n in range(1, 12)] + [f"plain: refused {n}" for n in (1, 14, 20)]
     + ["why: none", "why: open"] + [f"why: outcome {n}" for n in range(1, 12)] + [f"why: refused {n}" for n in (1, 2, 3, 14, 20)]
     + [f"{c}: refusal {a} before {b}" for c in ("reading", "why", "keep") for a, b in [(1, 14), (14, 2), (14, 20), (3, 20)]] + ["reading: refusal 2 before 20"]
     + [f"walk: refusal {a} before {b}" for a, b in [(1, 14), (14, 2), (14, 20), (2, 20)]]
@@ -1293,7 +1322,7 @@ def coverage(cases) -> str:
         for hit in c.hits:
             counts[hit] = counts.get(hit, 0) + 1
     lines = []
-    for call in ("reading", "walk", "why", "client", "pause", "pfc", "idle", "fcs", "append", "look", "delete", "delete_all", "compact", "keep", "fill",
+    for call in ("reading", "walk", "why", "plain", "client", "pause", "pfc", "idle", "fcs", "append", "look", "delete", "delete_all", "compact", "keep", "fill",
                  "before", "add", "remove", "bad", "screen"):
         mine = {k.split(": ", 1)[1]: v for k, v in counts.items() if k.startswith(call + ": ")}
         lines.append(f"{call} ({sum(c.call == call for c in cases)} cases)")

@@ -1,6 +1,6 @@
 #!/usr/bin/env python3
-"""Writes crates/cases/stdin, the tape of all readings, sendings, calls on a log, reasons, calls with totals and calls of two jobs, and crates/cases/stdout,
-what the model says must be printed of them.
+"""Writes crates/cases/stdin, the tape of all readings, sendings, calls on a log, reasons, calls with totals, calls of two jobs and the plain reader, and
+crates/cases/stdout, what the model says must be printed of them.
 
 With --check it writes nothing, and exits 1 if a file is not as it would be written.
 """
@@ -9,6 +9,7 @@ import sys
 
 import job_cases
 import log_cases
+import plain_cases
 import read_cases
 import reason_cases
 import send_cases
@@ -22,6 +23,7 @@ log_cases.cases()
 reason_cases.cases()
 totals_cases.cases()
 job_cases.cases()
+plain_cases.cases()
 wrong = 0
 for name, octets in [("stdin", TAPE.octets()), ("stdout", TAPE.text())]:
     path = crate / name

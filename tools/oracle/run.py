@@ -1,8 +1,8 @@
 #!/usr/bin/env python3
 """tools/oracle/run.py N SEED: compare the definitions of crates/*/specs with model.py on N drawn cases.
 
-The definitions are copied to a temporary folder (nothing is written into the repository), where a crate `oracle` sees receive, reason, jobs, send, logging
-and counting and all that they list. Each case is a theorem there, which antt admits only if the definition computes to the model's answer.
+The definitions are copied to a temporary folder (nothing is written into the repository), where a crate `oracle` sees receive, reason, plain, jobs, send,
+logging and counting and all that they list. Each case is a theorem there, which antt admits only if the definition computes to the model's answer.
 """
 import os
 import re
@@ -22,7 +22,7 @@ import model  # noqa: E402
 REPOSITORY = HERE.parent.parent
 BATCH, MOST = 50, 30000  # cases to a run of antt, and numbers in their buffers and answers, so that memory stays low
 EXPLAINED = 5  # of how many cases that do not agree the fields are told
-WANTED = ["receive", "reason", "jobs", "send", "logging", "counting"]
+WANTED = ["receive", "reason", "plain", "jobs", "send", "logging", "counting"]
 
 
 # ---- The copy
@@ -180,6 +180,8 @@ def call(c):
         return f"giveReading {reader}{line}\n    {c.place}"
     if c.call == "walk":
         return f"giveWalk {reader}{line}"
+    if c.call == "plain":
+        return f"givePlain {reader}{line}"
     if c.call == "keep":
         return f"giveKeep {reader}{line}\n    {c.place} {numbers(c.log)}"
     line = f"{settings(c.settings)} {line}"
@@ -200,6 +202,7 @@ READING = [("kind", 1), ("outcome or refusal", 1), ("status word", 1), ("part", 
 READING += [("octets of the part", None)]
 WALK = [("kind", 1), ("refusal", 1), ("Starts counted", 1), ("open", 1)] + STATE + [("octets handed out", None)]
 WHY = [("kind", 1), ("outcome or refusal", 1), ("start", 1), ("next", 1), ("evidence", None)]
+PLAIN = [("taken", 1), ("in a run", 1)] + STATE + [("what is told", None)]
 LOOK = [("record's refusal", 1), ("record", 5), ("reader's place", 1), ("its refusal", 1), ("its record", 5), ("used records", None)]
 LOGGING = [("refusal", 1), ("log", None)]
 KEEP = [("end", 1), ("refusal", 1), ("next", 1), ("kept", 1)] + STATE + [("log", None)]
@@ -210,8 +213,9 @@ def fields(c):
     """Each field's name, where it begins, how many numbers it has."""
     sent = [("kind", 1), ("refusal", 1), ("place", 1)] + STATE + [("octets", len(c.octets or [])), ("marks", len(c.marks or [])), ("totals", None)]
     place = 0
-    known = {"reading": READING, "walk": WALK, "why": WHY, "fcs": [("check", 1), ("its octets", None)], "append": LOGGING, "look": LOOK, "delete": LOGGING,
-             "delete_all": [("refusal", 1), ("how many", 1), ("log", None)], "compact": LOGGING, "keep": KEEP, "fill": [("refusal", 1), ("totals", None)],
+    known = {"reading": READING, "walk": WALK, "why": WHY, "plain": PLAIN, "fcs": [("check", 1), ("its octets", None)], "append": LOGGING, "look": LOOK,
+             "delete": LOGGING, "delete_all": [("refusal", 1), ("how many", 1), ("log", None)], "compact": LOGGING, "keep": KEEP,
+             "fill": [("refusal", 1), ("totals", None)],
              "before": [("refusal", 1), ("Starts", None)], "add": CHANGE, "remove": CHANGE, "bad": [("20", None)],
              "screen": [("refusal", 1), ("part", 2), ("octets of the part", None)]}
     for name, n in known.get(c.call, sent):

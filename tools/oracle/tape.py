@@ -23,12 +23,14 @@ in place of data and log.
 
 Room in the log: kind 20 deletes a record, 21 all records of an outcome, and 22 compacts, with the log as in the kinds 5 to 7. The record number stands in place
 of the place; the outcome is the call's number, and then the place is what a refusal must leave in place of how many were deleted.
+
+The plain reader: kind 23 gives it the symbols one by one, as many as there are octets. It is fresh, but that the place is how many symbols it has taken.
 """
 import zlib
 
 READINGS, CLIENT, PAUSE, PFC, IDLE, APPEND, APPEND_READING, LOOK, KEEP, EXPLAIN, FILL = range(11)
 COUNTED = 10  # what is added to the kind of a sending that keeps totals
-STARTS_BEFORE, EMPTY_TABLE, ADD, REMOVE, SCREEN, DELETE, DELETE_OUTCOME, COMPACT = range(15, 23)
+STARTS_BEFORE, EMPTY_TABLE, ADD, REMOVE, SCREEN, DELETE, DELETE_OUTCOME, COMPACT, PLAIN = range(15, 24)
 MOST_READINGS = 16
 LONGEST = 524288  # what the program reads
 ONES = 2**64 - 1

@@ -21,6 +21,8 @@ pub const CLASSES: usize = 8;
 pub const OUTCOMES: usize = 11;
 pub const RECORD_SIZE: usize = 16;
 pub const BLOCK: usize = 256;
+pub const PLAIN_FIRST: usize = 53;
+pub const PLAIN_LAST: usize = 4;
 
 pub const FLOW_NONE: u8 = 0;
 pub const FLOW_PAUSE: u8 = 1;
@@ -181,6 +183,33 @@ pub struct Record {
 }
 
 #[repr(C)]
+#[derive(Clone, PartialEq, Eq, Hash)]
+pub struct Plain {
+    pub place: u64,
+    pub running: u64,
+    pub start: u64,
+    pub count: u64,
+    pub check: u64,
+    pub spare: [u64; 3],
+    pub first: [u8; PLAIN_FIRST],
+    pub last: [u8; PLAIN_LAST],
+    pub unused: [u8; 7],
+}
+
+#[repr(C)]
+#[derive(Default)]
+pub struct Told {
+    pub refusal: u64,
+    pub counted: u64,
+    pub outcome: u64,
+    pub status: u64,
+    pub data_place: u64,
+    pub data_length: u64,
+    pub way: u64,
+    pub spare: u64,
+}
+
+#[repr(C)]
 #[derive(Clone, Copy, Debug, Default, PartialEq, Eq)]
 pub struct Sent {
     pub refusal: u64,
@@ -220,6 +249,7 @@ const _: () = assert!(size_of::<Entry>() == 8 && size_of::<Table>() == 128);
 const _: () = assert!(size_of::<Reading>() == 96 && size_of::<Walked>() == 32);
 const _: () = assert!(size_of::<Explained>() == 64);
 const _: () = assert!(size_of::<Kept>() == 32 && size_of::<Record>() == RECORD_SIZE);
+const _: () = assert!(size_of::<Plain>() == 128 && size_of::<Told>() == 64);
 const _: () = assert!(size_of::<Sent>() == 16 && size_of::<Part>() == 16);
 const _: () = assert!(size_of::<Tag>() == 4 && size_of::<Client>() == 44);
 
@@ -444,6 +474,23 @@ extern "C" {
         place: usize,
         idles: usize,
         sent: &mut Sent,
+    );
+    fn fenhamper_plain_fresh(
+        numbers: &mut [u64; 8],
+        first: &mut [u8; PLAIN_FIRST],
+        last: &mut [u8; PLAIN_LAST],
+    );
+    fn fenhamper_plain_symbol(
+        settings: &Settings,
+        job: u8,
+        table: &Table,
+        state: &mut State,
+        numbers: &mut [u64; 8],
+        first: &mut [u8; PLAIN_FIRST],
+        last: &mut [u8; PLAIN_LAST],
+        octet: u8,
+        mark: u8,
+        told: &mut Told,
     );
     fn fenhamper_fcs(octets: *const u8, length: usize) -> u32;
     fn fenhamper_fcs_update(from: u32, octets: *const u8, length: usize) -> u32;
@@ -953,6 +1000,61 @@ pub fn fill_idle_counted(
         );
     }
     sent
+}
+
+impl Plain {
+    // The record by the parts that its calls take: its numbers, which are its first 64 octets, its
+    // first octets and its last.
+    fn parts(&mut self) -> (&mut [u64; 8], &mut [u8; PLAIN_FIRST], &mut [u8; PLAIN_LAST]) {
+        let record: *mut Plain = self;
+        // SAFETY: `place` to `spare` are eight numbers in a row at the record's front, in the layout
+        // of C, and the octets stand behind them: three parts of one record that is lent alone.
+        unsafe {
+            (
+                &mut *record.cast::<[u64; 8]>(),
+                &mut (*record).first,
+                &mut (*record).last,
+            )
+        }
+    }
+}
+
+pub fn plain_fresh() -> Plain {
+    let mut plain = Plain {
+        place: 0,
+        running: 0,
+        start: 0,
+        count: 0,
+        check: 0,
+        spare: [0; 3],
+        first: [0; PLAIN_FIRST],
+        last: [0; PLAIN_LAST],
+        unused: [0; 7],
+    };
+    let (numbers, first, last) = plain.parts();
+    // SAFETY: three parts of the record pass, each lent alone.
+    unsafe { fenhamper_plain_fresh(numbers, first, last) };
+    plain
+}
+
+pub fn plain_symbol(
+    settings: &Settings,
+    job: u8,
+    table: &Table,
+    state: &mut State,
+    plain: &mut Plain,
+    octet: u8,
+    mark: u8,
+) -> Told {
+    let mut told = Told::default();
+    let (numbers, first, last) = plain.parts();
+    // SAFETY: records and three parts of one pass, and what is written is lent alone.
+    unsafe {
+        fenhamper_plain_symbol(
+            settings, job, table, state, numbers, first, last, octet, mark, &mut told,
+        );
+    }
+    told
 }
 
 pub fn fcs(octets: &[u8]) -> u32 {

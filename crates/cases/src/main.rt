@@ -325,6 +325,57 @@ fn explain(c: Call, o: &[u8], m: &[u8]) {
     explained(&a);
 }
 
+// ---- the plain reader
+
+// What is told at a symbol with this number, unless it is nothing.
+fn symbol_told(k: usize, a: &[u64; 8]) {
+    if a[0] != 0 {
+        told(b" symbol 0", 0, &[k as u64]);
+        told(b" refused 0", 0, a);
+    }
+    if a[1] != 0 {
+        told(b" symbol 0", 0, &[k as u64]);
+        told(b" outcome 2 status N part 4 of 5 way 6", 0, a);
+    }
+}
+
+fn reader_told(reader: &[u64; 8]) {
+    told(b" taken 0 open 1", 0, reader);
+}
+
+// Symbol by symbol, by a reader that has taken as many as the call's place says.
+fn plainly(c: Call, o: &[u8], m: &[u8]) {
+    let s = c.settings;
+    let table = c.table;
+    let before = c.state;
+    let mut state = before;
+    let mut reader = [0u64; 8];
+    let mut first = [0u8; 53];
+    let mut last = [0u8; 4];
+    fenhamper::fenhamper_plain_fresh(&mut reader, &mut first, &mut last);
+    reader[0] = c.place as u64;
+    let mut k: usize = 0;
+    while k < o.len() {
+        let mut a = [1u64; 8];
+        fenhamper::fenhamper_plain_symbol(
+            &s,
+            c.job,
+            &table,
+            &mut state,
+            &mut reader,
+            &mut first,
+            &mut last,
+            octet(o, k, 0),
+            octet(m, k, 0),
+            &mut a,
+        );
+        symbol_told(k, &a);
+        k += 1;
+    }
+    reader_told(&reader);
+    changes(&before, &state);
+}
+
 // ---- sendings
 
 struct Sent {
@@ -832,6 +883,10 @@ fn called(t: &[u8], r: usize, o: &mut [u8], m: &mut [u8]) {
         return;
     }
     io::write_all(1, name);
+    if 22 < c.kind {
+        plainly(c, o, m);
+        return;
+    }
     if 19 < c.kind {
         logged(t, r, c, o);
         return;

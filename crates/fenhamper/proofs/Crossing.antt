@@ -48,6 +48,8 @@ use Rattle.fenhamper.specs.Face.{keepNumbers, kept, keepTold, lodged, lo
 use Rattle.fenhamper.specs.Face.{NumberGiven, numberGiven, numberTold, logGiven, deletedTold}
 use Rattle.fenhamper.specs.Face.{Wrote, totalsGiven, fillTold, withTotals, countTold}
 use Rattle.fenhamper.specs.Face.{Told, entryTold, TableGiven, tableGiven, tableTold, partGiven, partTold}
+use Rattle.fenhamper.specs.Reader.{toldNumbers, ReaderGiven, readerGiven, readerLeft, countedLeft, PlainGiven, plainGiven, plainTold}
+use Rattle.plain.specs.declared.Step as plain
 
 -- an answer's first number is its refusal
 pub read-crosses : {a st : List ℕ} (before : List ℕ) {r x : Reading} → a ≡ readingNumbers r → st ≡ stateLeft (getD a 0 0) before (r .state) → r ≡ x → told a st ≡ readTold before x
@@ -174,3 +176,20 @@ module _ (s : Settings) (job : ℕ) (es : List Entry) (os₀ ms₀ os₁ ms₁ :
       ap (λ (q : Told). partGiven (getD (q .answer) 0 0 % 4294967296) (getD (q .answer) 6 0 ∷ getD (q .answer) 7 0 ∷ [])) e
       ∙ ap (λ (n : ℕ). partGiven n (answerPart (r .answer) .at ∷ answerPart (r .answer) .len ∷ [])) (refusal-low (r .answer))
       ∙ ap partTold shown
+
+-- ---- a symbol of the plain reader: what is told has the refusal first, and then whether a Start was counted
+
+pub plain-crosses : {a n f l st : List ℕ} (reader : ReaderGiven) (before : List ℕ) {k x : plain.Step} → a ≡ toldNumbers (k .told)
+    → readerGiven n f l ≡ readerLeft (getD a 0 0) reader (k .plain) → st ≡ countedLeft (getD a 1 0) before (k .plain .state) → k ≡ x
+    → plainGiven a n f l st ≡ plainTold reader before x
+unfolding plainTold
+plain-crosses {a} {n} {f} {l} {st} reader before {k} e g h i =
+    let r : readerGiven n f l ≡ readerLeft (getD (toldNumbers (k .told)) 0 0) reader (k .plain) =
+    g ∙ ap (λ (b : List ℕ). readerLeft (getD b 0 0) reader (k .plain)) e
+    in
+    let s : st ≡ countedLeft (getD (toldNumbers (k .told)) 1 0) before (k .plain .state) =
+    h ∙ ap (λ (b : List ℕ). countedLeft (getD b 1 0) before (k .plain .state)) e
+    in
+    ap₂ (λ (b t : List ℕ). plainGiven b n f l t) e s
+    ∙ ap (λ (q : ReaderGiven). record { answer = toldNumbers (k .told); reader = q; state = countedLeft (getD (toldNumbers (k .told)) 1 0) before (k .plain .state) }) r
+    ∙ ap (plainTold reader before) i

@@ -1,5 +1,7 @@
 // The C face (include/fenhamper.h): each exported function decodes its records, calls the module's function of that name, and encodes what
 // comes back. A record crosses as the array of its octets, or of its numbers of 64 bits. Meaning: specs/Face.antt.
+use kept::Run;
+use kept::Told;
 use log::LogNumber;
 use log::LogRead;
 use log::Logged;
@@ -7,6 +9,7 @@ use log::Record;
 use logging::KeepRefusal;
 use logging::LogEnd;
 use logging::LogWalk;
+use plain::Plain;
 use reason::Explained;
 use reason::Reason;
 use reason::Six;
@@ -59,6 +62,7 @@ ghost use Rattle.log.specs.Readers.{nextStep};
 ghost use Rattle.logging.specs.Walks.{walkLogged};
 ghost use Rattle.send.specs.Sending.{clientSending, pauseSending, pfcSending, idleSending};
 ghost use Rattle.totals.specs.Totals.{beforePlace, filled};
+ghost use Rattle.plain.specs.Plain.{freshPlain, step};
 ghost use Rattle.counting.specs.Counting.{clientCounting, pauseCounting, pfcCounting, idleCounting};
 ghost use Rattle.fenhamper.specs.Face.{layout, flowOf, settingsOf, countersOf, timersOf, stateOf};
 ghost use Rattle.fenhamper.specs.Face.{portOf, kindOf, tagAt, countedTag, tagsOf, formOf, clientOf, quantaOf, classesOf};
@@ -69,6 +73,7 @@ ghost use Rattle.fenhamper.specs.Face.{kept, keepTold, lodged, logTold, 
 ghost use Rattle.fenhamper.specs.Face.{numberGiven, numberTold, logGiven, deletedTold};
 ghost use Rattle.fenhamper.specs.Face.{totalsGiven, fillTold, startsTold, withTotals, countTold};
 ghost use Rattle.fenhamper.specs.Face.{entryTold, tableGiven, tableTold, partGiven, partTold};
+ghost use Rattle.fenhamper.specs.Reader.{runOf, plainOf, plainNumbers, toldNumbers, readerGiven, readerTold, readerLeft, countedLeft, plainGiven, plainTold};
 
 // ---- what crosses to the module
 
@@ -296,6 +301,31 @@ fn record_named(n: &[u64; 12]) -> Record
         way: (n[8] % 256) as u8,
         handed: (n[7] % 65536) as u16,
         status: n[5],
+    }
+}
+
+// What the plain reader keeps of a run: of each number its low bits, as many as the field has.
+fn run_of(n: &[u64; 8], first: [u8; 53], last: [u8; 4]) -> Run
+    ensures { λ r. ⌜ r ≡ runOf (now (n .entry)) first last ⌝ }
+{
+    Run {
+        start: (n[2] % 4294967296) as u32,
+        count: (n[3] % 65536) as u16,
+        first,
+        last,
+        register: (n[4] % 4294967296) as u32,
+    }
+}
+
+fn plain_of(n: &[u64; 8], first: [u8; 53], last: [u8; 4], state: State) -> Plain
+    ensures { λ p. ⌜ p ≡ plainOf (now (n .entry)) first last state ⌝ }
+{
+    let run = run_of(n, first, last);
+    Plain {
+        place: (n[0] % 4294967296) as u32,
+        running: n[1] != 0,
+        run,
+        state,
     }
 }
 
@@ -544,6 +574,37 @@ fn give_number(number: &mut usize, counted: LogNumber) -> u32
     }
 }
 
+fn plain_numbers(p: Plain) -> [u64; 8]
+    ensures { λ n. ⌜ n ≡ plainNumbers p ⌝ }
+{
+    let run = p.run;
+    let place = p.place as u64;
+    let start = run.start as u64;
+    let count = run.count as u64;
+    let register = run.register as u64;
+    if p.running {
+        return [place, 1, start, count, register, 0, 0, 0];
+    }
+    [place, 0, start, count, register, 0, 0, 0]
+}
+
+fn told_numbers(t: Told) -> [u64; 8]
+    ensures { λ n. ⌜ n ≡ toldNumbers t ⌝ }
+{
+    match t {
+        Told::Refused(x) => {
+            let n = station::refusal_number(x) as u64;
+            [n, 0, 0, 0, 0, 0, 0, 0]
+        }
+        Told::Quiet => [0, 0, 0, 0, 0, 0, 0, 0],
+        Told::Counted(outcome, status, part, way) => {
+            let n = station::outcome_number(outcome) as u64;
+            let w = way as u64;
+            [0, 1, n, status, part.at as u64, part.len as u64, w, 0]
+        }
+    }
+}
+
 // The part itself if it lies inside n octets, else 0 and 0. No sum, so that none is too large.
 fn part_within(n: usize, at: usize, len: usize) -> [u64; 2]
     ensures { λ r. ⌜ r ≡ partWithin n at len ⌝ }
@@ -575,6 +636,43 @@ fn leave(state: &mut [u64; 24], refusal: u64, after: State)
     ensures { λ _. ⌜ now (state .exit) ≡ stateLeft refusal (now (state .entry)) after ⌝ }
 {
     if refusal == 0 {
+        *state = state_numbers(after);
+    }
+}
+
+// A reader goes out as its numbers and its octets.
+fn give_reader(reader: &mut [u64; 8], first: &mut [u8; 53], last: &mut [u8; 4], p: Plain)
+    ensures { λ _. ⌜ readerGiven (now (reader .exit)) (now (first .exit)) (now (last .exit)) ≡ readerTold p ⌝ }
+{
+    let run = p.run;
+    let front = run.first;
+    let end = run.last;
+    *first = front;
+    *last = end;
+    *reader = plain_numbers(p);
+}
+
+// A refused symbol leaves the reader as it was, to the bit.
+fn leave_reader(
+    reader: &mut [u64; 8],
+    first: &mut [u8; 53],
+    last: &mut [u8; 4],
+    refusal: u64,
+    after: Plain,
+)
+    ensures { λ _. ⌜ readerGiven (now (reader .exit)) (now (first .exit)) (now (last .exit))
+        ≡ readerLeft refusal (readerGiven (now (reader .entry)) (now (first .entry)) (now (last .entry))) after ⌝ }
+{
+    if refusal == 0 {
+        give_reader(reader, first, last, after);
+    }
+}
+
+// Only a counted Start changes the state's numbers.
+fn leave_counted(state: &mut [u64; 24], counted: u64, after: State)
+    ensures { λ _. ⌜ now (state .exit) ≡ countedLeft counted (now (state .entry)) after ⌝ }
+{
+    if counted == 1 {
         *state = state_numbers(after);
     }
 }
@@ -1103,4 +1201,46 @@ pub extern "C" fn fenhamper_screen_data<'a>(
     fenhamper_read(s, job, table, &mut state, octets, marks, place, &mut read);
     *part = [read[6], read[7]];
     (read[0] % 4294967296) as u32
+}
+
+// ---- the exported functions of the plain reader (document 02, item 12)
+
+#[no_mangle]
+pub extern "C" fn fenhamper_plain_fresh(
+    reader: &mut [u64; 8],
+    first: &mut [u8; 53],
+    last: &mut [u8; 4],
+)
+    ensures { λ _. ⌜ readerGiven (now (reader .exit)) (now (first .exit)) (now (last .exit)) ≡ readerTold (freshPlain fresh) ⌝ }
+{
+    give_reader(reader, first, last, plain::fresh(station::fresh_state()));
+}
+
+#[no_mangle]
+pub extern "C" fn fenhamper_plain_symbol(
+    s: &[u8; 24],
+    job: u8,
+    table: &[u8; 128],
+    state: &mut [u64; 24],
+    reader: &mut [u64; 8],
+    first: &mut [u8; 53],
+    last: &mut [u8; 4],
+    octet: u8,
+    mark: u8,
+    answer: &mut [u64; 8],
+)
+    ensures { λ _. ⌜ plainGiven (now (answer .exit)) (now (reader .exit)) (now (first .exit)) (now (last .exit)) (now (state .exit))
+        ≡ plainTold (readerGiven (now (reader .entry)) (now (first .entry)) (now (last .entry))) (now (state .entry))
+        (step (settingsOf (now (s .entry))) job (entriesOf (now (table .entry)))
+        (plainOf (now (reader .entry)) (now (first .entry)) (now (last .entry)) (stateOf (now (state .entry)))) (record { octet = octet; mark = mark })) ⌝ }
+{
+    let front = *first;
+    let end = *last;
+    let before = plain_of(reader, front, end, state_of(state));
+    let k = plain::take_symbol(settings(s), job, table, before, octet, mark);
+    let after = k.plain;
+    let told = k.told;
+    *answer = told_numbers(told);
+    leave_reader(reader, first, last, answer[0], after);
+    leave_counted(state, answer[1], after.state);
 }

@@ -1,7 +1,7 @@
 -- Laws of specs/Length.antt: how much data there is, the length rule by the tests that lead to a row, and how much is handed out. Assumes nothing.
-use Prim.Native.Nat.{ℕ, _-_, _≤_, _<_}
+use Prim.Native.Nat.{ℕ, _-_, _≤_, _<_, min}
 use native.Mathlib.Omega.{arith}
-use mathlib.Core.Path.{_≡_, refl, ap, _∙_}
+use mathlib.Core.Path.{_≡_, refl, sym, ap, _∙_}
 use mathlib.Core.Bool.{Bool, true, false, not, _&&_, _||_, cond}
 use mathlib.Core.List.{List, []}
 use lib.ListN.{length, take, length-take, length-drop}
@@ -14,7 +14,7 @@ use Rattle.fields.specs.Tags.{tagCount}
 use Rattle.fields.specs.Fields.{field}
 use Rattle.fields.specs.Places.{layoutOf}
 use Rattle.frame.specs.Frame.{dataFrom, frameData}
-use Rattle.frame.specs.Length.{shortest, kept, breaksLength, wrongLength, handedOf}
+use Rattle.frame.specs.Length.{shortest, kept, breaksLength, wrongLength, handedCount, handedOf}
 
 -- ---- how much data there is
 
@@ -45,6 +45,10 @@ module _ (tags field octets : ℕ) where
       first-next true _ (lt-leb _ field (omega arith)) ∙ first-next false _ (lt-leb _ field (omega arith))
       ∙ first-next (eqb octets field) _ (lt-leb _ field (omega arith)) ∙ first-other (eqb octets 46 || eqb octets (shortest tags field))
 
+front-count : (b : Bool) (n : ℕ) (l : List ℕ) → cond b (min n (length l)) (length l) ≡ length (cond b (take n l) l)
+front-count true n l = sym (length-take n l)
+front-count false n l = refl
+
 front-le : (b : Bool) (n : ℕ) (l : List ℕ) → length (cond b (take n l) l) ≤ length l
 front-le true n l = omega (arith, length-take n l)
 front-le false n l = omega arith
@@ -65,21 +69,13 @@ length-right true f h = ap not h
 length-right false f h = refl
 
 -- ---- what is handed out, of a field and the data behind it
-module _ (n : ℕ) (d : List ℕ) where
-  pub handed-unchecked : handedOf false n d ≡ d
-  unfolding handedOf
-  handed-unchecked = refl
 
-  pub handed-whole : (checking : Bool) → 46 ≤ n → handedOf checking n d ≡ d
-  unfolding handedOf
-  handed-whole true h = rw (le-ltb n 46 h)
-  handed-whole false h = refl
+-- how many octets
+pub handed-count : (checking : Bool) (n : ℕ) (d : List ℕ) → handedCount checking n (length d) ≡ length (handedOf checking n d)
+unfolding handedCount handedOf
+handed-count checking n d = front-count (checking && ltb n 46) n d
 
-  pub handed-named : n < 46 → handedOf true n d ≡ take n d
-  unfolding handedOf
-  handed-named h = rw (lt-ltb n 46 h)
-
-  -- never more than the data
-  pub handed-le : (checking : Bool) → length (handedOf checking n d) ≤ length d
-  unfolding handedOf
-  handed-le checking = front-le (checking && ltb n 46) n d
+-- never more than the data
+pub handed-le : (n : ℕ) (d : List ℕ) (checking : Bool) → length (handedOf checking n d) ≤ length d
+unfolding handedOf
+handed-le n d checking = front-le (checking && ltb n 46) n d

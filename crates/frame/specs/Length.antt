@@ -1,5 +1,5 @@
 -- Document 01, "Length rule", and document 02, item 2: rule 6, and what is handed out.
-use Prim.Native.Nat.{ℕ, _-_, _*_, max}
+use Prim.Native.Nat.{ℕ, _-_, _*_, max, min}
 use mathlib.Core.Bool.{Bool, true, false, not, _&&_, _||_, cond}
 use mathlib.Core.List.{List}
 use lib.ListN.{length, take}
@@ -30,7 +30,11 @@ breaksLength checking l f = checking && not (kept (l .tags) (l .field) (length (
 unfoldable pub wrongLength : Bool → List ℕ → Bool
 wrongLength checking f = breaksLength checking (layoutOf f) f
 
--- "only the first `field` octets are handed out"; "With checking off, … all data is handed out": of a field and the data behind it, and of a frame
+-- "only the first `field` octets are handed out"; "With checking off, … all data is handed out": how many of so many, of a field and the data behind
+-- it, and of a frame
+unfoldable pub handedCount : Bool → ℕ → ℕ → ℕ
+handedCount checking field octets = cond (checking && ltb field 46) (min field octets) octets
+
 unfoldable pub handedOf : Bool → ℕ → List ℕ → List ℕ
 handedOf checking field octets = cond (checking && ltb field 46) (take field octets) octets
 

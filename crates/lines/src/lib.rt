@@ -91,7 +91,14 @@ pub fn settings() -> Settings
 }
 
 // The line of a Start that was counted.
-fn put_counted(out: &mut [u8], at: usize, start: usize, o: Outcome, word: u64, len: usize) -> usize
+pub fn put_counted(
+    out: &mut [u8],
+    at: usize,
+    start: usize,
+    o: Outcome,
+    word: u64,
+    len: usize,
+) -> usize
     requires { ⌜ at + 84 ≤ length (now out) ⌝ }
     ensures { λ r. ⌜ Put (now (out .entry)) at (fourNumbers start (outcomeNumber o) word len) r (now (out .exit)) ⌝ }
     ensures { λ r. ⌜ r ≤ at + 84 ⌝ }

@@ -35,7 +35,7 @@ use Rattle.frame.specs.Frame.{frameData}
 use Rattle.frame.specs.Length.{clientData, handedLength}
 use Rattle.frame.proofs.Length.{data-length, handed-le}
 use Rattle.outcome.specs.Outcomes.{outcome, frameOf}
-use Rattle.outcome.specs.Status.{status, statusOf, frameBits, bit}
+use Rattle.outcome.specs.Status.{status, statusOf, kindBits, frameBits, bit}
 use Rattle.receive.specs.declared.Answer.{Answer}
 use Rattle.receive.specs.declared.Answer.the-variants.{Nothing, Open, Counted}
 use Rattle.receive.specs.declared.Reading.{Reading}
@@ -67,7 +67,7 @@ bit-le n false = omega arith
 
 -- the flags and the frame's length stand below bit 39
 bits-small : (tags : ℕ) (f : List ℕ) → length f ≤ 65535 → frameBits tags f < 2 ^ 39
-unfolding frameBits
+unfolding frameBits kindBits
 bits-small tags f h =
     let a = bit-le 38 (not (isGroup (destination f))) in
     let b = bit-le 37 (isGroup (destination f) && not (sameOctets (destination f) broadcastAddress)) in

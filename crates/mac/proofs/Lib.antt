@@ -7,6 +7,7 @@ pub mod Jobs
 pub mod Leaves
 pub mod LikeError
 pub mod Limits
+pub mod Plain
 pub mod Port
 pub mod Quiet
 pub mod Row

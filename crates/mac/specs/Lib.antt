@@ -4,6 +4,7 @@ pub mod Demand2
 pub mod Demand3
 pub mod LikeError
 pub mod Limits
+pub mod Plain
 pub mod Port
 pub mod Starts
 pub mod Tables

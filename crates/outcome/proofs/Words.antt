@@ -13,27 +13,26 @@ use Rattle.station.specs.declared.Outcome.the-variants.{Cut, BadPreamble, Under
 use Rattle.station.proofs.Outcome.{the-type}
 use Rattle.station.specs.Station.{isGroup}
 use Rattle.fields.specs.Fields.{destination}
-use Rattle.outcome.specs.Status.{statusOf}
+use Rattle.outcome.specs.Status.{wordOf, statusOf}
 
 -- ---- the match's last arm, by the places of its variants in the enum
 
 abbrev oneToSeven : List ℕ
 oneToSeven = 0 ∷ 1 ∷ 2 ∷ 3 ∷ 4 ∷ 5 ∷ 6 ∷ []
 
-module _ (f : List ℕ) (tags all handed : ℕ) where
-  pub no-status : (o : Outcome) → OneOf oneToSeven (tagOf the-type o) → 0 ≡ statusOf o f tags all handed
-  unfolding statusOf
-  no-status Cut h = refl
-  no-status BadPreamble h = refl
-  no-status Undersized h = refl
-  no-status Oversized h = refl
-  no-status WrongFcs h = refl
-  no-status WrongLength h = refl
-  no-status Filtered h = refl
-  no-status PauseTaken h = absurd (miss oneToSeven 7 tt h)
-  no-status PfcTaken h = absurd (miss oneToSeven 8 tt h)
-  no-status ControlDropped h = absurd (miss oneToSeven 9 tt h)
-  no-status HandedOut h = absurd (miss oneToSeven 10 tt h)
+module _ (bits all handed : ℕ) where
+  pub no-word : (o : Outcome) → OneOf oneToSeven (tagOf the-type o) → 0 ≡ wordOf o bits all handed
+  no-word Cut h = refl
+  no-word BadPreamble h = refl
+  no-word Undersized h = refl
+  no-word Oversized h = refl
+  no-word WrongFcs h = refl
+  no-word WrongLength h = refl
+  no-word Filtered h = refl
+  no-word PauseTaken h = absurd (miss oneToSeven 7 tt h)
+  no-word PfcTaken h = absurd (miss oneToSeven 8 tt h)
+  no-word ControlDropped h = absurd (miss oneToSeven 9 tt h)
+  no-word HandedOut h = absurd (miss oneToSeven 10 tt h)
 
 -- ---- the word of a frame, from what was found to be the frame's
 

@@ -15,7 +15,7 @@ ghost use Rattle.table.specs.Entries.{ownEntries};
 ghost use Rattle.frame.specs.Frame.{dataFrom};
 ghost use Rattle.outcome.specs.Outcomes.{badPreamble, frameOf, outcome, judged};
 ghost use Rattle.outcome.specs.Steps.{earlyOutcomes, lateOutcomes};
-ghost use Rattle.outcome.specs.Status.{frameBits, statusOf};
+ghost use Rattle.outcome.specs.Status.{kindBits, frameBits, statusOf};
 
 // What rules 1 to 3 leave: an outcome, or a frame that is to be looked at.
 enum Early {
@@ -32,7 +32,7 @@ pub struct Judged {
 // ---- the outcome
 
 // Rule 2: run under 7 octets, or the first 7 wrong.
-fn bad_preamble(run: &[u8]) -> bool
+pub fn bad_preamble(run: &[u8]) -> bool
     ensures { λ r. ⌜ r ≡ badPreamble (now (run .entry)) ⌝ }
 {
     if run.len() < 7 {
@@ -159,10 +159,9 @@ fn is_multicast(group: bool, broadcast: bool) -> bool
     if group { !broadcast } else { false }
 }
 
-// What the frame alone decides, its number of tags given: bits 38 to 16.
-fn frame_bits(f: &[u8], tags: u8) -> u64
-    requires { ⌜ length (now f) ≤ 65536 ⌝ }
-    ensures { λ r. ⌜ (r ≡ frameBits tags (now (f .entry))) × (r ≤ 0x80_0000_0000) ⌝ }
+// What destination, first field and the number of tags decide: bits 38 to 32.
+pub fn kind_bits(f: &[u8], tags: u8) -> u64
+    ensures { λ r. ⌜ (r ≡ kindBits tags (now (f .entry))) × (r ≤ 0x77_0000_0000) ⌝ }
 {
     let group = to_group(f);
     let broadcast = address::is_broadcast(f);
@@ -172,7 +171,15 @@ fn frame_bits(f: &[u8], tags: u8) -> u64
     let b34 = flag(control::is_control_frame(f), 0x4_0000_0000);
     let b33 = flag(tags == 1, 0x2_0000_0000);
     let b32 = flag(2 <= tags, 0x1_0000_0000);
-    b38 + b37 + b36 + b34 + b33 + b32 + (f.len() as u64) * 0x1_0000
+    b38 + b37 + b36 + b34 + b33 + b32
+}
+
+// What the frame alone decides, its number of tags given: bits 38 to 16.
+fn frame_bits(f: &[u8], tags: u8) -> u64
+    requires { ⌜ length (now f) ≤ 65536 ⌝ }
+    ensures { λ r. ⌜ (r ≡ frameBits tags (now (f .entry))) × (r ≤ 0x80_0000_0000) ⌝ }
+{
+    kind_bits(f, tags) + (f.len() as u64) * 0x1_0000
 }
 
 // The number of data octets, of a frame whose data begins at `place`.

@@ -3,6 +3,7 @@
 use crate::compare::{Bench, Difference, Lent};
 use crate::compare_jobs::LentTable;
 use crate::compare_log::LentLog;
+use crate::compare_plain::any_reader;
 use crate::compare_totals::{Counted, LentTotals};
 use crate::generate::{self, Sending, Symbols, IDLE, START, SYMBOLS, TERMINATE};
 use crate::prng::Prng;
@@ -16,7 +17,7 @@ const MANY: usize = 1000;
 /// Makes the calls of one case of a seed.
 pub fn run(bench: &mut Bench, seed: u64, case: u64) -> Result<(), Difference> {
     let mut prng = bench.begin(seed, case);
-    match prng.below(28) {
+    match prng.below(29) {
         0..=7 => reading(bench, &mut prng),
         8..=13 => sending(bench, &mut prng),
         14 => holding(bench, &mut prng),
@@ -30,6 +31,7 @@ pub fn run(bench: &mut Bench, seed: u64, case: u64) -> Result<(), Difference> {
         24 => counted_line(bench, &mut prng),
         25 => table_calls(bench, &mut prng),
         26 => room(bench, &mut prng),
+        27 => plain(bench, &mut prng),
         _ => screens(bench, &mut prng),
     }
 }
@@ -92,6 +94,38 @@ fn reasons(bench: &mut Bench, prng: &mut Prng) -> Result<(), Difference> {
         bench.explain(&s, &l, &lent, place)?;
         let l = generate::misnumbered(prng, &l);
         bench.c_explain(&settings, &l, &lent, place)?;
+    }
+    Ok(())
+}
+
+/// Captures go through the plain reader symbol by symbol, and any records of it get one.
+fn plain(bench: &mut Bench, prng: &mut Prng) -> Result<(), Difference> {
+    let drawn = generate::settings(prng);
+    let mut settings = generate::settings_record(prng, &drawn);
+    if prng.one_in(8) {
+        generate::spoil(prng, &mut settings.0);
+    }
+    let s = records::settings(&settings);
+    let l = generate::listener(prng, &s);
+    let state = generate::state(prng);
+    let numbers = generate::state_record(prng, &state);
+    for _ in 0..prng.between(4, 8) {
+        let symbols = match prng.below(3) {
+            0 => generate::capture(prng, &s, &l),
+            _ => generate::explained_capture(prng, &s, &l),
+        };
+        let lent = lend(prng, &symbols);
+        bench.plain(&s, &l, &state, &lent)?;
+        let l = generate::misnumbered(prng, &l);
+        bench.c_plain(&settings, &l, &numbers, &lent)?;
+    }
+    for _ in 0..prng.between(4, 12) {
+        let reader = any_reader(prng);
+        let octet = prng.octet();
+        let octet = prng.pick(&[START, TERMINATE, TERMINATE, IDLE, octet]);
+        let mark = prng.pick(&[0, 1, 1, 2, 128, 255]);
+        let l = generate::misnumbered(prng, &l);
+        bench.c_plain_any(&settings, &l, &numbers, &reader, (octet, mark))?;
     }
     Ok(())
 }

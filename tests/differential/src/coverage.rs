@@ -2,6 +2,7 @@
 use crate::seen::{CSeen, FcsSeen, ReadingSeen, RowSeen, SendingSeen, WalkSeen};
 use crate::seen_jobs::{ScreenSeen, TableSeen};
 use crate::seen_log::{GoingOnSeen, KeepSeen, LogSeen};
+use crate::seen_plain::PlainSeen;
 use crate::seen_reason::ReasonSeen;
 use crate::seen_totals::TotalsSeen;
 use crate::table;
@@ -15,6 +16,8 @@ pub(crate) enum When {
     Walk(Box<dyn Fn(&WalkSeen) -> bool>),
     /// By a reason asked for.
     Reason(Box<dyn Fn(&ReasonSeen) -> bool>),
+    /// By a symbol of the plain reader.
+    Plain(Box<dyn Fn(&PlainSeen) -> bool>),
     /// By a sending.
     Sending(Box<dyn Fn(&SendingSeen) -> bool>),
     /// By a row of frames on both ports.
@@ -43,6 +46,7 @@ enum Sort {
     Reading,
     Walk,
     Reason,
+    Plain,
     Sending,
     Row,
     Log,
@@ -64,6 +68,7 @@ impl When {
             When::Reading(_) => Sort::Reading,
             When::Walk(_) => Sort::Walk,
             When::Reason(_) => Sort::Reason,
+            When::Plain(_) => Sort::Plain,
             When::Sending(_) => Sort::Sending,
             When::Row(_) => Sort::Row,
             When::Log(_) => Sort::Log,
@@ -129,6 +134,13 @@ impl Coverage {
         self.hit(
             Sort::Reason,
             |when| matches!(when, When::Reason(test) if test(seen)),
+        );
+    }
+
+    pub(crate) fn plain(&mut self, seen: &PlainSeen) {
+        self.hit(
+            Sort::Plain,
+            |when| matches!(when, When::Plain(test) if test(seen)),
         );
     }
 

@@ -1,5 +1,5 @@
 //! The proved library, through its Rust face and through its C face, against the reference
-//! implementation of document 01 and of items 1 to 11 of document 02, on drawn inputs.
+//! implementation of document 01 and of items 1 to 12 of document 02, on drawn inputs.
 #![deny(unsafe_code)]
 #![warn(missing_docs)]
 
@@ -15,6 +15,7 @@ pub mod show;
 mod compare_c;
 mod compare_jobs;
 mod compare_log;
+mod compare_plain;
 mod compare_reason;
 mod compare_row;
 mod compare_totals;
@@ -25,6 +26,7 @@ mod records;
 mod seen;
 mod seen_jobs;
 mod seen_log;
+mod seen_plain;
 mod seen_reason;
 mod seen_totals;
 mod table;

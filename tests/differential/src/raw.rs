@@ -7,8 +7,10 @@
 //! to it alone.
 #![allow(unsafe_code)]
 
+pub mod plain;
 mod totals;
 
+pub use plain::{plain_fresh, plain_symbol};
 pub use totals::{fill_idle_counted, fill_totals, starts_before};
 pub use totals::{send_client_counted, send_pause_counted, send_pfc_counted};
 

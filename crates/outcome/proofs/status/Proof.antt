@@ -2,8 +2,8 @@
 use denote.Ref.{now}
 use lib.ListN.{length}
 use Rattle.frame.specs.Frame.{dataFrom}
-use Rattle.outcome.proofs.Words.{no-status}
-use Rattle.outcome.specs.Status.{statusOf}
+use Rattle.outcome.proofs.Words.{no-word}
+use Rattle.outcome.specs.Status.{frameBits, statusOf}
 use borrow.Author.Needs.{needs}
 use Rattle.outcome.proofs.status.Statement.{statement}
 use Rattle.outcome.proofs.status.Tie as tie
@@ -76,9 +76,10 @@ unfolding statusOf
 returns-4 c = rw (c .before .enum-told4 .given .1, c .frame-bits4 .ensures .0)
 
 returns-5 : tie.Need-returns-5
+unfolding statusOf
 returns-5 c =
     let a = c .before .before .args in
-    no-status (now (a .f)) (a .l .tags) (length (dataFrom (a .l .place) (now (a .f)))) (a .handed) (a .o) (c .match .keys5)
+    no-word (frameBits (a .l .tags) (now (a .f))) (length (dataFrom (a .l .place) (now (a .f)))) (a .handed) (a .o) (c .match .keys5)
 
 pub status-spec : {M : Type 1} → statement M
 status-spec =

@@ -7,6 +7,7 @@ mod frames;
 mod jobs;
 mod keeping;
 mod log;
+mod plain;
 mod ports;
 mod reading;
 mod reasons;
@@ -21,6 +22,7 @@ use crate::coverage::{Row, When};
 use crate::seen::{CSeen, FcsSeen, ReadingSeen, RowSeen, SendingSeen, WalkSeen};
 use crate::seen_jobs::{ScreenSeen, TableSeen};
 use crate::seen_log::{GoingOnSeen, KeepSeen, LogSeen};
+use crate::seen_plain::PlainSeen;
 use crate::seen_reason::ReasonSeen;
 use crate::seen_totals::TotalsSeen;
 use std::collections::BTreeSet;
@@ -34,6 +36,7 @@ pub(crate) fn rows() -> Vec<Row> {
     control::rows(&mut table);
     ways::rows(&mut table);
     reasons::rows(&mut table);
+    plain::rows(&mut table);
     sending::rows(&mut table);
     ports::rows(&mut table);
     log::rows(&mut table);
@@ -85,6 +88,10 @@ impl Table {
 
     fn reason(&mut self, name: impl Into<String>, test: impl Fn(&ReasonSeen) -> bool + 'static) {
         self.row(name, When::Reason(Box::new(test)));
+    }
+
+    fn plain(&mut self, name: impl Into<String>, test: impl Fn(&PlainSeen) -> bool + 'static) {
+        self.row(name, When::Plain(Box::new(test)));
     }
 
     fn walk(&mut self, name: impl Into<String>, test: impl Fn(&WalkSeen) -> bool + 'static) {

@@ -1,11 +1,11 @@
--- `frame::kept` meets its contract: each way out is a row of the table. Assumes nothing.
+-- `frame::length_kept` meets its contract: each way out is a row of the table. Assumes nothing.
 use Rattle.frame.proofs.FrameLaws.{kept-type, kept-short}
 use Rattle.frame.proofs.Length.{kept-gap, kept-exact, kept-padded}
 use mathlib.Core.Path.{sym}
 use borrow.Author.Needs.{needs}
 use borrow.Author.Tests.{ne-eqb}
-use Rattle.frame.proofs.kept.Statement.{statement}
-use Rattle.frame.proofs.kept.Tie as tie
+use Rattle.frame.proofs.length_kept.Statement.{statement}
+use Rattle.frame.proofs.length_kept.Tie as tie
 
 returns : tie.Need-returns
 returns c = sym (kept-type _ _ _ (c .if1 .taken))
@@ -25,5 +25,5 @@ shortest-requires c κs = search needs
 returns-5 : tie.Need-returns-5
 returns-5 c = rw (kept-padded _ _ _ (c .before .before .if3 .left), ne-eqb _ _ (c .before .if4 .left), c .shortest .ensures)
 
-pub kept-spec : {M : Type 1} → statement M
-kept-spec = tie.close (tie.spec returns returns-2 returns-3 returns-4 shortest-requires returns-5)
+pub length-kept-spec : {M : Type 1} → statement M
+length-kept-spec = tie.close (tie.spec returns returns-2 returns-3 returns-4 shortest-requires returns-5)
