@@ -8,15 +8,17 @@ use mathlib.Core.List.{List, [], _∷_}
 use mathlib.Core.Option.{Option}
 use lib.ListN.{length}
 use denote.Enum.Declared.{tagOf}
-use types.Run.{OneOf, miss}
+use types.Run.{OneOf}
 use lib.Dec.{ltb}
 use Rattle.line.specs.Octets.{sameOctets}
 use Rattle.line.proofs.Octets.{sameOctets-eq, false-unless}
 use Rattle.station.specs.declared.Address.{Address}
 use Rattle.station.specs.declared.Settings.{Settings}
 use Rattle.station.specs.declared.Outcome.{Outcome}
-use Rattle.station.specs.declared.Outcome.the-variants.{Cut, BadPreamble, Undersized, Oversized, WrongFcs, WrongLength, Filtered, PauseTaken, PfcTaken, ControlDropped, HandedOut}
+use Rattle.station.specs.declared.Outcome.the-variants.{Cut, BadPreamble, Undersized, Oversized, WrongFcs, WrongLength, Filtered}
+use Rattle.station.specs.declared.Outcome.the-variants.{PauseTaken, PfcTaken, ControlDropped, HandedOut}
 use Rattle.station.proofs.Outcome.{the-type}
+use Rattle.station.proofs.Arms.{oneToSeven, eightToEleven, early, late}
 use Rattle.station.specs.Station.{isGroup}
 use Rattle.fields.specs.Fields.{destination}
 use Rattle.address.specs.Address.{broadcastAddress}
@@ -24,42 +26,16 @@ use Rattle.table.specs.Way.{accepts, way}
 use Rattle.table.proofs.Ways.{way-accepts, way-own, way-le}
 use Rattle.control.specs.Control.{isControlFrame, toReservedGroup, toOwn, filtered, frameWay, wayCarried}
 
--- ---- the two arms of `way_carried`, by the places of their variants in the enum
-
-abbrev eightToEleven : List ℕ
-eightToEleven = 7 ∷ 8 ∷ 9 ∷ 10 ∷ []
-
-abbrev oneToSeven : List ℕ
-oneToSeven = 0 ∷ 1 ∷ 2 ∷ 3 ∷ 4 ∷ 5 ∷ 6 ∷ []
+-- ---- the two arms of `way_carried`
 
 module _ (s : Settings) (own : List (Option Address)) (f : List ℕ) where
   pub no-way : (o : Outcome) → OneOf oneToSeven (tagOf the-type o) → 0 ≡ wayCarried s own o f
   unfolding wayCarried
-  no-way Cut h = refl
-  no-way BadPreamble h = refl
-  no-way Undersized h = refl
-  no-way Oversized h = refl
-  no-way WrongFcs h = refl
-  no-way WrongLength h = refl
-  no-way Filtered h = refl
-  no-way PauseTaken h = absurd (miss oneToSeven 7 tt h)
-  no-way PfcTaken h = absurd (miss oneToSeven 8 tt h)
-  no-way ControlDropped h = absurd (miss oneToSeven 9 tt h)
-  no-way HandedOut h = absurd (miss oneToSeven 10 tt h)
+  no-way o h = early o 0 _ _ _ _ h
 
   pub some-way : (o : Outcome) → OneOf eightToEleven (tagOf the-type o) → frameWay s own f ≡ wayCarried s own o f
   unfolding wayCarried
-  some-way PauseTaken h = refl
-  some-way PfcTaken h = refl
-  some-way ControlDropped h = refl
-  some-way HandedOut h = refl
-  some-way Cut h = absurd (miss eightToEleven 0 tt h)
-  some-way BadPreamble h = absurd (miss eightToEleven 1 tt h)
-  some-way Undersized h = absurd (miss eightToEleven 2 tt h)
-  some-way Oversized h = absurd (miss eightToEleven 3 tt h)
-  some-way WrongFcs h = absurd (miss eightToEleven 4 tt h)
-  some-way WrongLength h = absurd (miss eightToEleven 5 tt h)
-  some-way Filtered h = absurd (miss eightToEleven 6 tt h)
+  some-way o h = late o 0 (frameWay s own f) h
 
 -- ---- "Accepted and refused stay as they are": rule 7
 

@@ -8,7 +8,7 @@ use mathlib.Core.List.{List, [], _∷_}
 use mathlib.Core.Option.{Option}
 use lib.ListN.{length, getD}
 use denote.Enum.Declared.{tagOf}
-use types.Run.{OneOf, miss}
+use types.Run.{OneOf}
 use Rattle.line.specs.declared.Found.{Found}
 use Rattle.line.specs.declared.Found.the-variants.{At}
 use Rattle.line.specs.Line.{capture, findStart, findControl, overwrite}
@@ -25,6 +25,7 @@ use Rattle.station.specs.declared.Outcome.the-variants.{PauseTaken, PfcTaken, C
 use Rattle.station.specs.declared.Checked.the-variants.{Fine}
 use Rattle.station.specs.Numbers.{byOutcome, outcomeNumber}
 use Rattle.station.proofs.Outcome.{the-type}
+use Rattle.station.proofs.Arms.{oneToSeven, early}
 use Rattle.fields.specs.declared.Layout.{Layout}
 use Rattle.fields.specs.Places.{layoutOf}
 use Rattle.fields.proofs.Places.{layout-tags, layout-place}
@@ -54,22 +55,9 @@ use Rattle.logging.proofs.Turns.{number-some, turn-none, turn-open, tur
 
 -- ---- which outcomes say something of their frame
 
-abbrev oneToSeven : List ℕ
-oneToSeven = 0 ∷ 1 ∷ 2 ∷ 3 ∷ 4 ∷ 5 ∷ 6 ∷ []
-
--- the match's last arm, by the places of its variants in the enum
+-- the match's last arm
 pub tells-none : (o : Outcome) → OneOf oneToSeven (tagOf the-type o) → false ≡ byOutcome o false true true true true
-tells-none Cut h = refl
-tells-none BadPreamble h = refl
-tells-none Undersized h = refl
-tells-none Oversized h = refl
-tells-none WrongFcs h = refl
-tells-none WrongLength h = refl
-tells-none Filtered h = refl
-tells-none PauseTaken h = absurd (miss oneToSeven 7 tt h)
-tells-none PfcTaken h = absurd (miss oneToSeven 8 tt h)
-tells-none ControlDropped h = absurd (miss oneToSeven 9 tt h)
-tells-none HandedOut h = absurd (miss oneToSeven 10 tt h)
+tells-none o h = early o false true true true true h
 
 -- ---- the record of a frame
 

@@ -7,32 +7,19 @@ use lib.ListN.{length, getD, List·getD-eq-default}
 use lib.Seq.{getD-take}
 use lib.Dec.{eqb, lit<}
 use denote.Enum.Declared.{tagOf}
-use types.Run.{OneOf, miss}
+use types.Run.{OneOf}
 use Rattle.station.specs.declared.Outcome.{Outcome}
-use Rattle.station.specs.declared.Outcome.the-variants.{Cut, BadPreamble, Undersized, Oversized, WrongFcs, WrongLength, Filtered, PauseTaken, PfcTaken, ControlDropped, HandedOut}
 use Rattle.station.proofs.Outcome.{the-type}
+use Rattle.station.proofs.Arms.{oneToSeven, early}
 use Rattle.station.specs.Station.{isGroup}
 use Rattle.fields.specs.Fields.{destination}
 use Rattle.outcome.specs.Status.{wordOf, statusOf}
 
--- ---- the match's last arm, by the places of its variants in the enum
-
-abbrev oneToSeven : List ℕ
-oneToSeven = 0 ∷ 1 ∷ 2 ∷ 3 ∷ 4 ∷ 5 ∷ 6 ∷ []
+-- ---- the match's last arm
 
 module _ (bits all handed : ℕ) where
   pub no-word : (o : Outcome) → OneOf oneToSeven (tagOf the-type o) → 0 ≡ wordOf o bits all handed
-  no-word Cut h = refl
-  no-word BadPreamble h = refl
-  no-word Undersized h = refl
-  no-word Oversized h = refl
-  no-word WrongFcs h = refl
-  no-word WrongLength h = refl
-  no-word Filtered h = refl
-  no-word PauseTaken h = absurd (miss oneToSeven 7 tt h)
-  no-word PfcTaken h = absurd (miss oneToSeven 8 tt h)
-  no-word ControlDropped h = absurd (miss oneToSeven 9 tt h)
-  no-word HandedOut h = absurd (miss oneToSeven 10 tt h)
+  no-word o h = early o 0 _ _ _ _ h
 
 -- ---- the word of a frame, from what was found to be the frame's
 

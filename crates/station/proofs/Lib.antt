@@ -1,3 +1,4 @@
+pub mod Arms
 pub mod Counters
 pub mod Refusals
 pub mod Shown

@@ -14,7 +14,7 @@ ghost use lib.ListN.{length, getD, drop};
 ghost use Rattle.fields.specs.Fields.{destination};
 ghost use Rattle.table.specs.Entries.{holderBy, addressAt, entryAt, entriesOf, isHeld, isFree, freeEntry, ownAt, ownEntries, held, names, firstMine, isFound};
 ghost use Rattle.line.specs.Table.{first};
-ghost use Rattle.table.specs.Calls.{emptyTable, freed, taken, holderOctet, putEntry, addRefusals, removeRefusals, change, putAt, added, removed};
+ghost use Rattle.table.specs.Calls.{emptyTable, freed, taken, holderOctet, putEntry, addRefusals, removeRefusals, change, putAt, changed, added, removed};
 ghost use Rattle.table.specs.Tests.{badJob, again, twice, overfull, badTable};
 ghost use Rattle.table.specs.Steps.{oneIf};
 ghost use Rattle.table.specs.Way.{accepts, otherwiseWay, entryWay, way};
@@ -98,13 +98,6 @@ fn find_from(job: u8, t: &[u8; 128], from: usize, f: &[u8]) -> Found
         k += 1;
     }
     Found::Nothing
-}
-
-// The entry by which a job lists a frame's destination.
-pub fn find(job: u8, t: &[u8; 128], f: &[u8]) -> Found
-    ensures { λ r. ⌜ r ≡ firstMine (destination (now (f .entry))) 0 (ownEntries job (now (t .entry))) ⌝ }
-{
-    find_from(job, t, 0, f)
 }
 
 // Whether a search found an entry.
@@ -417,17 +410,25 @@ fn put_at(found: Found, t: &mut [u8; 128], e: Entry) -> Placed
     Placed::At(k)
 }
 
+// Refused, or an entry in the place that was found.
+fn changed(checked: Checked, found: Found, t: &mut [u8; 128], e: Entry) -> Placed
+    requires { ⌜ ((i : ℕ) → found ≡ Found.At i → i < 16) ⌝ }
+    ensures { λ r. ⌜ change r (now (t .exit)) ≡ changed checked found (now (t .entry)) e ⌝ }
+{
+    if let Checked::Refused(x) = checked {
+        return Placed::Refused(x);
+    }
+    put_at(found, t, e)
+}
+
 // An addition takes the lowest free entry.
 pub fn add(job: u8, t: &mut [u8; 128], a: Address) -> Placed
     ensures { λ r. ⌜ change r (now (t .exit)) ≡ added job (now (t .entry)) a ⌝ }
 {
     let free = free_entry(t);
     let checked = check_add(job, t, a, free);
-    if let Checked::Refused(x) = checked {
-        return Placed::Refused(x);
-    }
     let e = taken_by(job, a);
-    put_at(free, t, e)
+    changed(checked, free, t, e)
 }
 
 // A removal frees the entry by which the job lists the address.
@@ -436,12 +437,9 @@ pub fn remove(job: u8, t: &mut [u8; 128], a: Address) -> Placed
 {
     let found = find_address(job, t, a);
     let checked = check_remove(job, t, a, found);
-    if let Checked::Refused(x) = checked {
-        return Placed::Refused(x);
-    }
     let e = Entry {
         holder: Holder::Nobody,
         address: Address([0u8; 6]),
     };
-    put_at(found, t, e)
+    changed(checked, found, t, e)
 }
