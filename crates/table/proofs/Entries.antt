@@ -155,7 +155,7 @@ module _ (job : ℕ) (t : List ℕ) (k : ℕ) (h : k < 16) where
   pub search-next : (d : List ℕ) → names d (ownAt job (entryAt t k)) ≡ false → firstMine d (k + 1) (drop (k + 1) own) ≡ firstMine d k (drop k own)
   search-next d e = sym (ap (firstMine d k) own-from ∙ mine-later d k (ownAt job (entryAt t k)) (drop (k + 1) own) e)
 
-own-end : (job : ℕ) (t : List ℕ) (k : ℕ) → 16 ≤ k → drop k (ownEntries job t) ≡ []
+pub own-end : (job : ℕ) (t : List ℕ) (k : ℕ) → 16 ≤ k → drop k (ownEntries job t) ≡ []
 own-end job t k h = drop-of-length-le (ownEntries job t) {i = k} (omega (arith, sixteen job t))
 
 pub search-end : (job : ℕ) (t : List ℕ) (k : ℕ) (d : List ℕ) → 16 ≤ k → firstMine d k (drop k (ownEntries job t)) ≡ Nothing

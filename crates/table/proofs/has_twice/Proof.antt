@@ -16,16 +16,22 @@ Inv-loop job t k₀ k = (k ≤ 16) × (twice (drop k (ownEntries job t)) ≡ twi
 abbrev μ-loop : tie.MeasureT-loop
 μ-loop job t k₀ k = 16 - k
 
+ends-differ-requires : tie.Need-ends-differ-requires Inv-loop μ-loop
+ends-differ-requires c κs = search needs
+
+returns : tie.Need-returns Inv-loop μ-loop
+returns c = sym (c .before .ends-differ .ensures (c .if1 .taken))
+
 loop-holds : tie.Need-loop-holds Inv-loop μ-loop
 loop-holds c = (search needs, refl)
 
 again-requires : tie.Need-again-requires Inv-loop μ-loop
 again-requires c κs = omega arith
 
-returns : tie.Need-returns Inv-loop μ-loop
-returns c =
+returns-2 : tie.Need-returns-2 Inv-loop μ-loop
+returns-2 c =
     let l = c .before .before .before .loop in
-    sym (twice-here _ _ (l .k) (omega arith) (sym (c .before .again .ensures) ∙ c .if1 .taken)) ∙ l .inv .1
+    sym (twice-here _ _ (l .k) (omega arith) (sym (c .before .again .ensures) ∙ c .if2 .taken)) ∙ l .inv .1
 
 add-k : tie.Need-add-k Inv-loop μ-loop
 add-k c = omega arith
@@ -36,10 +42,10 @@ loop-less c = omega arith
 loop-again : tie.Need-loop-again Inv-loop μ-loop
 loop-again c =
     let l = c .before .before .before .loop in
-    (omega arith, twice-later _ _ (l .k) (omega arith) (sym (c .before .again .ensures) ∙ c .if1 .left) ∙ l .inv .1)
+    (omega arith, twice-later _ _ (l .k) (omega arith) (sym (c .before .again .ensures) ∙ c .if2 .left) ∙ l .inv .1)
 
-returns-2 : tie.Need-returns-2 Inv-loop μ-loop
-returns-2 c = let l = c .before .loop in sym (twice-end _ _ (l .k) (omega arith)) ∙ l .inv .1
+returns-3 : tie.Need-returns-3 Inv-loop μ-loop
+returns-3 c = let l = c .before .loop in sym (twice-end _ _ (l .k) (omega arith)) ∙ l .inv .1
 
 pub has-twice-spec : {M : Type 1} → statement M
 has-twice-spec =
@@ -47,10 +53,12 @@ has-twice-spec =
     (tie.spec
     Inv-loop
     μ-loop
+    ends-differ-requires
+    returns
     loop-holds
     again-requires
-    returns
+    returns-2
     add-k
     loop-less
     loop-again
-    returns-2)
+    returns-3)
