@@ -1,7 +1,7 @@
 #!/usr/bin/env python3
 """Holds docs/DEFINITIONS.md and docs/PROMISES.md to the sources: every definition and record of crates/*/specs is named there, and every
 name and theorem there exists; README.md to the samples that it shows; and docs/PLAIN.md to the reader's code, all of it and in its order but for
-what it uses and promises, and to the model's rows of its worked capture.
+what it uses and promises, to the model's rows of its worked capture, these alone and in their order, and to a page's length.
 
 Every public function and no other is in docs/PROMISES.md, each with two must-fail edits or more, and every edit named there exists. Internal files (those whose first line
 says `Internal`) need not be named. Prints what is missing and exits 1, or says nothing.
@@ -71,13 +71,17 @@ sys.dont_write_bytecode = True
 sys.path.insert(0, str(root / "tools" / "oracle"))
 import plain_page  # noqa: E402
 
+PAGE = 112  # "a reader that fits on one page" (document 02, item 12)
 plain = (root / "docs" / "PLAIN.md").read_text()
 shown = [line for block in re.findall(r"^```rust\n(.*?)^```", plain, re.M | re.S) for line in block.split("\n") if line.strip()]
 code = (root / "crates" / "plain" / "src" / "lib.rt").read_text()
 code = code[code.index("// The reader between"):]
 if shown != [line for line in code.split("\n") if line.strip() and not line.strip().startswith("ensures")]:
     missing.append("docs/PLAIN.md: the code is not crates/plain/src/lib.rt")
-missing += [f"docs/PLAIN.md: no row {row}" for row in plain_page.rows() if row not in plain]
+if re.findall(r"^\| \d.*$", plain, re.M) != plain_page.rows():
+    missing.append("docs/PLAIN.md: the rows of its capture are not tools/oracle/plain_page.py's")
+if plain.count("\n") > PAGE:
+    missing.append(f"docs/PLAIN.md: more than a page of {PAGE} lines")
 for line in missing:
     print(line)
 sys.exit(1 if missing else 0)
