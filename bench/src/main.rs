@@ -70,7 +70,7 @@ impl Bench {
         rates.collect()
     }
 
-    // `walk`, `walk_log`, `read` and `explain` on one capture. What the others keep of a walk are its counters.
+    // `walk`, `walk_log`, `read`, `explain` and the plain reader on one capture. What the others keep of a walk are its counters.
     fn reading(&self, kind: &Kind, line: &Line) -> Vec<Row> {
         let (name, limit, symbols) = (kind.name, kind.limit, line.octets.len());
         let proved = |by| Box::new(Proved::new(by, line, limit));
@@ -108,7 +108,7 @@ impl Bench {
             independent(Check::ByteTable, By::Explain),
             independent(Check::Slicing16, By::Explain),
         ];
-        // a call for each symbol, beside the same captures
+        // a call for each symbol, timed in the same turns as the walks
         let mut plains: Rivals = vec![
             proved(By::Plain),
             independent(Check::ByteTable, By::Plain),
@@ -122,9 +122,11 @@ impl Bench {
         let pushed = agree(name, &mut plains);
         assert!(read == pushed, "{name}: the plain reader counts otherwise");
         reads.append(&mut whys);
-        reads.append(&mut plains);
+        let walking = walks.len();
+        walks.append(&mut plains);
 
-        let walk = self.rates(symbols, &mut walks);
+        let mut walk = self.rates(symbols, &mut walks);
+        let plain = walk.split_off(walking);
         let read = self.rates(symbols, &mut reads);
         let zlib = walk.get(5).copied();
         let walkers = [Some(walk[2]), Some(walk[3]), Some(walk[4]), zlib];
@@ -138,7 +140,11 @@ impl Bench {
                 read[4],
                 [Some(read[5]), Some(read[6]), None, None],
             ),
-            row("plain", read[7], [Some(read[8]), Some(read[9]), None, None]),
+            row(
+                "plain",
+                plain[0],
+                [Some(plain[1]), Some(plain[2]), None, None],
+            ),
         ];
         // the iterator is the same call for each Start: good traffic shows what it adds or saves
         if kind.has_frames() {

@@ -15,6 +15,7 @@ const ZLIB: usize = 4;
 // Calls that are compared with each other.
 const LOGGED: (&str, &str) = ("walk_log", "walk");
 const EXPLAINED: (&str, &str) = ("explain", "read");
+const PUSHED: (&str, &str) = ("walk", "plain");
 const COUNTED: (&str, &str) = ("send, totals", "send");
 
 // Frames that the check finds damaged.
@@ -377,6 +378,8 @@ impl Report {
         self.by_capture(&mut out, LOGGED);
         out.push_str("\n### `explain`: how many times as fast as `read`, by capture\n\n");
         self.by_capture(&mut out, EXPLAINED);
+        out.push_str("\n### `walk`: how many times as fast as `plain`, by capture\n\n");
+        self.by_capture(&mut out, PUSHED);
         out.push_str("\n### `send, totals`: how many times as fast as `send`, by capture\n\n");
         self.by_capture(&mut out, COUNTED);
         out.push_str("\n### A table of 12 and 4 entries\n\n");
