@@ -1,4 +1,4 @@
-"""An independent model of document 01 with items 1 to 12 of document 02, written from their text alone and not from the definitions in crates/*/specs.
+"""An independent model of document 01 with items 1 to 13 of document 02, written from their text alone and not from the definitions in crates/*/specs.
 
 Each piece stands under the sentence of the documents that it renders. The check is zlib's crc32, not a loop of our own, and a log's record is laid
 out by struct.
@@ -511,6 +511,34 @@ def plain_walk(s: Settings, state: State, octets: List[int], marks: List[int], j
         assert answers == [Ended(r.outcome, r.status, r.part, r.address) for r in starts]
         assert reader.state == last.state and (reader.run is not None) == (last.kind == "open") and reader.taken == len(octets)
     return 0, answers, reader
+
+
+# ---- Size table for a day of captures (item 13)
+
+# "64, 65 to 127, 128 to 255, 256 to 511, 512 to 1023, 1024 to 1518, above"
+BANDS = [range(64, 65), range(65, 128), range(128, 256), range(256, 512), range(512, 1024), range(1024, 1519), range(1519, 2**16)]
+
+
+@dataclass(frozen=True)
+class SizeTable:
+    frames: List[int] = field(default_factory=lambda: [0] * 7)
+    octets: List[int] = field(default_factory=lambda: [0] * 7)  # "and the octets in each band", from destination to FCS
+
+
+def adding_sizes(sizes: SizeTable, s: Settings, octets: List[int], marks: List[int], job: int = 0, table: Table = EMPTY) -> Tuple[int, SizeTable]:
+    """"Add up, over any number of captures, frames of outcomes 8 to 11 by frame length": one capture, walked from place 0; refusal or 0, and the table. Open
+    point: it has no state, since what it adds doesn't depend on one."""
+    *starts, last = walk(s, State(), octets, marks, 0, job, table)
+    if last.kind == "refused":  # "a refused capture adds nothing"
+        return last.refusal, sizes
+    # Status bits "31 to 16 frame length, destination to FCS"
+    lengths = [r.status >> 16 & 0xFFFF for r in starts if r.outcome >= 8]
+    # "Counts are 64 bits and roll over"
+    after = SizeTable([(count + sum(length in band for length in lengths)) % 2**64 for count, band in zip(sizes.frames, BANDS)],
+                      [(count + sum(length for length in lengths if length in band)) % 2**64 for count, band in zip(sizes.octets, BANDS)])
+    # "All bands together equal the rise of those four counters, modulo 2^64"
+    assert (sum(after.frames) - sum(sizes.frames) - sum(last.state.counters[7:])) % 2**64 == 0
+    return 0, after
 
 
 # ---- Why was it thrown away? (item 8)
@@ -1640,3 +1668,55 @@ def try_plain():
 
 
 try_plain()
+
+
+# ---- The size table, tried on both sides of each band
+
+
+def try_sizes():
+    wide, other, edges = replace(PRINTING, limit=9618), [2, 0, 0, 0, 0, 9], [64, 65, 127, 128, 255, 256, 511, 512, 1023, 1024, 1518, 1519, 9618]
+
+    def line(length, header=(0x0800,), destination=PRINTING.own):
+        """A frame of that length, without Idles."""
+        covered = destination + other + [octet for number in header for octet in high_first(number)]
+        return on_line(covered + [7] * (length - 4 - len(covered)), 1)
+
+    def added(symbols, sizes=SizeTable(), s=wide, **by):
+        refusal, after = adding_sizes(sizes, s, [octet for octet, _ in symbols], [mark for _, mark in symbols], **by)
+        assert refusal == 0
+        return after
+
+    # Each edge by itself, with as many tags as fit, and all in one capture and in another order; an undersized and an oversized one are in no band.
+    for n, length in enumerate(edges):
+        band = (n + 1) // 2
+        for header in ([0x0800], [SERVICE, 5, 0x0800], [CUSTOMER, 5] * 8 + [0x0800]):
+            assert added(line(length, header)) == SizeTable([int(k == band) for k in range(7)], [length * (k == band) for k in range(7)])
+    whole = SizeTable([1, 2, 2, 2, 2, 2, 2], [64, 192, 383, 767, 1535, 2542, 11137])
+    one_by_one = SizeTable()
+    for length in edges[::-1]:
+        one_by_one = added(line(length), one_by_one)
+    every = [symbol for length in edges for symbol in line(length)] + line(63) + line(9619) + line(64, destination=other) + [(START, 1)]
+    assert added(every) == whole == one_by_one
+    assert added(line(9650, [CUSTOMER, 5] * 8 + [0x0800])).octets[6] == 9650
+    # Outcomes 8 to 11; of a frame that is padded, all of it.
+    pause = pause_symbols(PRINTING, 3)
+    for s, symbols, n in [(replace(PRINTING, flow="pause"), pause, 64), (replace(PRINTING, flow="PFC"), pfc_symbols(PRINTING, 3, [1] * 8), 64),
+                          (PRINTING, pause, 64), (replace(PRINTING, pass_control=True), pause, 64),
+                          (PRINTING, line(64, [0]), 64), (PRINTING, line(64, [1501]), 0), (PRINTING, line(64)[:-1] + [(ERROR, 1)], 0),
+                          (PRINTING, [(o ^ (n == 30), m) for n, (o, m) in enumerate(line(64))], 0), (PRINTING, line(64)[2:], 0)]:
+        assert added(symbols, s=s) == SizeTable([int(n > 0)] + [0] * 6, [n] + [0] * 6)
+    # By the entries of the job.
+    for job, n in [(0, 0), (1, 1)]:
+        assert sum(added(line(100, destination=other), job=job, table=[None, (1, other)] + [None] * 14).frames) == n
+    # Both roll over, each by itself.
+    for frames, octets, after in [(2**64 - 1, 2**64 - 63, (0, 1)), (2**64 - 2, 2**64 - 64, (2**64 - 1, 0)), (2**32 - 1, 2**64 - 65, (2**32, 2**64 - 1))]:
+        assert added(line(64), SizeTable([frames] * 7, [octets] * 7)) == SizeTable([after[0]] + [frames] * 6, [after[1]] + [octets] * 6)
+    # The refusals of the walk, one after the other.
+    before, octets, marks = SizeTable([3] * 7, [4] * 7), [octet for octet, _ in every], [mark for _, mark in every]
+    broken = [(1, other)] * 2 + [None] * 14
+    for refusal, given in [(1, (replace(wide, limit=0), octets, marks[1:], 2, broken)), (14, (wide, octets, marks[1:], 2, broken)),
+                           (2, (wide, octets, marks[1:], 1, broken)), (20, (wide, octets, marks, 1, broken)), (2, (wide, [IDLE] * 65537, [1] * 65537))]:
+        assert adding_sizes(before, *given) == (refusal, before)
+
+
+try_sizes()

@@ -1,4 +1,4 @@
-//! A reference implementation of document 01, with items 1 to 12 of document 02:
+//! A reference implementation of document 01, with items 1 to 13 of document 02:
 //! the work of an Ethernet MAC on line symbols kept in memory.
 //!
 //! Written from those documents alone, to be compared with the proved program.
@@ -21,6 +21,7 @@ mod refusal;
 mod send;
 mod settings;
 mod show;
+mod sizes;
 mod table;
 mod totals;
 
@@ -38,5 +39,6 @@ pub use receive::{read, walk, Answer, Reading, Walked};
 pub use send::{fill_idle, send_client, send_pause, send_pfc, Client, Form, Sent, Tag, TagKind};
 pub use settings::{screen, Flow, Settings, State};
 pub use show::{show, Lent, Part};
+pub use sizes::SizeTable;
 pub use table::{Entry, Table};
 pub use totals::{fill_totals, starts_before, Total};

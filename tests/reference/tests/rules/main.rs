@@ -1,4 +1,4 @@
-//! The rules of document 01 and of items 1 to 12 of document 02, one module for
+//! The rules of document 01 and of items 1 to 13 of document 02, one module for
 //! each part.
 
 mod addresses;
@@ -19,6 +19,7 @@ mod robust;
 mod room;
 mod round_trip;
 mod sending;
+mod sizes;
 mod tags;
 mod timers;
 mod totals;
