@@ -1,8 +1,9 @@
 /*
- * The driver of tools/count_instructions: `count walk|keep|read|explain|plain|send|lanes OCTETS FRAMES` has that many untagged frames of that size walked in one
- * call, walked and kept in a log, read, explained or sent one by one, or sent so on the four-lane port. They are good ones of a type, to the own address; of
- * 0 octets they are Starts alone, each of which cuts the one before it. All that is done beside is the same for any number of frames, so that the difference
- * between two numbers is what the frames took. Exits with 1 if an answer is not as expected.
+ * The driver of tools/count_instructions: `count walk|keep|add|read|explain|plain|send|lanes OCTETS FRAMES` has that many untagged frames of that size
+ * walked in one call, walked and kept in a log, added to a size table, read or explained one by one, pushed symbol by symbol, or sent one by one, also on
+ * the four-lane port. They are good ones of a type, to the own address; of 0 octets they are Starts alone, each of which cuts the one before it. All that is
+ * done beside is the same for any number of frames, so that the difference between two numbers is what the frames took. Exits with 1 if an answer is not as
+ * expected.
  */
 #include <stdio.h>
 #include <stdlib.h>
@@ -118,6 +119,18 @@ static void keep_frames(size_t frames, size_t symbols) {
   expect(kept_records[frames - 1].outcome == outcome, "a frame has another outcome");
 }
 
+/* Into a size table; Starts that are cut add nothing. */
+static void add_frames(size_t frames, size_t symbols) {
+  fenhamper_sizes sizes;
+  size_t band;
+  uint64_t added = 0;
+  if (frames == 0) return;
+  fenhamper_sizes_fresh(&sizes);
+  expect(fenhamper_sizes_add_capture(&settings, 0, &table, octets, symbols, marks, symbols, &sizes) == 0, "the capture is refused");
+  for (band = 0; band < FENHAMPER_BANDS; band++) added += sizes.frames[band];
+  expect(added == (outcome == FENHAMPER_HANDED_OUT ? frames : 0), "other frames are added");
+}
+
 /* Symbol by symbol, by the plain reader: a frame, its gap too. */
 static void push_frames(size_t frames, size_t symbols) {
   fenhamper_plain reader = fenhamper_plain_reader();
@@ -130,7 +143,7 @@ static void push_frames(size_t frames, size_t symbols) {
 
 int main(int words, char **word) {
   size_t size, frames, frame, symbols;
-  expect(words == 4, "count walk|keep|read|explain|send|lanes OCTETS FRAMES");
+  expect(words == 4, "count walk|keep|add|read|explain|plain|send|lanes OCTETS FRAMES");
   size = number(word[2]);
   frames = number(word[3]);
   expect(size == 0 || (size >= FENHAMPER_LEAST_FRAME && size <= BESIDE_DATA + sizeof data), "a frame has 64 to 1518 octets");
@@ -142,6 +155,7 @@ int main(int words, char **word) {
   switch (*word[1]) {
     case 'w': walk_frames(frames, symbols); break;
     case 'k': keep_frames(frames, symbols); break;
+    case 'a': add_frames(frames, symbols); break;
     case 'r': read_frames(frames); break;
     case 'p': push_frames(frames, symbols); break;
     case 'e': explain_frames(frames); break;

@@ -7,8 +7,8 @@
  *   Reentrant     Yes. Nothing is kept between calls but what the caller lends.
  *   Stack         At most FENHAMPER_STACK_READ octets for a reading, its reason or a call on a log or a table,
  *                 .._SCREEN for the screen's data, .._SEND for a sending call, .._COUNTED for one with totals,
- *                 .._WALK for a walk, of which 16 KB are for tables of the FCS, .._PLAIN for a symbol of the plain
- *                 reader; a test measures them.
+ *                 .._WALK for a walk or a capture whose sizes are added, of which 16 KB are for tables of the FCS,
+ *                 .._PLAIN for a symbol of the plain reader; a test measures them.
  *   Client data   Of a reading: data_length octets from octets + data_place on, in the caller's own octets and
  *                 never a copy. They always lie inside, so that no fenhamper_client_data is needed for them.
  *
@@ -82,10 +82,11 @@ static uint32_t (*const fenhamper_layout)(void) __attribute__((used)) = fenhampe
 #define FENHAMPER_STACK_SCREEN 1536  /* fenhamper_screen_data */
 #define FENHAMPER_STACK_SEND 640     /* the sending calls and Idle fill, and the two calls on totals alone */
 #define FENHAMPER_STACK_COUNTED 768  /* the sending calls and Idle fill with totals */
-#define FENHAMPER_STACK_WALK 18944   /* fenhamper_walk and fenhamper_walk_log */
+#define FENHAMPER_STACK_WALK 18944   /* fenhamper_walk, fenhamper_walk_log and fenhamper_sizes_add_capture */
 #define FENHAMPER_STACK_PLAIN 1536   /* fenhamper_plain_symbol and fenhamper_plain_fresh */
 #define FENHAMPER_PLAIN_FIRST 53     /* octets of a run that the plain reader keeps from its front, */
 #define FENHAMPER_PLAIN_LAST 4       /* and from its end */
+#define FENHAMPER_BANDS 7            /* of frame lengths, in a table of sizes */
 
 /* ---- settings */
 
@@ -192,9 +193,10 @@ typedef enum fenhamper_outcome {
 /*
  * Why a call was refused: the first that holds, in the order of their numbers, but that 14 is tested right after 1; 19,
  * 20, 21 and 22 right after 3; 10 after 6 and before 7; where an address is added, 17 before 15 and 16; and, of a symbol
- * of the plain reader, 2 last. So a reading and its reason are refused by 1, 14, 2, 3 or 20, a walk that keeps its
- * readings by these or 11, an addition by 14, 20, 17, 15 or 16, a removal by 14, 20 or 18, a symbol by 1, 14, 20 or 2,
- * in these orders. A refused call leaves the state, every symbol, the totals, the log, the table and the reader.
+ * of the plain reader, 2 last. So a reading and its reason are refused by 1, 14, 2, 3 or 20, a walk and a capture whose
+ * sizes are added by these but 3, a walk that keeps its readings by a reading's or 11, an addition by 14, 20, 17, 15 or
+ * 16, a removal by 14, 20 or 18, a symbol by 1, 14, 20 or 2, in these orders. A refused call leaves the state, every
+ * symbol, the totals, the log, the table, the reader and the sizes.
  */
 typedef enum fenhamper_refusal {
   FENHAMPER_BAD_SETTINGS = 1,    /* own address is a group, or M out of range */
@@ -404,6 +406,20 @@ FENHAMPER_HOLDS(offsetof(fenhamper_told, data_place) == 32);
 FENHAMPER_HOLDS(offsetof(fenhamper_told, data_length) == 40);
 FENHAMPER_HOLDS(offsetof(fenhamper_told, way) == 48);
 FENHAMPER_HOLDS(offsetof(fenhamper_told, spare) == 56);
+
+/*
+ * The size table of any number of captures: frames of outcomes 8 to 11 by their octets from destination to FCS, and
+ * these octets. The bands are 64, 65 to 127, 128 to 255, 256 to 511, 512 to 1023, 1024 to 1518, and above, where a frame
+ * of 1519 to 1522 octets with a tag is too. Counts are of 64 bits and roll over. Any values are some table, and every
+ * count is read whole.
+ */
+typedef struct fenhamper_sizes {
+  uint64_t frames[FENHAMPER_BANDS]; /* of each band, the shortest first */
+  uint64_t octets[FENHAMPER_BANDS]; /* of these frames */
+} fenhamper_sizes;
+FENHAMPER_HOLDS(sizeof(fenhamper_sizes) == 112);
+FENHAMPER_HOLDS(offsetof(fenhamper_sizes, frames) == 0);
+FENHAMPER_HOLDS(offsetof(fenhamper_sizes, octets) == 56);
 
 /* A sending call's answer. */
 typedef struct fenhamper_sent {
@@ -639,6 +655,25 @@ void fenhamper_plain_symbol(const fenhamper_settings *settings, uint8_t job, con
                             fenhamper_state *state, uint64_t numbers[8], uint8_t first[FENHAMPER_PLAIN_FIRST],
                             uint8_t last[FENHAMPER_PLAIN_LAST], uint8_t octet, uint8_t mark, fenhamper_told *told);
 
+/* A size table with nothing in it: all zeros. */
+void fenhamper_sizes_fresh(fenhamper_sizes *sizes);
+
+/*
+ * Add a whole capture to a size table, read as the job with this number: each frame to which a walk gives outcome 8 to
+ * 11, whose four counters there rise by as much as all bands together. It needs no state, and counts nothing else. Of a
+ * capture that ends OPEN, what was counted before that is added. Gives the refusal's number as that walk does, or 0; a
+ * refused capture adds nothing.
+ */
+uint32_t fenhamper_sizes_add_capture(const fenhamper_settings *settings, uint8_t job, const fenhamper_table *table,
+                                     const uint8_t *octets, size_t octets_length, const uint8_t *marks,
+                                     size_t marks_length, fenhamper_sizes *sizes);
+
+/*
+ * Add another size table, each count to its own. So captures may be added in any order, and in parts that are then
+ * added up: the table is the same.
+ */
+void fenhamper_sizes_add_table(fenhamper_sizes *sizes, const fenhamper_sizes *more);
+
 /* The FCS of octets, as a number whose low octet is sent first. */
 uint32_t fenhamper_fcs(const uint8_t *octets, size_t length);
 
@@ -715,7 +750,7 @@ static inline fenhamper_capture fenhamper_captured(fenhamper_line line, size_t e
   return capture;
 }
 
-/* In the next five the table may be null, where nothing is listed. */
+/* In the next six the table may be null, where nothing is listed. */
 static inline const fenhamper_table *fenhamper_table_or_empty(const fenhamper_table *table) {
   static const fenhamper_table empty = FENHAMPER_ZEROS;
   return table ? table : &empty;
@@ -757,6 +792,14 @@ static inline fenhamper_kept fenhamper_capture_keep(const fenhamper_settings *se
   fenhamper_walk_log(settings, job, fenhamper_table_or_empty(table), state, capture.octets, capture.length,
                      capture.marks, capture.length, place, (uint8_t *)log, records * sizeof *log, &kept);
   return kept;
+}
+
+/* Gives the refusal's number, or 0. */
+static inline uint32_t fenhamper_capture_sizes(const fenhamper_settings *settings, uint8_t job,
+                                               const fenhamper_table *table, fenhamper_capture capture,
+                                               fenhamper_sizes *sizes) {
+  return fenhamper_sizes_add_capture(settings, job, fenhamper_table_or_empty(table), capture.octets, capture.length,
+                                     capture.marks, capture.length, sizes);
 }
 
 /* The captures of both jobs, job 0 first. */
@@ -939,6 +982,13 @@ static inline int fenhamper_status_has(uint64_t status, uint64_t mask) { return 
 /* Of a status word: the frame's octets from destination to FCS, and those of its data. */
 static inline uint16_t fenhamper_frame_length(uint64_t status) { return (uint16_t)(status >> 16 & 0xFFFF); }
 static inline uint16_t fenhamper_data_length(uint64_t status) { return (uint16_t)(status & 0xFFFF); }
+
+/* The frame lengths of a band of a size table, in words; "none" of a number that is no band's. */
+static inline const char *fenhamper_band_name(size_t band) {
+  static const char *const names[FENHAMPER_BANDS] = {"64",          "65 to 127",    "128 to 255", "256 to 511",
+                                                     "512 to 1023", "1024 to 1518", "above"};
+  return band < FENHAMPER_BANDS ? names[band] : "none";
+}
 
 /* An outcome's name; "none" of any other number, as of 0. */
 static inline const char *fenhamper_outcome_name(uint64_t outcome) {

@@ -1,8 +1,8 @@
 #!/usr/bin/env python3
-"""Makes the sample captures of this folder, NAME.capture, and beside each what the printing program prints of it, NAME.txt, and what `why` does,
-NAME.why.txt; of one also a log of its readings, NAME.log, and a line on each record, NAME.log.txt, and a shorter log after each of six calls, room.log and
-room.log.txt: all by the independent model (tools/oracle/model.py). `samples/make.py` writes them; `samples/make.py --check` writes nothing and compares them
-with the files kept."""
+"""Makes the sample captures of this folder, NAME.capture, and beside each what the programs print of it: the printing program NAME.txt, `why` NAME.why.txt,
+`size_table` NAME.sizes.txt; of one also a log of its readings, NAME.log, and a line on each record, NAME.log.txt, and a shorter log after each of six calls,
+room.log and room.log.txt: all by the independent model (tools/oracle/model.py). `samples/make.py` writes them; `samples/make.py --check` writes nothing and
+compares them with the files kept."""
 import random
 import sys
 from dataclasses import replace
@@ -15,6 +15,7 @@ from model import (BROADCAST, CONTROL, CUSTOMER, ERROR, IDLE, PRINTING, SERVICE,
                    deleting, deleting_all, high_first, idle_symbols, log_records, logged_walk, on_line, pause_symbols, pfc_symbols, printed, read_back,
                    records, used_only, walks_on)
 from reason_text import whys  # noqa: E402
+from size_text import size_lines  # noqa: E402
 
 US = PRINTING.own
 PEER = replace(PRINTING, own=[0x02, 0, 0, 0, 0, 0x09])  # the station at the other end: the source of every frame here
@@ -109,6 +110,25 @@ def tags():
     )
 
 
+def sized(length, tags=()):
+    """By type, of so many octets from destination to FCS."""
+    return client(bytes(length - 18 - 4 * len(tags)), tags=tags, kind=IPV4)
+
+
+def sizes():
+    """A mix of frames, some at the edges of the bands, and what is in no band: a damaged one, one for another station, one whose run is still open."""
+    lengths = [64] * 6 + [65, 90, 127] * 3 + [128, 255] * 2 + [256, 300, 511] + [512, 1023] + [1024] + [1518] * 2
+    return (
+        sum((sized(length) for length in lengths), [])
+        + sized(1522, tags=[TAG])  # by its tag one above 1518
+        + client(b"padded to 64 octets")
+        + pause_symbols(PEER, 0xFFFF)
+        + damaged(sized(64), 30)
+        + client(b"not for us", to=OTHER)
+        + sized(64)[:60]
+    )
+
+
 def half_a_frame():
     return client(echo_request(1), kind=IPV4) + client(echo_request(2), kind=IPV4)[:60]
 
@@ -136,6 +156,7 @@ def samples():
         "example": bytes.fromhex("01 FB 01 07 01 FB 00 55 01 FD"),  # document 01, "The printing program"
         "outcomes": records(outcomes()),
         "tags": records(tags()),
+        "sizes": records(sizes()),
         "open": records(half_a_frame()),
         "empty": b"",
         "odd": records(client(b"and a mark without its octet")) + b"\x01",
@@ -206,6 +227,7 @@ def files():
     made = {f"{name}.capture": data for name, data in captures.items()}
     made.update({f"{name}.txt": printed(data) for name, data in captures.items()})
     made.update({f"{name}.why.txt": whys(data) for name, data in captures.items()})
+    made.update({f"{name}.sizes.txt": size_lines(data) for name, data in captures.items()})
     walked = kept_walk(captures[LOGGED])
     made.update({f"{LOGGED}.log": bytes(walked.log), f"{LOGGED}.log.txt": log_lines(walked)})
     steps = made_room(captures[LOGGED])

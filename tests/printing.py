@@ -1,5 +1,5 @@
 #!/usr/bin/env python3
-"""The programs `readings`, `plain_readings` and `why`, as built, against the independent model (tools/oracle/model.py).
+"""The programs `readings`, `plain_readings`, `why` and `size_table`, as built, against the independent model (tools/oracle/model.py).
 
 `tests/printing.py [FOLDER] [N] [SEED]` runs each of FOLDER (target/bin if none is named) on every sample, on the edges of document 01, "The
 printing program", and on N drawn inputs (300), each whole from a file and, of `readings`, again in short pieces through a pipe. Standard output is
@@ -22,6 +22,7 @@ import make  # noqa: E402
 from model import (BROADCAST, IDLE, MOST_RECORDS, PREAMBLE, PRINTING, RESERVED_GROUP, START, TAG_KINDS, TERMINATE, fcs, high_first,  # noqa: E402
                    on_line, printed, records)
 from reason_text import whys  # noqa: E402
+from size_text import size_lines  # noqa: E402
 
 SLOW = 5  # seconds that 32,768 Starts may take: far above what they do, so that no busy machine fails this
 HANGS = 60  # seconds after which a program is given up
@@ -180,7 +181,7 @@ def agree(program, text, ways, inputs, rng):
 def main():
     folder = Path(sys.argv[1]).resolve() if len(sys.argv) > 1 else ROOT / "target" / "bin"
     n, seed = int(sys.argv[2]) if len(sys.argv) > 2 else 300, int(sys.argv[3]) if len(sys.argv) > 3 else 1
-    for name in ("readings", "plain_readings", "why"):
+    for name in ("readings", "plain_readings", "why", "size_table"):
         if not (folder / name).is_file():
             fail(f"no program {folder / name}; `rt check {name}` builds target/bin/{name}")
     stale = make.differences()  # so that the samples kept, and what stands beside them, are the model's
@@ -194,6 +195,7 @@ def main():
     # "prints what `readings` prints, octet for octet" (document 02, item 12)
     agree(folder / "plain_readings", printed, [("whole", whole), ("in pieces", in_pieces)], inputs, rng)
     agree(folder / "why", whys, [("whole", whole)], inputs, rng)
+    agree(folder / "size_table", size_lines, [("whole", whole), ("in pieces", in_pieces)], inputs, rng)
 
 
 if __name__ == "__main__":

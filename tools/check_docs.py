@@ -65,7 +65,7 @@ for row in re.findall(r"^\| `\w+::\w+`.*$", promises, re.M):
     if len(set(EDIT.findall(row))) < 2:
         missing.append(f"docs/PROMISES.md: fewer than two edits: {row.split('|')[1].strip()}")
 readme = (root / "README.md").read_text()
-missing += [f"README.md: samples/{name} is not shown as it is" for name in ("first.txt", "first.log.txt", "room.log.txt") if (root / "samples" / name).read_text() not in readme]
+missing += [f"README.md: samples/{name} is not shown as it is" for name in ("first.txt", "first.log.txt", "room.log.txt", "sizes.sizes.txt") if (root / "samples" / name).read_text() not in readme]
 # docs/PLAIN.md: the code of the reader, and the worked capture
 sys.dont_write_bytecode = True
 sys.path.insert(0, str(root / "tools" / "oracle"))

@@ -1,5 +1,6 @@
 //! Fenhamper's speed beside an independent Rust program and C: symbols per second of `walk`, of
-//! `walk_log`, of `read` and `explain` Start by Start, of the plain reader symbol by symbol, of sending, of room in a log and of totals.
+//! `walk_log`, of adding a capture to a size table, of `read` and `explain` Start by Start, of the
+//! plain reader symbol by symbol, of sending, of room in a log and of totals.
 #![deny(unsafe_code)]
 mod baseline;
 mod captures;
@@ -32,7 +33,15 @@ bench/run [--markdown FILE] [--rounds N] [--turn MILLISECONDS]
 const SIZES: [usize; 8] = [128, 1024, 2048, 4096, 8192, 16_384, 32_768, 65_536];
 
 /// What reads and what sends, in the order of the table.
-const READINGS: [&str; 6] = ["walk", "walk_log", "read", "readings", "explain", "plain"];
+const READINGS: [&str; 7] = [
+    "walk",
+    "walk_log",
+    "add_capture",
+    "read",
+    "readings",
+    "explain",
+    "plain",
+];
 const SENDINGS: [(&str, Port, bool); 3] = [
     ("send", Port::Plain, false),
     ("send, four lanes", Port::FourLane, false),
@@ -70,7 +79,8 @@ impl Bench {
         rates.collect()
     }
 
-    // `walk`, `walk_log`, `read`, `explain` and the plain reader on one capture. What the others keep of a walk are its counters.
+    // `walk`, `walk_log`, `add_capture`, `read`, `explain` and the plain reader on one capture. What the others
+    // keep of a walk are its counters.
     fn reading(&self, kind: &Kind, line: &Line) -> Vec<Row> {
         let (name, limit, symbols) = (kind.name, kind.limit, line.octets.len());
         let proved = |by| Box::new(Proved::new(by, line, limit));
@@ -114,6 +124,13 @@ impl Bench {
             independent(Check::ByteTable, By::Plain),
             independent(Check::Slicing16, By::Plain),
         ];
+        // sizes agree among themselves, and are timed in the same turns as the walks
+        let mut sizes: Rivals = vec![
+            proved(By::Sizes),
+            independent(Check::ByteTable, By::Sizes),
+            independent(Check::Slicing16, By::Sizes),
+        ];
+        agree(name, &mut sizes);
         let counted = agree(name, &mut walks);
         let read = agree(name, &mut reads);
         assert!(counted == read, "{name}: walk and read count otherwise");
@@ -124,8 +141,10 @@ impl Bench {
         reads.append(&mut whys);
         let walking = walks.len();
         walks.append(&mut plains);
-
+        let pushing = walks.len();
+        walks.append(&mut sizes);
         let mut walk = self.rates(symbols, &mut walks);
+        let added = walk.split_off(pushing);
         let plain = walk.split_off(walking);
         let read = self.rates(symbols, &mut reads);
         let zlib = walk.get(5).copied();
@@ -134,6 +153,11 @@ impl Bench {
         let mut rows = vec![
             row("walk", walk[0], walkers),
             row("walk_log", walk[1], walkers),
+            row(
+                "add_capture",
+                added[0],
+                [Some(added[1]), Some(added[2]), None, None],
+            ),
             row("read", read[0], byte_and_16),
             row(
                 "explain",

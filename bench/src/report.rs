@@ -14,6 +14,7 @@ const ZLIB: usize = 4;
 
 // Calls that are compared with each other.
 const LOGGED: (&str, &str) = ("walk_log", "walk");
+const SIZED: (&str, &str) = ("add_capture", "walk");
 const EXPLAINED: (&str, &str) = ("explain", "read");
 const PUSHED: (&str, &str) = ("walk", "plain");
 const COUNTED: (&str, &str) = ("send, totals", "send");
@@ -327,6 +328,13 @@ impl Report {
         );
         for capture in ["64", "mix", "1518", "9018", DAMAGED] {
             ask(
+                format!("`add_capture` to `walk`, at most 1.1 times its time: {capture}"),
+                1.0 / 1.1,
+                self.beside(SIZED, capture),
+            );
+        }
+        for capture in ["64", "mix", "1518", "9018", DAMAGED] {
+            ask(
                 format!("`explain` to `read`, at most 1.3 times its time: {capture}"),
                 1.0 / 1.3,
                 self.beside(EXPLAINED, capture),
@@ -376,6 +384,8 @@ impl Report {
         self.rates(&mut out);
         out.push_str("\n### `walk_log`: how many times as fast as `walk`, by capture\n\n");
         self.by_capture(&mut out, LOGGED);
+        out.push_str("\n### `add_capture`: how many times as fast as `walk`, by capture\n\n");
+        self.by_capture(&mut out, SIZED);
         out.push_str("\n### `explain`: how many times as fast as `read`, by capture\n\n");
         self.by_capture(&mut out, EXPLAINED);
         out.push_str("\n### `walk`: how many times as fast as `plain`, by capture\n\n");

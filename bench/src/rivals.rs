@@ -3,8 +3,8 @@ use std::hint::black_box;
 
 use fenhamper::limits::RECORD_SIZE;
 use fenhamper::{blocks, Address, Capture, End, Explained, Frame, Log, Reading, Reason};
-use fenhamper::{Listener, Plain, Sender, Settings, State, Symbol, Table};
-use reference::{Answer, Check, Client, Form, Port, Sent, Walked, Why};
+use fenhamper::{Listener, Plain, Sender, Settings, Sizes, State, Symbol, Table};
+use reference::{Answer, Check, Client, Form, Port, Sent, SizeTable, Walked, Why};
 
 use crate::baseline::{self, Reader};
 use crate::captures::{data_length, Line, TYPE};
@@ -97,6 +97,13 @@ pub enum By {
     Explain,
     /// A call for each symbol, by the plain reader.
     Plain,
+    /// All in one call, into a size table.
+    Sizes,
+}
+
+// What a size table keeps: its counts.
+fn counts(frames: &[u64; 7], octets: &[u64; 7]) -> Vec<u64> {
+    [&frames[..], octets].concat()
 }
 
 // Job 0 with this table.
@@ -114,6 +121,7 @@ pub struct Proved<'a> {
     log: Vec<u8>,
     // of reasons, which no state has a part in
     counters: [u64; 11],
+    sizes: Sizes,
 }
 
 /// Records that a log has beyond those that a walk needs.
@@ -145,6 +153,7 @@ impl<'a> Proved<'a> {
             state: State::default(),
             log,
             counters: [0; 11],
+            sizes: Sizes::new(),
         }
     }
 
@@ -277,12 +286,21 @@ impl Rival for Proved<'_> {
             By::WalkLog => self.walk_log(capture),
             By::Explain => self.explain(capture),
             By::Plain => self.plain(capture),
+            By::Sizes => {
+                let listener = listener(&self.settings, &self.table);
+                let added = self.sizes.add_capture(listener, capture);
+                Tally {
+                    open: added.is_err(),
+                    ..Tally::default()
+                }
+            }
         }
     }
 
     fn kept(&self) -> Vec<u64> {
         match self.by {
             By::Explain => self.counters.to_vec(),
+            By::Sizes => counts(&self.sizes.frames, &self.sizes.octets),
             _ => self.state.counters().to_vec(),
         }
     }
@@ -293,7 +311,8 @@ impl Rival for Proved<'_> {
     }
 }
 
-/// The reference, reading by its walk, Start by Start or symbol by symbol, or explaining.
+/// The reference, reading by its walk, Start by Start or symbol by symbol, adding to a size table, or
+/// explaining.
 pub struct Independent<'a> {
     check: Check,
     by: By,
@@ -301,6 +320,7 @@ pub struct Independent<'a> {
     settings: reference::Settings,
     table: reference::Table,
     state: reference::State,
+    sizes: SizeTable,
 }
 
 impl<'a> Independent<'a> {
@@ -312,6 +332,7 @@ impl<'a> Independent<'a> {
             settings: reference_settings(limit),
             table: reference_table(false),
             state: reference::State::default(),
+            sizes: SizeTable::default(),
         }
     }
 
@@ -368,6 +389,11 @@ impl Rival for Independent<'_> {
                 *state = *reader.state();
                 return tally;
             }
+            By::Sizes => {
+                let sizes = &mut self.sizes;
+                tally.open = sizes.add(check, s, READER, table, octets, marks).is_err();
+                return tally;
+            }
             By::Read | By::Readings | By::WalkLog => {}
         }
         loop {
@@ -389,7 +415,10 @@ impl Rival for Independent<'_> {
     }
 
     fn kept(&self) -> Vec<u64> {
-        self.state.counters.to_vec()
+        match self.by {
+            By::Sizes => counts(&self.sizes.frames, &self.sizes.octets),
+            _ => self.state.counters.to_vec(),
+        }
     }
 }
 

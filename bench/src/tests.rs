@@ -34,6 +34,10 @@ fn same(name: &str, line: &Line, limit: u16) -> Vec<u64> {
         Box::new(Proved::new(By::Explain, line, limit)),
         Box::new(Independent::new(Check::Slicing16, By::Explain, line, limit)),
     ];
+    let mut sizes: Rivals = vec![
+        Box::new(Proved::new(By::Sizes, line, limit)),
+        Box::new(Independent::new(Check::Slicing16, By::Sizes, line, limit)),
+    ];
     // what a full table lists is no frame's destination here
     for by in [By::Walk, By::Read] {
         let both: Rivals = vec![
@@ -45,6 +49,7 @@ fn same(name: &str, line: &Line, limit: u16) -> Vec<u64> {
             _ => reads.extend(both),
         }
     }
+    agree(name, &mut sizes);
     let counted = agree(name, &mut walks);
     assert_eq!(counted, agree(name, &mut reads));
     assert_eq!(counted, agree(name, &mut whys));

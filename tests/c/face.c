@@ -1400,7 +1400,6 @@ static void jobs_do_not_see_each_other(void) {
   }
 }
 
-/* What is spare in the settings is not looked at, by readings or by sendings. */
 /* ---- the plain reader */
 
 static uint8_t many[FENHAMPER_MOST_SYMBOLS], many_marks[FENHAMPER_MOST_SYMBOLS];
@@ -1613,6 +1612,196 @@ static void a_plain_reader_is_refused_in_order(void) {
   }
 }
 
+/* ---- the size table */
+
+/* Line buffers for long frames, all Idle, and a fresh state. */
+static fenhamper_line long_line(void) {
+  fenhamper_line line;
+  memset(many, 0x07, sizeof many);
+  memset(many_marks, 1, sizeof many_marks);
+  fenhamper_fresh_state(&state);
+  line.octets = many;
+  line.marks = many_marks;
+  line.length = sizeof many;
+  return line;
+}
+
+/* Writes a frame of so many octets from destination to FCS at a place, and gives the place behind it. */
+static size_t put_frame(fenhamper_line line, size_t place, fenhamper_address to, size_t length, int tagged) {
+  static const uint8_t data[FENHAMPER_MOST_LIMIT] = FENHAMPER_ZEROS;
+  fenhamper_settings s = fenhamper_settings_for(own);
+  fenhamper_client client = fenhamper_client_to(to);
+  fenhamper_sent sent;
+  s.limit = FENHAMPER_MOST_LIMIT;
+  fenhamper_set_type(&client, 0x0800);
+  if (tagged) fenhamper_add_tag(&client, FENHAMPER_TAG_CUSTOMER, 5);
+  sent = fenhamper_line_client(&s, &state, FENHAMPER_PORT_PLAIN, line, place, &client, data, length - (tagged ? 22 : 18));
+  CHECK(sent.refusal == 0);
+  return (size_t)sent.place;
+}
+
+/* Whether a table has only this many frames and octets, in this band. */
+static int only(const fenhamper_sizes *sizes, size_t band, uint64_t frames, uint64_t in_octets) {
+  fenhamper_sizes expected = FENHAMPER_ZEROS;
+  expected.frames[band] = frames;
+  expected.octets[band] = in_octets;
+  return memcmp(sizes, &expected, sizeof expected) == 0;
+}
+
+static void a_size_table_begins_with_nothing_in_it(void) {
+  fenhamper_sizes sizes;
+  memset(&sizes, 0xA5, sizeof sizes);
+  fenhamper_sizes_fresh(&sizes);
+  CHECK(only(&sizes, 0, 0, 0));
+  CHECK(strcmp(fenhamper_band_name(0), "64") == 0 && strcmp(fenhamper_band_name(1), "65 to 127") == 0 && strcmp(fenhamper_band_name(6), "above") == 0);
+  CHECK(strcmp(fenhamper_band_name(7), "none") == 0 && strcmp(fenhamper_band_name(SIZE_MAX), "none") == 0);
+}
+
+/* Both edges of each band, each by itself and all in one capture. */
+static void sizes_go_into_their_bands(void) {
+  static const size_t edges[] = {64, 65, 127, 128, 255, 256, 511, 512, 1023, 1024, 1518, 1519, FENHAMPER_MOST_LIMIT};
+  static const uint64_t all_frames[] = {1, 2, 2, 2, 2, 2, 2}, all_octets[] = {64, 192, 383, 767, 1535, 2542, 11137};
+  fenhamper_settings s = fenhamper_settings_for(own);
+  fenhamper_sizes sizes, all;
+  fenhamper_line line;
+  size_t i, end, place = 0;
+  s.limit = FENHAMPER_MOST_LIMIT;
+  fenhamper_sizes_fresh(&all);
+  for (i = 0; i < sizeof edges / sizeof *edges; i++) {
+    line = long_line();
+    end = put_frame(line, 5, own, edges[i], 0);
+    fenhamper_sizes_fresh(&sizes);
+    CHECK(fenhamper_capture_sizes(&s, 0, NULL, fenhamper_captured(line, end), &sizes) == 0);
+    CHECK(only(&sizes, (i + 1) / 2, 1, edges[i]));
+    CHECK(fenhamper_sizes_add_capture(&s, 0, &nothing, many, end, many_marks, end, &all) == 0);
+  }
+  CHECK(memcmp(all.frames, all_frames, sizeof all_frames) == 0 && memcmp(all.octets, all_octets, sizeof all_octets) == 0);
+  line = long_line();
+  for (i = 0; i < sizeof edges / sizeof *edges; i++) place = put_frame(line, place, own, edges[i], 0);
+  fenhamper_sizes_fresh(&sizes);
+  CHECK(fenhamper_capture_sizes(&s, 0, NULL, fenhamper_captured(line, line.length), &sizes) == 0);
+  CHECK(memcmp(&sizes, &all, sizeof all) == 0);
+  /* 1522 octets with a tag, where M is 1518 */
+  s.limit = FENHAMPER_LEAST_LIMIT;
+  line = long_line();
+  end = put_frame(line, 0, own, 1522, 1);
+  fenhamper_sizes_fresh(&sizes);
+  CHECK(fenhamper_capture_sizes(&s, 1, NULL, fenhamper_captured(line, end), &sizes) == 0);
+  CHECK(only(&sizes, 6, 1, 1522));
+}
+
+/* Outcomes 8 to 11 are added and no other; all bands together rise as their counters do. */
+static void sizes_rise_as_four_counters(void) {
+  fenhamper_settings s = fenhamper_settings_for(own);
+  fenhamper_sizes sizes;
+  fenhamper_line line = long_line();
+  fenhamper_walked walked;
+  uint16_t quanta[FENHAMPER_CLASSES] = FENHAMPER_ZEROS;
+  uint8_t flow;
+  size_t end, pause, pfc, i;
+  uint64_t added;
+  end = put_frame(line, 0, own, 100, 0);
+  end = put_frame(line, end, other, 64, 0);
+  end = put_frame(line, end, own, 64, 0);
+  many[end - 20]++; /* a wrong FCS */
+  s.flow = FENHAMPER_FLOW_PAUSE;
+  pause = (size_t)fenhamper_line_pause(&s, &state, FENHAMPER_PORT_PLAIN, line, end, 3).place;
+  s.flow = FENHAMPER_FLOW_PFC;
+  pfc = (size_t)fenhamper_line_pfc(&s, &state, FENHAMPER_PORT_PLAIN, line, pause, 3, quanta).place;
+  end = put_frame(line, pfc, own, 1000, 0);
+  many[end - 12] = 0xFE; /* cut */
+  end = put_frame(line, end, own, 128, 0);
+  end = put_frame(line, end, own, 64, 0) - 12; /* up to its Terminate: open */
+  for (flow = FENHAMPER_FLOW_NONE; flow <= FENHAMPER_FLOW_PFC; flow++) {
+    s.flow = flow;
+    fenhamper_fresh_state(&state);
+    walked = fenhamper_capture_walk(&s, 0, NULL, &state, fenhamper_captured(line, end));
+    CHECK(walked.refusal == 0 && walked.open == 1);
+    fenhamper_sizes_fresh(&sizes);
+    CHECK(fenhamper_capture_sizes(&s, 0, NULL, fenhamper_captured(line, end), &sizes) == 0);
+    for (added = 0, i = 0; i < FENHAMPER_BANDS; i++) added += sizes.frames[i];
+    CHECK(added == state.counters[7] + state.counters[8] + state.counters[9] + state.counters[10] && added == 4);
+    CHECK(sizes.frames[0] == 2 && sizes.octets[0] == 128 && sizes.frames[1] == 1 && sizes.octets[1] == 100);
+    CHECK(sizes.frames[2] == 1 && sizes.octets[2] == 128);
+  }
+  /* promiscuous, the filtered one too; and job 1's listed address lets it in for job 1 alone */
+  s.promiscuous = 1;
+  fenhamper_sizes_fresh(&sizes);
+  CHECK(fenhamper_capture_sizes(&s, 0, NULL, fenhamper_captured(line, end), &sizes) == 0 && sizes.frames[0] == 3);
+  s.promiscuous = 0;
+  fenhamper_table_empty(&table);
+  CHECK(adds(1, other, 0, 0));
+  for (i = 0; i < FENHAMPER_JOBS; i++) {
+    fenhamper_sizes_fresh(&sizes);
+    CHECK(fenhamper_capture_sizes(&s, (uint8_t)i, &table, fenhamper_captured(line, end), &sizes) == 0 && sizes.frames[0] == 2 + i);
+  }
+}
+
+/* Counts are of 64 bits, whatever stands in a table; captures in another order, or in two halves, give the same one. */
+static void sizes_add_up(void) {
+  fenhamper_settings s = fenhamper_settings_for(own);
+  fenhamper_sizes up, down, low, high;
+  fenhamper_line line = long_line();
+  fenhamper_capture captures[4];
+  size_t i, place = 0;
+  for (i = 0; i < 4; i++) {
+    size_t from = place;
+    place = put_frame(line, place, own, 64 + 30 * i, 0);
+    captures[i].octets = many + from;
+    captures[i].marks = many_marks + from;
+    captures[i].length = place - from;
+  }
+  memset(&up, 0xFF, sizeof up);
+  memset(&down, 0xFF, sizeof down);
+  fenhamper_sizes_fresh(&low);
+  memset(&high, 0xFF, sizeof high);
+  for (i = 0; i < 4; i++) {
+    CHECK(fenhamper_capture_sizes(&s, 0, NULL, captures[i], &up) == 0);
+    CHECK(fenhamper_capture_sizes(&s, 0, NULL, captures[3 - i], &down) == 0);
+    CHECK(fenhamper_capture_sizes(&s, 0, NULL, captures[i], i < 2 ? &low : &high) == 0);
+  }
+  CHECK(up.frames[0] == 0 && up.octets[0] == 63 && up.frames[1] == 1 && up.octets[1] == 94 + 124 - 1 && up.frames[2] == 0 && up.octets[2] == 153);
+  CHECK(up.frames[6] == UINT64_MAX && up.octets[6] == UINT64_MAX);
+  CHECK(memcmp(&up, &down, sizeof up) == 0);
+  fenhamper_sizes_add_table(&high, &low);
+  CHECK(memcmp(&up, &high, sizeof up) == 0);
+  /* each count to its own */
+  for (i = 0; i < FENHAMPER_BANDS; i++) {
+    low.frames[i] = i;
+    low.octets[i] = 100 * i;
+    high.frames[i] = UINT64_MAX - 2 * i;
+    high.octets[i] = (uint64_t)1 << 63;
+  }
+  fenhamper_sizes_add_table(&low, &high);
+  for (i = 0; i < FENHAMPER_BANDS; i++) CHECK(low.frames[i] == UINT64_MAX - i && low.octets[i] == ((uint64_t)1 << 63) + 100 * i);
+}
+
+/* Every choice of 1, 14, 2 and 20: the first in that order, as a walk has it, and the table stays, to the bit. */
+static void a_refused_capture_adds_nothing(void) {
+  static const uint32_t numbers[] = {FENHAMPER_BAD_SETTINGS, FENHAMPER_BAD_JOB, FENHAMPER_BAD_BUFFERS, FENHAMPER_BAD_TABLE};
+  fenhamper_line line = long_line();
+  size_t end = put_frame(line, 0, own, 64, 0);
+  unsigned wrongs, i;
+  for (wrongs = 1; wrongs < 16; wrongs++) {
+    fenhamper_settings s = fenhamper_settings_for(own);
+    fenhamper_sizes sizes, before;
+    fenhamper_walked walked;
+    if (wrongs & 1) s.limit = FENHAMPER_MOST_LIMIT + 1;
+    fenhamper_table_empty(&table);
+    if (wrongs & 8) {
+      table.entries[3].holder = table.entries[9].holder = FENHAMPER_HOLDER_1;
+    }
+    for (i = 0; i < FENHAMPER_BANDS; i++) sizes.frames[i] = ~(sizes.octets[i] = i);
+    before = sizes;
+    for (i = 0; !(wrongs >> i & 1); i++) continue;
+    CHECK(fenhamper_sizes_add_capture(&s, wrongs & 2 ? 2 : 1, &table, many, end, many_marks, end - (wrongs & 4 ? 1 : 0), &sizes) == numbers[i]);
+    CHECK(memcmp(&sizes, &before, sizeof sizes) == 0);
+    fenhamper_walk(&s, wrongs & 2 ? 2 : 1, &table, &state, many, end, many_marks, end - (wrongs & 4 ? 1 : 0), &walked);
+    CHECK(walked.refusal == numbers[i]);
+  }
+}
+
+/* What is spare in the settings is not looked at, by readings or by sendings. */
 static void spare_settings_are_not_looked_at(void) {
   fenhamper_settings s = fenhamper_settings_for(own), worn = s;
   fenhamper_client client = fenhamper_client_to(other);
@@ -1689,5 +1878,10 @@ int main(void) {
   any_values_are_some_plain_reader();
   a_plain_reader_takes_65536_symbols();
   a_plain_reader_is_refused_in_order();
+  a_size_table_begins_with_nothing_in_it();
+  sizes_go_into_their_bands();
+  sizes_rise_as_four_counters();
+  sizes_add_up();
+  a_refused_capture_adds_nothing();
   return wrong;
 }

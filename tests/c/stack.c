@@ -22,6 +22,7 @@ static fenhamper_settings settings;
 static fenhamper_table table;
 static fenhamper_state state;
 static fenhamper_plain plain;
+static fenhamper_sizes sizes, more_sizes;
 static fenhamper_client client;
 static uint16_t quanta[FENHAMPER_CLASSES], totals[FENHAMPER_MOST_BLOCKS];
 static size_t symbols;
@@ -209,6 +210,14 @@ static void plain_end(void) {
   for (i = 0; i < 300; i++) fenhamper_plain_push(&settings, 0, &table, &state, &plain, octets[i], marks[i]);
 }
 
+static void sizes_fresh(void) { fenhamper_sizes_fresh(&sizes); }
+
+static void sizes_short(void) { fenhamper_sizes_add_capture(&settings, 1, &table, octets, 4096, marks, 4096, &sizes); }
+
+static void sizes_long(void) { fenhamper_sizes_add_capture(&settings, 1, &table, octets, symbols, marks, symbols, &sizes); }
+
+static void sizes_table(void) { fenhamper_sizes_add_table(&sizes, &more_sizes); }
+
 static int over = 0;
 
 static void hold(const char *name, void (*call)(void), size_t bound) {
@@ -256,6 +265,10 @@ int main(void) {
   hold("plain_fresh", plain_fresh, FENHAMPER_STACK_PLAIN);
   hold("plain_symbol, data", plain_data, FENHAMPER_STACK_PLAIN);
   hold("plain_symbol", plain_end, FENHAMPER_STACK_PLAIN);
+  hold("sizes_fresh", sizes_fresh, FENHAMPER_STACK_READ);
+  hold("sizes_add_table", sizes_table, FENHAMPER_STACK_READ);
+  hold("sizes_add_capture, short", sizes_short, FENHAMPER_STACK_WALK);
+  hold("sizes_add_capture", sizes_long, FENHAMPER_STACK_WALK);
   hold("fill_totals", fill_totals, FENHAMPER_STACK_SEND);
   hold("starts_before", starts_before, FENHAMPER_STACK_SEND);
   hold("send_client", send_client, FENHAMPER_STACK_SEND);

@@ -39,7 +39,7 @@ PUBLISHED = [
 
 @dataclass
 class Case:
-    call: str  # reading, walk, why, plain, client, pause, pfc, idle, fcs; of a log append, look, delete, delete_all,
+    call: str  # reading, walk, why, plain, sizes, client, pause, pfc, idle, fcs; of a log append, look, delete, delete_all,
     # compact, keep; of totals fill, before; of two jobs add, remove, bad, screen
     settings: Any = None
     state: Any = None
@@ -49,7 +49,7 @@ class Case:
     # a Client; quanta; (named, quanta); a number of Idles; the octets under a check and the published value; a Record; its number; an outcome; an address
     asked: Any = None
     log: Any = None
-    totals: Any = None  # a sending that has them keeps them
+    totals: Any = None  # a sending that has them keeps them; of sizes the counts of the table
     port: str = model.PLAIN
     job: int = 0
     table: Any = None  # the octets of one that a call goes by
@@ -129,6 +129,23 @@ def answer_plain(c):
             hits |= {f"plain: outcome {e.outcome}", f"plain: way {e.address}"}
     hits.add(f"plain: ends {'open' if reader.run else 'none'}")
     return [reader.taken, int(reader.run is not None)] + state_numbers(reader.state) + told, hits
+
+
+def answer_sizes(c):
+    before = model.SizeTable(c.totals[:7], c.totals[7:])
+    refusal, after = model.adding_sizes(before, c.settings, c.octets, c.marks, *heard(c))
+    numbers = after.frames + after.octets
+    rises = [(b - a) % 2**64 for a, b in zip(c.totals, numbers)]
+    if refusal:
+        return [refusal] + numbers, {f"sizes: refused {refusal}"} | pairs("sizes", [t for t in read_tests(c) if t[0] != 3])
+    hits = {"sizes: added" if any(rises) else "sizes: nothing"} | {f"sizes: band {n}" for n in range(7) if rises[n]}
+    if sum(rises[:7]) == 1:
+        hits.add(f"sizes: a frame of {sum(rises[7:])}")
+    if model.walk(c.settings, State(), c.octets, c.marks, 0, *heard(c))[-1].kind == "open":
+        hits.add(f"sizes: open, {'added' if any(rises) else 'nothing'}")
+    if any(a > b for a, b in zip(c.totals, numbers)):
+        hits.add("sizes: a count rolls over")
+    return [refusal] + numbers, hits
 
 
 def answer_walk(c):
@@ -562,9 +579,10 @@ def tag_hits(f, status):
     return hits
 
 
-ANSWERS = {"reading": answer_reading, "walk": answer_walk, "why": answer_why, "plain": answer_plain, "client": answer_client, "pause": answer_pause, "pfc": answer_pfc, "idle": answer_idle,
-           "fcs": answer_fcs, "append": answer_append, "look": answer_look, "delete": answer_delete, "delete_all": answer_delete_all,
-           "compact": answer_compact, "keep": answer_keep, "fill": answer_fill, "before": answer_before, "add": answer_add, "remove": answer_remove,
+ANSWERS = {"reading": answer_reading, "walk": answer_walk, "why": answer_why, "plain": answer_plain, "sizes": answer_sizes,
+           "client": answer_client, "pause": answer_pause, "pfc": answer_pfc, "idle": answer_idle, "fcs": answer_fcs, "append": answer_append,
+           "look": answer_look, "delete": answer_delete, "delete_all": answer_delete_all, "compact": answer_compact, "keep": answer_keep,
+           "fill": answer_fill, "before": answer_before, "add": answer_add, "remove": answer_remove,
            "bad": answer_bad, "screen": answer_screen}
 
 # ---- Drawing
@@ -1181,7 +1199,7 @@ def drawn(r, recipes, n):
 def generate(n, seed) -> List[Case]:
     """n drawn cases, three readings or walks to two sendings, one in twenty large; beside them the published values of the check, a call on a log,
     a call with totals and a call of two jobs for each two of them, each recipe once at most, of some readings why they have their outcomes, and of
-    some captures what the plain reader tells of them."""
+    some captures what the plain reader tells of them, and what they add to a size table."""
     r = random.Random(seed)
     large = min(n // 20, len(LARGE))
     readings = (n - large) * 3 // 5
@@ -1190,7 +1208,7 @@ def generate(n, seed) -> List[Case]:
     cases += [make(r, given) for make, given in drawn(r, LOG_RECIPES, min(n // 2, len(LOG_RECIPES)))]
     cases += [make(r, given) for make, given in drawn(r, TOTALS_RECIPES, min(n // 2, len(TOTALS_RECIPES)))]
     cases += [make(r, given) for make, given in drawn(r, JOB_RECIPES, min(n // 2, len(JOB_RECIPES)))]
-    return cases + why_cases(cases) + plain_cases(cases)
+    return cases + why_cases(cases) + plain_cases(cases) + size_cases(r, cases)
 
 
 def why_cases(cases):
@@ -1215,12 +1233,38 @@ def plain_cases(cases):
     return out
 
 
+SIZE_EDGES = (63, 64, 65, 127, 128, 255, 256, 511, 512, 1023, 1024, 1518, 1519)
+
+
+def size_cases(r, cases):
+    """Frames on both sides of each band's edge; and of the captures among them one in eight of the short ones, and each that hits something new."""
+    s = replace(model.PRINTING, limit=9618)
+    lines = [model.on_line(s.own + [2, 0, 0, 0, 0, 9, 8, 0] + [n % 256] * (n - 18)) for n in SIZE_EDGES]
+    lines.append(lines[1] + lines[2][:50])  # the second one open
+    out = [Case("sizes", s, None, [o for o, _ in line], [m for _, m in line], totals=counts(r), table=[0] * 128) for line in lines]
+    hit = set().union(*(c.hits for c in out))
+    given = sorted((c for c in cases if c.call in ("reading", "walk") and len(c.octets) <= 1700), key=lambda c: len(c.octets))
+    for n, c in enumerate(Case("sizes", c.settings, None, c.octets, c.marks, totals=counts(r), job=c.job, table=c.table) for c in given):
+        if n % 8 == 0 and len(c.octets) <= 200 or c.hits - hit:
+            out.append(c)
+            hit |= c.hits
+    return out
+
+
+def counts(r):
+    """Fourteen of them, some of which roll over soon."""
+    return [r.choice([0, r.randrange(2**64), 2**64 - 1, 2**64 - r.randrange(1, 100)]) for _ in range(14)]
+
+
 # ---- Coverage: what must be hit (every outcome, every refusal of every call, both sides of each limit), and what else was
 
 MUST = (
     ["reading: none", "reading: open"] + [f"reading: outcome {n}" for n in range(1, 12)] + [f"reading: refused {n}" for n in (1, 2, 3, 14, 20)]
     + ["walk: ends none", "walk: ends open", "walk: a Start that ended the run before it"] + [f"walk: refused {n}" for n in (1, 2, 14, 20)]
     + ["plain: ends none", "plain: ends open"] + [f"plain: outcome {n}" for n in range(1, 12)] + [f"plain: refused {n}" for n in (1, 14, 20)]
+    + ["sizes: added", "sizes: nothing", "sizes: open, added", "sizes: open, nothing", "sizes: a count rolls over"] + [f"sizes: band {n}" for n in range(7)]
+    + [f"sizes: a frame of {n}" for n in SIZE_EDGES[1:]] + [f"sizes: refused {n}" for n in (1, 2, 14, 20)]
+    + [f"sizes: refusal {a} before {b}" for a, b in [(1, 14), (14, 2), (14, 20), (2, 20)]]
     + ["why: none", "why: open"] + [f"why: outcome {n}" for n in range(1, 12)] + [f"why: refused {n}" for n in (1, 2, 3, 14, 20)]
     + [f"{c}: refusal {a} before {b}" for c in ("reading", "why", "keep") for a, b in [(1, 14), (14, 2), (14, 20), (3, 20)]] + ["reading: refusal 2 before 20"]
     + [f"walk: refusal {a} before {b}" for a, b in [(1, 14), (14, 2), (14, 20), (2, 20)]]
@@ -1322,7 +1366,7 @@ def coverage(cases) -> str:
         for hit in c.hits:
             counts[hit] = counts.get(hit, 0) + 1
     lines = []
-    for call in ("reading", "walk", "why", "plain", "client", "pause", "pfc", "idle", "fcs", "append", "look", "delete", "delete_all", "compact", "keep", "fill",
+    for call in ("reading", "walk", "why", "plain", "sizes", "client", "pause", "pfc", "idle", "fcs", "append", "look", "delete", "delete_all", "compact", "keep", "fill",
                  "before", "add", "remove", "bad", "screen"):
         mine = {k.split(": ", 1)[1]: v for k, v in counts.items() if k.startswith(call + ": ")}
         lines.append(f"{call} ({sum(c.call == call for c in cases)} cases)")

@@ -1,6 +1,6 @@
 #!/usr/bin/env python3
-"""Writes crates/cases/stdin, the tape of all readings, sendings, calls on a log, reasons, calls with totals, calls of two jobs and the plain reader, and
-crates/cases/stdout, what the model says must be printed of them.
+"""Writes crates/cases/stdin, the tape of all readings, sendings, calls on a log, reasons, calls with totals, calls of two jobs, the plain reader and the size
+table, and crates/cases/stdout, what the model says must be printed of them.
 
 With --check it writes nothing, and exits 1 if a file is not as it would be written.
 """
@@ -13,6 +13,7 @@ import plain_cases
 import read_cases
 import reason_cases
 import send_cases
+import size_cases
 import totals_cases
 from tape import TAPE
 
@@ -24,6 +25,7 @@ reason_cases.cases()
 totals_cases.cases()
 job_cases.cases()
 plain_cases.cases()
+size_cases.cases()
 wrong = 0
 for name, octets in [("stdin", TAPE.octets()), ("stdout", TAPE.text())]:
     path = crate / name

@@ -1,8 +1,8 @@
 #!/usr/bin/env python3
 """tools/oracle/run.py N SEED: compare the definitions of crates/*/specs with model.py on N drawn cases.
 
-The definitions are copied to a temporary folder (nothing is written into the repository), where a crate `oracle` sees receive, reason, plain, jobs, send,
-logging and counting and all that they list. Each case is a theorem there, which antt admits only if the definition computes to the model's answer.
+The definitions are copied to a temporary folder (nothing is written into the repository), where a crate `oracle` sees receive, reason, plain, sizes,
+jobs, send, logging and counting and all that they list. Each case is a theorem there, which antt admits only if the definition computes to the model's answer.
 """
 import os
 import re
@@ -22,7 +22,7 @@ import model  # noqa: E402
 REPOSITORY = HERE.parent.parent
 BATCH, MOST = 50, 30000  # cases to a run of antt, and numbers in their buffers and answers, so that memory stays low
 EXPLAINED = 5  # of how many cases that do not agree the fields are told
-WANTED = ["receive", "reason", "plain", "jobs", "send", "logging", "counting"]
+WANTED = ["receive", "reason", "plain", "sizes", "jobs", "send", "logging", "counting"]
 
 
 # ---- The copy
@@ -165,6 +165,8 @@ def call(c):
         reader = f"{settings(c.settings)}\n    {c.job} {numbers(c.table)}\n    "
     if c.call == "why":
         return f"giveWhy {reader}{numbers(c.octets)}\n    {numbers(c.marks)}\n    {c.place}"
+    if c.call == "sizes":
+        return f"giveSizes {numbers(c.totals)} {reader}{numbers(c.octets)}\n    {numbers(c.marks)}"
     if c.call == "screen":
         captures = [(c.octets, c.marks), c.other][::-1 if c.job == 1 else 1]
         return f"giveScreen {reader}" + "\n    ".join(numbers(buffer) for capture in captures for buffer in capture) + f"\n    {c.place}"
@@ -203,6 +205,7 @@ READING += [("octets of the part", None)]
 WALK = [("kind", 1), ("refusal", 1), ("Starts counted", 1), ("open", 1)] + STATE + [("octets handed out", None)]
 WHY = [("kind", 1), ("outcome or refusal", 1), ("start", 1), ("next", 1), ("evidence", None)]
 PLAIN = [("taken", 1), ("in a run", 1)] + STATE + [("what is told", None)]
+SIZES = [("refusal", 1), ("frames", 7), ("octets", None)]
 LOOK = [("record's refusal", 1), ("record", 5), ("reader's place", 1), ("its refusal", 1), ("its record", 5), ("used records", None)]
 LOGGING = [("refusal", 1), ("log", None)]
 KEEP = [("end", 1), ("refusal", 1), ("next", 1), ("kept", 1)] + STATE + [("log", None)]
@@ -213,7 +216,8 @@ def fields(c):
     """Each field's name, where it begins, how many numbers it has."""
     sent = [("kind", 1), ("refusal", 1), ("place", 1)] + STATE + [("octets", len(c.octets or [])), ("marks", len(c.marks or [])), ("totals", None)]
     place = 0
-    known = {"reading": READING, "walk": WALK, "why": WHY, "plain": PLAIN, "fcs": [("check", 1), ("its octets", None)], "append": LOGGING, "look": LOOK,
+    known = {"reading": READING, "walk": WALK, "why": WHY, "plain": PLAIN, "sizes": SIZES, "fcs": [("check", 1), ("its octets", None)], "append": LOGGING,
+             "look": LOOK,
              "delete": LOGGING, "delete_all": [("refusal", 1), ("how many", 1), ("log", None)], "compact": LOGGING, "keep": KEEP,
              "fill": [("refusal", 1), ("totals", None)],
              "before": [("refusal", 1), ("Starts", None)], "add": CHANGE, "remove": CHANGE, "bad": [("20", None)],

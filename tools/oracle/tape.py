@@ -25,12 +25,15 @@ Room in the log: kind 20 deletes a record, 21 all records of an outcome, and 22 
 of the place; the outcome is the call's number, and then the place is what a refusal must leave in place of how many were deleted.
 
 The plain reader: kind 23 gives it the symbols one by one, as many as there are octets. It is fresh, but that the place is how many symbols it has taken.
+
+The size table: kind 24 adds a capture to it, 25 another table, and 26 makes it a fresh one. Its fourteen numbers, the frames of each band and then their
+octets, stand in place of the totals, and behind them those of the other table. Of its counts those are printed that are not as on the tape.
 """
 import zlib
 
 READINGS, CLIENT, PAUSE, PFC, IDLE, APPEND, APPEND_READING, LOOK, KEEP, EXPLAIN, FILL = range(11)
 COUNTED = 10  # what is added to the kind of a sending that keeps totals
-STARTS_BEFORE, EMPTY_TABLE, ADD, REMOVE, SCREEN, DELETE, DELETE_OUTCOME, COMPACT, PLAIN = range(15, 24)
+STARTS_BEFORE, EMPTY_TABLE, ADD, REMOVE, SCREEN, DELETE, DELETE_OUTCOME, COMPACT, PLAIN, ADD_CAPTURE, ADD_TABLE, FRESH_SIZES = range(15, 27)
 MOST_READINGS = 16
 LONGEST = 524288  # what the program reads
 ONES = 2**64 - 1
@@ -120,6 +123,9 @@ class Tape:
 
     def totals_call(self, kind, name, octets, marks, totals, place=0, n=0):
         self.add(kind, name, bytes(24), (0,) * 24, bytes(44), (0,) * 8, place, n, octets, marks, b"", b"", totals)
+
+    def sizes_call(self, kind, name, counts, s=None, octets=b"", marks=b"", job=0, table=bytes(128)):
+        self.add(kind, name, settings_octets(s) if s else bytes(24), (0,) * 24, bytes(44), (0,) * 8, 0, 0, octets, marks, b"", b"", counts, job, table)
 
     def table_call(self, kind, name, table, job, address, n):
         self.add(kind, name, bytes(24), (0,) * 24, address, (0,) * 8, 0, n, b"", b"", b"", b"", (), job, table)

@@ -78,8 +78,8 @@ pub const STACK_SEND: usize = 640;
 /// 768.
 pub const STACK_COUNTED: usize = 768;
 
-/// Octets of stack that a walk takes at most, one that keeps its readings too: 18,944, of which
-/// 16,384 are for tables.
+/// Octets of stack that a walk takes at most, one that keeps its readings too, and a capture whose
+/// [sizes](crate::Sizes) are added: 18,944, of which 16,384 are for tables.
 pub const STACK_WALK: usize = 18944;
 
 /// Octets of stack that a symbol of the [plain reader](crate::Plain) takes at most: 1536.
@@ -90,3 +90,6 @@ pub const PLAIN_FIRST: usize = sys::PLAIN_FIRST;
 
 /// Octets of a run that the plain reader keeps from its end, which may be its FCS: 4.
 pub const PLAIN_LAST: usize = sys::PLAIN_LAST;
+
+/// Bands of frame lengths in a [size table](crate::Sizes): 7.
+pub const BANDS: usize = sys::BANDS;

@@ -23,6 +23,7 @@ pub const RECORD_SIZE: usize = 16;
 pub const BLOCK: usize = 256;
 pub const PLAIN_FIRST: usize = 53;
 pub const PLAIN_LAST: usize = 4;
+pub const BANDS: usize = 7;
 
 pub const FLOW_NONE: u8 = 0;
 pub const FLOW_PAUSE: u8 = 1;
@@ -210,6 +211,13 @@ pub struct Told {
 }
 
 #[repr(C)]
+#[derive(Default)]
+pub struct Sizes {
+    pub frames: [u64; BANDS],
+    pub octets: [u64; BANDS],
+}
+
+#[repr(C)]
 #[derive(Clone, Copy, Debug, Default, PartialEq, Eq)]
 pub struct Sent {
     pub refusal: u64,
@@ -250,6 +258,7 @@ const _: () = assert!(size_of::<Reading>() == 96 && size_of::<Walked>() == 32);
 const _: () = assert!(size_of::<Explained>() == 64);
 const _: () = assert!(size_of::<Kept>() == 32 && size_of::<Record>() == RECORD_SIZE);
 const _: () = assert!(size_of::<Plain>() == 128 && size_of::<Told>() == 64);
+const _: () = assert!(size_of::<Sizes>() == 112);
 const _: () = assert!(size_of::<Sent>() == 16 && size_of::<Part>() == 16);
 const _: () = assert!(size_of::<Tag>() == 4 && size_of::<Client>() == 44);
 
@@ -492,6 +501,18 @@ extern "C" {
         mark: u8,
         told: &mut Told,
     );
+    fn fenhamper_sizes_fresh(sizes: &mut Sizes);
+    fn fenhamper_sizes_add_capture(
+        settings: &Settings,
+        job: u8,
+        table: &Table,
+        octets: *const u8,
+        octets_length: usize,
+        marks: *const u8,
+        marks_length: usize,
+        sizes: &mut Sizes,
+    ) -> u32;
+    fn fenhamper_sizes_add_table(sizes: &mut Sizes, more: &Sizes);
     fn fenhamper_fcs(octets: *const u8, length: usize) -> u32;
     fn fenhamper_fcs_update(from: u32, octets: *const u8, length: usize) -> u32;
     fn fenhamper_fresh_state(state: &mut State);
@@ -1055,6 +1076,42 @@ pub fn plain_symbol(
         );
     }
     told
+}
+
+pub fn sizes_fresh() -> Sizes {
+    let mut sizes = Sizes::default();
+    // SAFETY: one record is lent.
+    unsafe { fenhamper_sizes_fresh(&mut sizes) };
+    sizes
+}
+
+pub fn sizes_add_capture(
+    settings: &Settings,
+    job: u8,
+    table: &Table,
+    octets: &[u8],
+    marks: &[u8],
+    sizes: &mut Sizes,
+) -> u64 {
+    // SAFETY: each pointer and length is one slice's.
+    let refusal = unsafe {
+        fenhamper_sizes_add_capture(
+            settings,
+            job,
+            table,
+            octets.as_ptr(),
+            octets.len(),
+            marks.as_ptr(),
+            marks.len(),
+            sizes,
+        )
+    };
+    refusal.into()
+}
+
+pub fn sizes_add_table(sizes: &mut Sizes, more: &Sizes) {
+    // SAFETY: two records are lent, of which one alone is written.
+    unsafe { fenhamper_sizes_add_table(sizes, more) };
 }
 
 pub fn fcs(octets: &[u8]) -> u32 {

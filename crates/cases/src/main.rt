@@ -69,9 +69,9 @@ fn number(t: &[u8], at: usize, k: usize) -> u64 {
     n
 }
 
-fn state_at(t: &[u8], at: usize, out: &mut [u64; 24]) {
+fn numbers_at(t: &[u8], at: usize, out: &mut [u64]) {
     let mut k: usize = 0;
-    while k < 24 {
+    while k < out.len() {
         out[k] = number(t, at, k);
         k += 1;
     }
@@ -195,7 +195,7 @@ fn call_at(t: &[u8], r: usize) -> Call {
     let mut quanta = [0u16; 8];
     let mut table = [0u8; 128];
     octets(t, number(t, r, 2) as usize, &mut settings);
-    state_at(t, number(t, r, 3) as usize, &mut state);
+    numbers_at(t, number(t, r, 3) as usize, &mut state);
     octets(t, number(t, r, 4) as usize, &mut client);
     shorts_at(t, number(t, r, 5) as usize, &mut quanta);
     octets(t, number(t, r, 14) as usize, &mut table);
@@ -374,6 +374,48 @@ fn plainly(c: Call, o: &[u8], m: &[u8]) {
     }
     reader_told(&reader);
     changes(&before, &state);
+}
+
+// ---- the size table
+
+// Those of its counts that are not as before: frames of the bands 0 to 6, and then octets.
+fn sizes_told(before: &[u64; 14], after: &[u64; 14]) {
+    io::write_all(1, b" sizes");
+    let mut k: usize = 0;
+    while k < 14 {
+        pair(k, before[k], after[k]);
+        k += 1;
+    }
+}
+
+// A capture more in it.
+fn add_capture(c: Call, o: &[u8], m: &[u8], sizes: &mut [u64; 14]) {
+    let s = c.settings;
+    let table = c.table;
+    refusal(fenhamper::fenhamper_sizes_add_capture(&s, c.job, &table, o, m, sizes));
+}
+
+// Another table more in it, which lies behind its own fourteen numbers.
+fn add_table(t: &[u8], at: usize, sizes: &mut [u64; 14]) {
+    let mut more = [0u64; 14];
+    numbers_at(t, std::num::wrapping_add_usize(at, 112), &mut more);
+    fenhamper::fenhamper_sizes_add_table(sizes, &more);
+}
+
+// The size table stands in place of the totals.
+fn sized(t: &[u8], at: usize, c: Call, o: &[u8], m: &[u8]) {
+    let mut sizes = [0u64; 14];
+    numbers_at(t, at, &mut sizes);
+    let before = sizes;
+    if c.kind == 24 {
+        add_capture(c, o, m, &mut sizes);
+    } else if c.kind == 25 {
+        add_table(t, at, &mut sizes);
+    } else {
+        fenhamper::fenhamper_sizes_fresh(&mut sizes);
+    }
+    sizes_told(&before, &sizes);
+    io::write_all(1, b"\n");
 }
 
 // ---- sendings
@@ -883,6 +925,10 @@ fn called(t: &[u8], r: usize, o: &mut [u8], m: &mut [u8]) {
         return;
     }
     io::write_all(1, name);
+    if 23 < c.kind {
+        sized(t, (number(t, r, 12) / 4294967296) as usize, c, o, m);
+        return;
+    }
     if 22 < c.kind {
         plainly(c, o, m);
         return;

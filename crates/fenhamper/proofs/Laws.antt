@@ -1,6 +1,6 @@
 -- What the arrays' meanings keep: a part handed over as place and length is the module's own client data; a state that crossed back is the
--- same state; the record of a reading is the same by its numbers; a record of a log is given out as it stands there; what why tells of a Start beside its
--- reason is what a reading tells. Assume nothing.
+-- same state, and a size table the same numbers; the record of a reading is the same by its numbers; a record of a log is given out as it stands there;
+-- what why tells of a Start beside its reason is what a reading tells. Assume nothing.
 use Prim.Native.Nat.{ℕ, zero, suc, _+_, _-_, _%_, _^_, _<_, _≤_}
 use native.Mathlib.Nat.{mod-eq-of-lt}
 use native.Mathlib.Omega.{arith}
@@ -47,6 +47,7 @@ use Rattle.logging.specs.Records.{recordAt, recordOfReading}
 use Rattle.logging.proofs.Readings.{reading-sound}
 use Rattle.fenhamper.specs.Face.{each, lowAt, countersOf, timersOf, stateOf, stateNumbers, partWithin, recordNamed, answerKind, readingNumbers, recordLeft}
 use Rattle.fenhamper.specs.Face.{whyKind, explainNumbers}
+use Rattle.fenhamper.specs.Bands.{sizesOf, sizesNumbers}
 
 -- the octets from the place, so many of them, are what `client_data` hands out
 pub part-is : (os : List ℕ) (at len : ℕ)
@@ -93,6 +94,11 @@ state-crosses st eleven eight timers =
 pub deficit-crosses : (l : List ℕ) (st : State) → (stateOf l .deficit ≡ getD l 19 0) × (getD (stateNumbers st) 19 0 ≡ st .deficit)
 unfolding stateOf stateNumbers each
 deficit-crosses l st = (refl, refl)
+
+-- a size table crosses whole, to the module and back
+pub sizes-cross : (l : List ℕ) → length l ≡ 14 → sizesNumbers (sizesOf l) ≡ l
+unfolding sizesOf sizesNumbers each
+sizes-cross l fourteen = rw fourteen at (each-all 0 l)
 
 -- ---- records of a log
 

@@ -1,2 +1,3 @@
+pub mod Bands
 pub mod Face
 pub mod Reader

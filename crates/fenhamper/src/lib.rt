@@ -20,6 +20,7 @@ use receive::WalkEnd;
 use receive::Walked;
 use send::Sent;
 use send::Went;
+use sizes::SizeTable;
 use station::Address;
 use station::Checked;
 use station::Flow;
@@ -63,6 +64,7 @@ ghost use Rattle.logging.specs.Walks.{walkLogged};
 ghost use Rattle.send.specs.Sending.{clientSending, pauseSending, pfcSending, idleSending};
 ghost use Rattle.totals.specs.Totals.{beforePlace, filled};
 ghost use Rattle.plain.specs.Plain.{freshPlain, step};
+ghost use Rattle.sizes.specs.Sizes.{freshSizes, adding, addTables};
 ghost use Rattle.counting.specs.Counting.{clientCounting, pauseCounting, pfcCounting, idleCounting};
 ghost use Rattle.fenhamper.specs.Face.{layout, flowOf, settingsOf, countersOf, timersOf, stateOf};
 ghost use Rattle.fenhamper.specs.Face.{portOf, kindOf, tagAt, countedTag, tagsOf, formOf, clientOf, quantaOf, classesOf};
@@ -73,7 +75,9 @@ ghost use Rattle.fenhamper.specs.Face.{kept, keepTold, lodged, logTold, 
 ghost use Rattle.fenhamper.specs.Face.{numberGiven, numberTold, logGiven, deletedTold};
 ghost use Rattle.fenhamper.specs.Face.{totalsGiven, fillTold, startsTold, withTotals, countTold};
 ghost use Rattle.fenhamper.specs.Face.{entryTold, tableGiven, tableTold, partGiven, partTold};
-ghost use Rattle.fenhamper.specs.Reader.{runOf, plainOf, plainNumbers, toldNumbers, readerGiven, readerTold, readerLeft, countedLeft, plainGiven, plainTold};
+ghost use Rattle.fenhamper.specs.Reader.{runOf, plainOf, plainNumbers, toldNumbers};
+ghost use Rattle.fenhamper.specs.Reader.{readerGiven, readerTold, readerLeft, countedLeft, plainGiven, plainTold};
+ghost use Rattle.fenhamper.specs.Bands.{sizesOf, sizesNumbers, sizesGiven, addTold};
 
 // ---- what crosses to the module
 
@@ -326,6 +330,16 @@ fn plain_of(n: &[u64; 8], first: [u8; 53], last: [u8; 4], state: State) -> Plain
         running: n[1] != 0,
         run,
         state,
+    }
+}
+
+// A size table, of the frames of its bands and then their octets. A count crosses whole.
+fn sizes_of(n: &[u64; 14]) -> SizeTable
+    ensures { λ r. ⌜ r ≡ sizesOf (now (n .entry)) ⌝ }
+{
+    SizeTable {
+        frames: [n[0], n[1], n[2], n[3], n[4], n[5], n[6]],
+        octets: [n[7], n[8], n[9], n[10], n[11], n[12], n[13]],
     }
 }
 
@@ -605,6 +619,29 @@ fn told_numbers(t: Told) -> [u64; 8]
     }
 }
 
+fn sizes_numbers(t: SizeTable) -> [u64; 14]
+    ensures { λ n. ⌜ n ≡ sizesNumbers t ⌝ }
+{
+    let f = t.frames;
+    let o = t.octets;
+    [
+        f[0],
+        f[1],
+        f[2],
+        f[3],
+        f[4],
+        f[5],
+        f[6],
+        o[0],
+        o[1],
+        o[2],
+        o[3],
+        o[4],
+        o[5],
+        o[6],
+    ]
+}
+
 // The part itself if it lies inside n octets, else 0 and 0. No sum, so that none is too large.
 fn part_within(n: usize, at: usize, len: usize) -> [u64; 2]
     ensures { λ r. ⌜ r ≡ partWithin n at len ⌝ }
@@ -805,7 +842,8 @@ pub extern "C" fn fenhamper_send_client(
     answer: &mut [u64; 2],
 )
     ensures { λ _. ⌜ wrote (now (answer .exit)) (now (state .exit)) (now (octets .exit)) (now (marks .exit))
-        ≡ sendTold (now (state .entry)) (clientSending (settingsOf (now (s .entry))) (stateOf (now (state .entry))) (portOf port) (now (octets .entry)) (now (marks .entry)) place (clientOf (now (frame .entry))) (now («data» .entry))) ⌝ }
+        ≡ sendTold (now (state .entry)) (clientSending (settingsOf (now (s .entry))) (stateOf (now (state .entry))) (portOf port)
+        (now (octets .entry)) (now (marks .entry)) place (clientOf (now (frame .entry))) (now («data» .entry))) ⌝ }
 {
     let r = send::send_client(
         settings(s),
@@ -833,7 +871,8 @@ pub extern "C" fn fenhamper_send_pause(
     answer: &mut [u64; 2],
 )
     ensures { λ _. ⌜ wrote (now (answer .exit)) (now (state .exit)) (now (octets .exit)) (now (marks .exit))
-        ≡ sendTold (now (state .entry)) (pauseSending (settingsOf (now (s .entry))) (stateOf (now (state .entry))) (portOf port) (now (octets .entry)) (now (marks .entry)) place (quantaOf quanta)) ⌝ }
+        ≡ sendTold (now (state .entry)) (pauseSending (settingsOf (now (s .entry))) (stateOf (now (state .entry))) (portOf port)
+        (now (octets .entry)) (now (marks .entry)) place (quantaOf quanta)) ⌝ }
 {
     let r = send::send_pause(
         settings(s),
@@ -861,7 +900,8 @@ pub extern "C" fn fenhamper_send_pfc(
     answer: &mut [u64; 2],
 )
     ensures { λ _. ⌜ wrote (now (answer .exit)) (now (state .exit)) (now (octets .exit)) (now (marks .exit))
-        ≡ sendTold (now (state .entry)) (pfcSending (settingsOf (now (s .entry))) (stateOf (now (state .entry))) (portOf port) (now (octets .entry)) (now (marks .entry)) place (classesOf named (now (quanta .entry)))) ⌝ }
+        ≡ sendTold (now (state .entry)) (pfcSending (settingsOf (now (s .entry))) (stateOf (now (state .entry))) (portOf port)
+        (now (octets .entry)) (now (marks .entry)) place (classesOf named (now (quanta .entry)))) ⌝ }
 {
     let r = send::send_pfc(
         settings(s),
@@ -1243,4 +1283,41 @@ pub extern "C" fn fenhamper_plain_symbol(
     *answer = told_numbers(told);
     leave_reader(reader, first, last, answer[0], after);
     leave_counted(state, answer[1], after.state);
+}
+
+// ---- the exported functions of the size table (document 02, item 13)
+
+#[no_mangle]
+pub extern "C" fn fenhamper_sizes_fresh(sizes: &mut [u64; 14])
+    ensures { λ _. ⌜ now (sizes .exit) ≡ sizesNumbers freshSizes ⌝ }
+{
+    *sizes = sizes_numbers(sizes::fresh_sizes());
+}
+
+#[no_mangle]
+pub extern "C" fn fenhamper_sizes_add_capture(
+    s: &[u8; 24],
+    job: u8,
+    table: &[u8; 128],
+    octets: &[u8],
+    marks: &[u8],
+    sizes: &mut [u64; 14],
+) -> u32
+    ensures { λ n. ⌜ sizesGiven n (now (sizes .exit))
+        ≡ addTold (adding (sizesOf (now (sizes .entry))) (settingsOf (now (s .entry))) job (entriesOf (now (table .entry)))
+        (now (octets .entry)) (now (marks .entry))) ⌝ }
+{
+    let a = sizes::add_capture(sizes_of(sizes), settings(s), job, table, octets, marks);
+    let answer = a.answer;
+    *sizes = sizes_numbers(a.sizes);
+    checked_number(answer)
+}
+
+#[no_mangle]
+pub extern "C" fn fenhamper_sizes_add_table(sizes: &mut [u64; 14], more: &[u64; 14])
+    ensures { λ _. ⌜ now (sizes .exit) ≡ sizesNumbers (addTables (sizesOf (now (sizes .entry))) (sizesOf (now (more .entry)))) ⌝ }
+{
+    let t = sizes_of(sizes);
+    let u = sizes_of(more);
+    *sizes = sizes_numbers(sizes::add_tables(t, u));
 }

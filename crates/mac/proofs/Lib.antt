@@ -12,6 +12,7 @@ pub mod Port
 pub mod Quiet
 pub mod Row
 pub mod Seam
+pub mod SizesRise
 pub mod Sum
 pub mod Tables
 pub mod Timers

@@ -115,53 +115,70 @@ module _ (s : Settings) (job : ℕ) (es : List Entry) (os ms : List ℕ) (fine :
   unfolding walk
   walk-through st = let e = same-length in from-place (length os + 1) st 0 (omega arith) (omega arith)
 
--- ---- one turn of a loop
+-- ---- one turn of a loop over a capture
 
--- what is left of a walk at place p, with n Starts counted
-abbrev pub left : Settings → List (Option Address) → List ℕ → List ℕ → ℕ → State → ℕ → WalkEnd
-left s own os ms n st p = walkOf n st (through s own st (length (capture os ms)) (metStarts p (drop p (capture os ms))))
+-- the Starts from place p on
+abbrev pub metFrom : List ℕ → List ℕ → ℕ → List MetStart
+metFrom os ms p = metStarts p (drop p (capture os ms))
 
 -- no Start stands between a Start and the end of its run
 to-the-end : (os ms : List ℕ) → length os ≡ length ms → (i e : ℕ) → findControl (capture os ms) (i + 1) ≡ At e → i + 1 ≤ e → e < length os
-    → metStarts (i + 1) (drop (i + 1) (capture os ms)) ≡ metStarts e (drop e (capture os ms))
+    → metFrom os ms (i + 1) ≡ metFrom os ms e
 to-the-end os ms same i e h low high =
     let t : List Symbol = drop (i + 1) (capture os ms) in
-    let n : length (run t) ≡ e - (i + 1) = ap length (run-found os ms same (i + 1) e h .0) ∙ (unfold between in simp (length-take, length-drop) (omega arith)) in
+    let n : length (run t) ≡ e - (i + 1) =
+    ap length (run-found os ms same (i + 1) e h .0) ∙ (unfold between in simp (length-take, length-drop) (omega arith))
+    in
     let place : i + 1 + (e - (i + 1)) ≡ e = omega arith in
     skip-run (i + 1) t
     ∙ ap (λ (k : ℕ). metStarts (i + 1 + k) (drop k t)) n
     ∙ ap₂ metStarts place (drop-drop (e - (i + 1)) (i + 1) (capture os ms) ∙ ap (λ (k : ℕ). drop k (capture os ms)) place)
 
-module _ (s : Settings) (own : List (Option Address)) (os ms : List ℕ) (n : ℕ) (st : State) (p : ℕ) where
-  pub turn-none : findStart (capture os ms) p ≡ Found.Nothing → left s own os ms n st p ≡ record { answer = Ended n false; state = st }
-  unfolding findStart walkOf through
-  turn-none h = ap (λ (l : List MetStart). walkOf n st (through s own st (length (capture os ms)) l)) (met-nothing p (drop p (capture os ms)) h)
+-- what the two searches of a turn say of them: none; one whose run is open; one whose run is ended, and those from its end on
+module _ (os ms : List ℕ) (p : ℕ) where
+  pub met-none : findStart (capture os ms) p ≡ Found.Nothing → metFrom os ms p ≡ []
+  unfolding findStart
+  met-none h = met-nothing p (drop p (capture os ms)) h
 
   module _ (i : ℕ) (found : findStart (capture os ms) p ≡ At i) where
-    -- the walk over a Start at i, by what follows it
-    abbrev over : AfterStart → WalkEnd
-    over f = walkOf n st (through s own st (length (capture os ms)) (record { place = i; follows = f } ∷ metStarts (i + 1) (drop (i + 1) (capture os ms))))
-
-    at-found : (f : AfterStart) → afterStart (drop (i + 1) (capture os ms)) ≡ f → left s own os ms n st p ≡ over f
+    met-by : (f : AfterStart) → afterStart (drop (i + 1) (capture os ms)) ≡ f → metFrom os ms p ≡ record { place = i; follows = f } ∷ metFrom os ms (i + 1)
     unfolding findStart
-    at-found f e =
-        ap (λ (l : List MetStart). walkOf n st (through s own st (length (capture os ms)) l))
-        (met-found (capture os ms) p (drop p (capture os ms)) i refl found)
-        ∙ ap over e
+    met-by f e =
+        met-found (capture os ms) p (drop p (capture os ms)) i refl found
+        ∙ ap (λ (x : AfterStart). record { place = i; follows = x } ∷ metFrom os ms (i + 1)) e
 
+    pub met-open : findControl (capture os ms) (i + 1) ≡ Found.Nothing → metFrom os ms p ≡ record { place = i; follows = unended } ∷ metFrom os ms (i + 1)
+    met-open h = met-by unended (after-nothing os ms (i + 1) h)
+
+    pub met-ended : (same : length os ≡ length ms) (e : ℕ) → findControl (capture os ms) (i + 1) ≡ At e → i + 1 ≤ e → e < length os
+        → metFrom os ms p ≡ record { place = i; follows = ended (between os (i + 1) e) (getD os e 0) } ∷ metFrom os ms e
+    met-ended same e h low high =
+        let f : AfterStart = ended (between os (i + 1) e) (getD os e 0) in
+        met-by f (after-found os ms same (i + 1) e h)
+        ∙ ap (λ (l : List MetStart). record { place = i; follows = f } ∷ l) (to-the-end os ms same i e h low high)
+
+-- what is left of a walk at place p, with n Starts counted
+abbrev pub left : Settings → List (Option Address) → List ℕ → List ℕ → ℕ → State → ℕ → WalkEnd
+left s own os ms n st p = walkOf n st (through s own st (length (capture os ms)) (metFrom os ms p))
+
+module _ (s : Settings) (own : List (Option Address)) (os ms : List ℕ) (n : ℕ) (st : State) (p : ℕ) where
+  abbrev over : List MetStart → WalkEnd
+  over l = walkOf n st (through s own st (length (capture os ms)) l)
+
+  pub turn-none : findStart (capture os ms) p ≡ Found.Nothing → left s own os ms n st p ≡ record { answer = Ended n false; state = st }
+  unfolding walkOf through
+  turn-none h = ap over (met-none os ms p h)
+
+  module _ (i : ℕ) (found : findStart (capture os ms) p ≡ At i) where
     pub turn-open : findControl (capture os ms) (i + 1) ≡ Found.Nothing → left s own os ms n st p ≡ record { answer = Ended n true; state = st }
     unfolding walkOf through readStart
-    turn-open h = at-found unended (after-nothing os ms (i + 1) h)
+    turn-open h = ap over (met-open os ms p i found h)
 
     pub turn-ended : (same : length os ≡ length ms) (e : ℕ) → findControl (capture os ms) (i + 1) ≡ At e → i + 1 ≤ e → e < length os
         → let r : List ℕ = between os (i + 1) e in
         left s own os ms n st p ≡ left s own os ms (n + 1) (stateAfter (outcome s own r (getD os e 0)) (frameOf r) st) e
     unfolding walkOf through readStart readRun
-    turn-ended same e h low high =
-        let r : List ℕ = between os (i + 1) e in
-        let st′ : State = stateAfter (outcome s own r (getD os e 0)) (frameOf r) st in
-        at-found (ended r (getD os e 0)) (after-found os ms same (i + 1) e h)
-        ∙ ap (λ (l : List MetStart). walkOf (n + 1) st′ (through s own st′ (length (capture os ms)) l)) (to-the-end os ms same i e h low high)
+    turn-ended same e h low high = ap over (met-ended os ms p i found same e h low high)
 
 -- the walk in one call, from its first turn
 pub walked-from : (s : Settings) (job : ℕ) (es : List Entry) (st : State) (os ms : List ℕ) → first (readRefusals s job es os ms 0) ≡ Fine

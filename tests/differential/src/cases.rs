@@ -17,7 +17,7 @@ const MANY: usize = 1000;
 /// Makes the calls of one case of a seed.
 pub fn run(bench: &mut Bench, seed: u64, case: u64) -> Result<(), Difference> {
     let mut prng = bench.begin(seed, case);
-    match prng.below(29) {
+    match prng.below(30) {
         0..=7 => reading(bench, &mut prng),
         8..=13 => sending(bench, &mut prng),
         14 => holding(bench, &mut prng),
@@ -32,6 +32,7 @@ pub fn run(bench: &mut Bench, seed: u64, case: u64) -> Result<(), Difference> {
         25 => table_calls(bench, &mut prng),
         26 => room(bench, &mut prng),
         27 => plain(bench, &mut prng),
+        28 => sizes(bench, &mut prng),
         _ => screens(bench, &mut prng),
     }
 }
@@ -127,6 +128,33 @@ fn plain(bench: &mut Bench, prng: &mut Prng) -> Result<(), Difference> {
         let l = generate::misnumbered(prng, &l);
         bench.c_plain_any(&settings, &l, &numbers, &reader, (octet, mark))?;
     }
+    Ok(())
+}
+
+/// Captures are added to a size table, in one order and another, and in two halves; and tables.
+fn sizes(bench: &mut Bench, prng: &mut Prng) -> Result<(), Difference> {
+    let drawn = generate::settings(prng);
+    let mut settings = generate::settings_record(prng, &drawn);
+    if prng.one_in(16) {
+        generate::spoil(prng, &mut settings.0);
+    }
+    let s = records::settings(&settings);
+    let l = generate::listener(prng, &s);
+    let state = generate::state(prng);
+    let before = generate::sizes(prng);
+    let mut captures = Vec::new();
+    for _ in 0..prng.between(1, 6) {
+        let symbols = generate::sized_capture(prng, &s, &l);
+        captures.push(lend(prng, &symbols));
+    }
+    let cut = prng.below(captures.len() + 1);
+    bench.size_orders((&settings, &l), &state, &captures, (&before, cut))?;
+    for lent in &captures {
+        let (l, before) = (generate::misnumbered(prng, &l), generate::sizes(prng));
+        bench.c_sizes(&settings, &l, lent, &before)?;
+    }
+    let (a, b) = (generate::sizes(prng), generate::sizes(prng));
+    bench.join(&a, &b)?;
     Ok(())
 }
 

@@ -4,6 +4,7 @@ use crate::seen_jobs::{ScreenSeen, TableSeen};
 use crate::seen_log::{GoingOnSeen, KeepSeen, LogSeen};
 use crate::seen_plain::PlainSeen;
 use crate::seen_reason::ReasonSeen;
+use crate::seen_sizes::SizesSeen;
 use crate::seen_totals::TotalsSeen;
 use crate::table;
 use std::fmt;
@@ -18,6 +19,8 @@ pub(crate) enum When {
     Reason(Box<dyn Fn(&ReasonSeen) -> bool>),
     /// By a symbol of the plain reader.
     Plain(Box<dyn Fn(&PlainSeen) -> bool>),
+    /// By a call on a size table.
+    Sizes(Box<dyn Fn(&SizesSeen) -> bool>),
     /// By a sending.
     Sending(Box<dyn Fn(&SendingSeen) -> bool>),
     /// By a row of frames on both ports.
@@ -47,6 +50,7 @@ enum Sort {
     Walk,
     Reason,
     Plain,
+    Sizes,
     Sending,
     Row,
     Log,
@@ -69,6 +73,7 @@ impl When {
             When::Walk(_) => Sort::Walk,
             When::Reason(_) => Sort::Reason,
             When::Plain(_) => Sort::Plain,
+            When::Sizes(_) => Sort::Sizes,
             When::Sending(_) => Sort::Sending,
             When::Row(_) => Sort::Row,
             When::Log(_) => Sort::Log,
@@ -141,6 +146,13 @@ impl Coverage {
         self.hit(
             Sort::Plain,
             |when| matches!(when, When::Plain(test) if test(seen)),
+        );
+    }
+
+    pub(crate) fn sizes(&mut self, seen: &SizesSeen) {
+        self.hit(
+            Sort::Sizes,
+            |when| matches!(when, When::Sizes(test) if test(seen)),
         );
     }
 

@@ -1,5 +1,5 @@
 //! The proved library, through its Rust face and through its C face, against the reference
-//! implementation of document 01 and of items 1 to 12 of document 02, on drawn inputs.
+//! implementation of document 01 and of items 1 to 13 of document 02, on drawn inputs.
 #![deny(unsafe_code)]
 #![warn(missing_docs)]
 
@@ -18,6 +18,7 @@ mod compare_log;
 mod compare_plain;
 mod compare_reason;
 mod compare_row;
+mod compare_sizes;
 mod compare_totals;
 mod face;
 mod plain_log;
@@ -28,5 +29,6 @@ mod seen_jobs;
 mod seen_log;
 mod seen_plain;
 mod seen_reason;
+mod seen_sizes;
 mod seen_totals;
 mod table;

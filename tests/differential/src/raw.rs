@@ -8,9 +8,11 @@
 #![allow(unsafe_code)]
 
 pub mod plain;
+pub mod sizes;
 mod totals;
 
 pub use plain::{plain_fresh, plain_symbol};
+pub use sizes::{sizes_add_capture, sizes_add_table, sizes_fresh};
 pub use totals::{fill_idle_counted, fill_totals, starts_before};
 pub use totals::{send_client_counted, send_pause_counted, send_pfc_counted};
 

@@ -8,6 +8,7 @@ mod reasons;
 mod records;
 mod sendings;
 mod settings;
+mod sizes;
 mod tags;
 mod totals;
 
@@ -24,7 +25,7 @@ pub use sendings::{short_frame, timed_frame};
 pub use settings::{
     settings, state, valid_settings, BROADCAST, COUNTER_BIT, HIGHEST_BIT, RESERVED_GROUP,
 };
-
+pub use sizes::{sized_capture, sizes};
 pub use totals::{allowed, asked_place, line_length, roomy_place, stage, starry, totals, MARKS};
 
 /// The most symbols that a call takes.

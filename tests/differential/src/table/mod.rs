@@ -14,6 +14,7 @@ mod reasons;
 mod room;
 mod screens;
 mod sending;
+mod sizes;
 mod tags;
 mod totals;
 mod ways;
@@ -24,6 +25,7 @@ use crate::seen_jobs::{ScreenSeen, TableSeen};
 use crate::seen_log::{GoingOnSeen, KeepSeen, LogSeen};
 use crate::seen_plain::PlainSeen;
 use crate::seen_reason::ReasonSeen;
+use crate::seen_sizes::SizesSeen;
 use crate::seen_totals::TotalsSeen;
 use std::collections::BTreeSet;
 
@@ -37,6 +39,7 @@ pub(crate) fn rows() -> Vec<Row> {
     ways::rows(&mut table);
     reasons::rows(&mut table);
     plain::rows(&mut table);
+    sizes::rows(&mut table);
     sending::rows(&mut table);
     ports::rows(&mut table);
     log::rows(&mut table);
@@ -92,6 +95,10 @@ impl Table {
 
     fn plain(&mut self, name: impl Into<String>, test: impl Fn(&PlainSeen) -> bool + 'static) {
         self.row(name, When::Plain(Box::new(test)));
+    }
+
+    fn sizes(&mut self, name: impl Into<String>, test: impl Fn(&SizesSeen) -> bool + 'static) {
+        self.row(name, When::Sizes(Box::new(test)));
     }
 
     fn walk(&mut self, name: impl Into<String>, test: impl Fn(&WalkSeen) -> bool + 'static) {

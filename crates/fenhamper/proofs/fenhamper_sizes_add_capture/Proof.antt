@@ -1,0 +1,35 @@
+-- `fenhamper::fenhamper_sizes_add_capture` meets its contract. Assumes nothing.
+use Rattle.fenhamper.specs.Bands.{addTold}
+use borrow.Author.Needs.{needs}
+use Rattle.fenhamper.proofs.fenhamper_sizes_add_capture.Statement.{statement}
+use Rattle.fenhamper.proofs.fenhamper_sizes_add_capture.Tie as tie
+
+sizes-of-requires : tie.Need-sizes-of-requires
+sizes-of-requires c κs = search needs
+
+settings-requires : tie.Need-settings-requires
+settings-requires c κs = search needs
+
+add-capture-requires : tie.Need-add-capture-requires
+add-capture-requires c κs = search needs
+
+sizes-numbers-requires : tie.Need-sizes-numbers-requires
+sizes-numbers-requires c κs = search needs
+
+checked-number-requires : tie.Need-checked-number-requires
+checked-number-requires c κs = search needs
+
+returns : tie.Need-returns
+unfolding addTold
+returns c = cc
+
+pub fenhamper-sizes-add-capture-spec : {M : Type 1} → statement M
+fenhamper-sizes-add-capture-spec =
+    tie.close
+    (tie.spec
+    sizes-of-requires
+    settings-requires
+    add-capture-requires
+    sizes-numbers-requires
+    checked-number-requires
+    returns)

@@ -1,0 +1,23 @@
+-- `fenhamper::fenhamper_sizes_add_table` meets its contract. Assumes nothing.
+use borrow.Author.Needs.{needs}
+use Rattle.fenhamper.proofs.fenhamper_sizes_add_table.Statement.{statement}
+use Rattle.fenhamper.proofs.fenhamper_sizes_add_table.Tie as tie
+
+sizes-of-requires : tie.Need-sizes-of-requires
+sizes-of-requires c κs = search needs
+
+sizes-of-requires-2 : tie.Need-sizes-of-requires-2
+sizes-of-requires-2 c κs = search needs
+
+add-tables-requires : tie.Need-add-tables-requires
+add-tables-requires c κs = search needs
+
+sizes-numbers-requires : tie.Need-sizes-numbers-requires
+sizes-numbers-requires c κs = search needs
+
+returns : tie.Need-returns
+returns c = cc
+
+pub fenhamper-sizes-add-table-spec : {M : Type 1} → statement M
+fenhamper-sizes-add-table-spec =
+    tie.close (tie.spec sizes-of-requires sizes-of-requires-2 add-tables-requires sizes-numbers-requires returns)
