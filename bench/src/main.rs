@@ -1,9 +1,10 @@
 //! Fenhamper's speed beside an independent Rust program and C: symbols per second of `walk`, of
 //! `walk_log`, of adding a capture to a size table, of `read` and `explain` Start by Start, of the
-//! plain reader symbol by symbol, of sending, of room in a log and of totals.
+//! plain reader symbol by symbol, of sending, of room in a log, of totals and of the tool's `count`.
 #![deny(unsafe_code)]
 mod baseline;
 mod captures;
+mod files;
 mod measure;
 mod report;
 mod rivals;
@@ -17,9 +18,10 @@ use std::time::Duration;
 
 use baseline::Reader;
 use captures::{Kind, Line, FRAMES, HOSTILE, SYMBOLS};
+use files::{Captures, Through, Who};
 use measure::{agree, Effort, Rivals};
 use reference::{Check, Port};
-use report::{placed, Cell, Growth, Listed, Report, Room, Row, Totals};
+use report::{placed, Cell, Growth, Listed, OfFile, Report, Room, Row, Totals};
 use rivals::{full_log, Asker, By, Filler, InC, Independent, IndependentSender, Job, Making};
 use rivals::{Proved, ProvedSender, Rival, RoomMaker, Whose};
 
@@ -64,6 +66,9 @@ const MAKINGS: [(Making, bool); 3] = [
 const COUNTED: [&str; 3] = ["all Idle", "64", "all Starts"];
 /// Where they are asked; the look is into a whole block but for one symbol.
 const ASKED: usize = SYMBOLS - 1;
+
+/// How many captures the tool's `count` has in one file.
+const IN_A_FILE: usize = 100;
 
 struct Bench {
     effort: Effort,
@@ -270,15 +275,34 @@ impl Bench {
         }
     }
 
-    // `walk` and `walk_log` on captures of one kind and growing size, in fewer rounds, since there are many.
-    fn growth(&self, kind: &Kind) -> Growth {
-        let bench = Bench {
+    // In fewer rounds, where there are many runs or long ones.
+    fn shorter(&self) -> Bench {
+        Bench {
             effort: Effort {
                 rounds: self.effort.rounds.div_ceil(2),
                 ..self.effort
             },
             ..*self
-        };
+        }
+    }
+
+    // The tool's `count` of a file of captures, beside `walk` over them and reading the file.
+    fn of_file(&self, kind: &Kind) -> Result<OfFile, String> {
+        let captures = Captures::new(kind, IN_A_FILE)
+            .map_err(|error| format!("a file of captures: {error}"))?;
+        let through = |who| -> Box<dyn Rival + '_> { Box::new(Through::new(who, &captures)) };
+        let mut rivals: Rivals = [Who::Count, Who::Walk].map(through).into();
+        agree(kind.name, &mut rivals);
+        rivals.push(through(Who::Read));
+        Ok(OfFile {
+            capture: kind.name,
+            rates: self.shorter().rates(captures.symbols(), &mut rivals),
+        })
+    }
+
+    // `walk` and `walk_log` on captures of one kind and growing size.
+    fn growth(&self, kind: &Kind) -> Growth {
+        let bench = self.shorter();
         let cells = SIZES.map(|size| {
             let line = kind.capture(size)?;
             let mut rivals: Rivals = vec![
@@ -306,10 +330,11 @@ impl Bench {
         }
     }
 
-    fn report(&self, machine: Vec<String>) -> Report {
+    fn report(&self, machine: Vec<String>) -> Result<Report, String> {
         let kinds: Vec<Kind> = FRAMES.into_iter().chain(HOSTILE).collect();
         let (mut rows, mut listed) = (Vec::new(), Vec::new());
         let (mut room, mut totals, mut growth) = (Vec::new(), Vec::new(), Vec::new());
+        let mut of_files = Vec::new();
         for kind in &kinds {
             eprintln!("reading: {}", kind.name);
             if let Some(line) = kind.capture(SYMBOLS) {
@@ -339,22 +364,27 @@ impl Bench {
                 totals.extend(line.map(|line| self.totals(kind, &line)));
             }
         }
+        for kind in &FRAMES {
+            eprintln!("a file: {}", kind.name);
+            of_files.push(self.of_file(kind)?);
+        }
         for kind in &kinds {
             eprintln!("by size: {}", kind.name);
             growth.push(self.growth(kind));
         }
         let order = [&READINGS[..], &SENDINGS.map(|(call, ..)| call)].concat();
         rows.sort_by_key(|row| order.iter().position(|call| *call == row.call));
-        Report {
+        Ok(Report {
             machine,
             zlib: self.zlib.is_some(),
             rows,
             listed,
             room,
             totals,
+            of_files,
             sizes: SIZES.to_vec(),
             growth,
-        }
+        })
     }
 }
 
@@ -400,7 +430,7 @@ fn run() -> Result<(), String> {
         zlib: zlib.as_ref().map(|(reader, _)| *reader),
     };
     let version = zlib.as_ref().map(|(_, version)| version.as_str());
-    let figures = bench.report(machine(version)).markdown();
+    let figures = bench.report(machine(version))?.markdown();
     println!("{figures}");
     if let Some(file) = markdown {
         let document = fs::read_to_string(&file).unwrap_or_default();

@@ -64,6 +64,21 @@ pub struct Totals {
     pub nanoseconds: Vec<f64>,
 }
 
+/// A file of captures of one kind.
+pub struct OfFile {
+    pub capture: &'static str,
+    /// 10^9 symbols per second: the tool's `count`, `walk` over the captures, reading the file alone.
+    pub rates: Vec<f64>,
+}
+
+impl OfFile {
+    // How many times as fast as a walk and reading one after the other `count` is.
+    fn ratio(&self) -> Option<f64> {
+        let seconds = |i: usize| Some(1.0 / self.rates.get(i)?);
+        Some((seconds(1)? + seconds(2)?) / seconds(0)?)
+    }
+}
+
 /// What was measured on a capture of one size.
 #[derive(Clone, Copy)]
 pub struct Cell {
@@ -97,6 +112,7 @@ pub struct Report {
     pub listed: Vec<Listed>,
     pub room: Vec<Room>,
     pub totals: Vec<Totals>,
+    pub of_files: Vec<OfFile>,
     pub sizes: Vec<usize>,
     pub growth: Vec<Growth>,
 }
@@ -261,6 +277,24 @@ impl Report {
         }
     }
 
+    // The tool's `count` of a file.
+    fn of_files(&self, out: &mut String) {
+        out.push_str("In 10^9 symbols per second: the tool's `count` of the file, `walk` over the same captures in memory, and reading the file alone;\n");
+        out.push_str(
+            "then how many times as fast as these two one after the other `count` is.\n\n",
+        );
+        let names = ["Capture", "`count`", "`walk`", "reading", "to both"];
+        head(out, names.map(str::to_owned).to_vec(), 1);
+        for of_file in &self.of_files {
+            let rate = |i: usize| cell(of_file.rates.get(i).copied(), 3);
+            let ratio = cell(of_file.ratio(), 2);
+            line(
+                out,
+                [of_file.capture.to_owned(), rate(0), rate(1), rate(2), ratio],
+            );
+        }
+    }
+
     // One table by size, of the figures that `of` picks.
     fn by_size(&self, out: &mut String, digits: usize, of: fn(Cell) -> f64) {
         let mut names = vec!["Capture".to_owned()];
@@ -354,6 +388,16 @@ impl Report {
                 ratio("send", capture, BY_16),
             );
         }
+        for of_file in &self.of_files {
+            ask(
+                format!(
+                    "`count` of 100 captures to `walk` and reading the file, at most 1.5 times their time: {}",
+                    of_file.capture
+                ),
+                1.0 / 1.5,
+                of_file.ratio(),
+            );
+        }
         let worst = [
             ("`walk` on hostile captures", self.worst("walk")),
             ("`walk_log` on hostile captures", self.worst("walk_log")),
@@ -398,6 +442,8 @@ impl Report {
         self.room(&mut out);
         out.push_str("\n### Totals of 65,536 symbols\n\n");
         self.totals(&mut out);
+        out.push_str("\n### A file of 100 captures\n\n");
+        self.of_files(&mut out);
         out.push_str("\n### `walk`: nanoseconds per symbol by the capture's size in symbols\n\n");
         self.by_size(&mut out, 3, |cell| cell.walk);
         out.push_str("\n### `walk`: how many times as fast as reference, by 16, by the capture's size in symbols\n\n");

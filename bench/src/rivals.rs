@@ -35,6 +35,17 @@ pub struct Tally {
     status: u64,
 }
 
+impl Tally {
+    /// What a walk gave.
+    pub fn walked(count: usize, open: bool) -> Tally {
+        Tally {
+            count,
+            open,
+            ..Tally::default()
+        }
+    }
+}
+
 /// The printing program's settings but for the limit M, for the reference.
 pub fn reference_settings(limit: u16) -> reference::Settings {
     reference::Settings {

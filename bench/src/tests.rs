@@ -3,6 +3,7 @@ use reference::{Check, Port, State, Table};
 
 use crate::baseline::{self, Reader};
 use crate::captures::{data, symbols, Kind, Line, Random, FRAMES, HOSTILE};
+use crate::files::{Captures, Through, Who};
 use crate::measure::{agree, Rivals};
 use crate::report::placed;
 use crate::rivals::{full_log, reference_settings, Asker, By, Filler, InC, Independent};
@@ -190,6 +191,20 @@ fn all_count_the_same_starts() {
             let mut askers: Rivals = all.map(asker).into();
             agree("starts", &mut askers);
         }
+    }
+}
+
+// The tool counts a file of captures as walks over them do, wherever its stretches end.
+#[test]
+fn the_tool_counts_the_same() {
+    for kind in &FRAMES {
+        let captures = Captures::new(kind, 3).expect("a file of captures");
+        let through = |who| -> Box<dyn Rival + '_> { Box::new(Through::new(who, &captures)) };
+        let mut rivals: Rivals = [Who::Count, Who::Walk].map(through).into();
+        let counted = agree(kind.name, &mut rivals);
+        assert!(counted[10] > 0, "{}", kind.name);
+        let mut reader = Through::new(Who::Read, &captures);
+        assert_eq!(reader.run(), Default::default());
     }
 }
 
