@@ -1,7 +1,8 @@
 #!/usr/bin/env python3
 """Holds docs/DEFINITIONS.md and docs/PROMISES.md to the sources: every definition and record of crates/*/specs is named there, and every
 name and theorem there exists; README.md to the samples that it shows; and docs/PLAIN.md to the reader's code, all of it and in its order but for
-what it uses and promises, to the model's rows of its worked capture, these alone and in their order, and to a page's length.
+what it uses and promises, to the model's rows of its worked capture, these alone and in their order, and to a page's length; the links of all pages
+to files and headings, and docs/RULES.md to the files that it names (tools/pages/links.py).
 
 Every public function and no other is in docs/PROMISES.md, each with two must-fail edits or more, and every edit named there exists. Internal files (those whose first line
 says `Internal`) need not be named. Prints what is missing and exits 1, or says nothing.
@@ -82,6 +83,11 @@ if re.findall(r"^\| \d.*$", plain, re.M) != plain_page.rows():
     missing.append("docs/PLAIN.md: the rows of its capture are not tools/oracle/plain_page.py's")
 if plain.count("\n") > PAGE:
     missing.append(f"docs/PLAIN.md: more than a page of {PAGE} lines")
+# links, and the definitions of docs/RULES.md
+sys.path.insert(0, str(root / "tools" / "pages"))
+import links  # noqa: E402
+
+missing += links.wrong()
 for line in missing:
     print(line)
 sys.exit(1 if missing else 0)
