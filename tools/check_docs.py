@@ -1,11 +1,13 @@
 #!/usr/bin/env python3
-"""Holds docs/DEFINITIONS.md and docs/PROMISES.md to the sources: every definition and record of crates/*/specs is named there, and every
-name and theorem there exists; README.md to the samples that it shows; and docs/PLAIN.md to the reader's code, all of it and in its order but for
-what it uses and promises, to the model's rows of its worked capture, these alone and in their order, and to a page's length; the links of all pages
-to files and headings, and docs/RULES.md to the files that it names (tools/pages/links.py).
+"""Holds the pages to the sources. Prints what is missing and exits 1, or says nothing.
 
-Every public function and no other is in docs/PROMISES.md, each with two must-fail edits or more, and every edit named there exists. Internal files (those whose first line
-says `Internal`) need not be named. Prints what is missing and exits 1, or says nothing.
+- docs/DEFINITIONS.md: every definition and record of crates/*/specs is named there with its file, but for files whose first line says `Internal`, and
+  every name and theorem there stands in the file of its row (tools/pages/files.py).
+- docs/PROMISES.md: every public function and no other is there, each with two must-fail edits or more, and every edit named there exists.
+- README.md shows its samples as they are. docs/PLAIN.md shows the reader's code, all of it and in its order but for what it uses and promises, and the
+  model's rows of its worked capture, these alone and in their order, on one page.
+- All pages: links lead to files and headings; docs/RULES.md names definitions in their files, and docs/DEFINITIONS.md links its sections
+  (tools/pages/links.py).
 """
 import pathlib
 import re
@@ -15,35 +17,11 @@ root = pathlib.Path(__file__).resolve().parent.parent
 page = (root / "docs" / "DEFINITIONS.md").read_text()
 named = set(re.findall(r"`([^`\s]+)`", page))
 
-DEFINED = re.compile(r"^(?:unfoldable |abbrev )*pub (?:record |data )?([^\s:({]+)", re.M)
-PROVED = re.compile(r"^ *(?:unfoldable |abbrev )*(?:pub )?([^\s:({]+)(?: \{ℓ\})? :", re.M)
-
-
-def internal(text):
-    return text.split("\n", 1)[0].startswith("-- Internal")
-
-
 missing = []
-theorems = set()
-for path in sorted(root.glob("crates/*/specs/*.antt")):
-    text = path.read_text()
-    if path.name == "Lib.antt" or internal(text):
-        continue
-    for name in DEFINED.findall(text):
-        if name == "mod" or name == "use" or name.startswith("_"):
-            continue
-        if name not in named:
-            missing.append(f"{path.relative_to(root)}: `{name}` is not on docs/DEFINITIONS.md")
-for path in root.glob("crates/*/proofs/*.antt"):
-    theorems |= set(PROVED.findall(path.read_text()))
-claims = page[page.index("## The claims"):]
-for row in re.findall(r"^\| \d[^|]*\|([^|]*)\|", claims, re.M):
-    for name in re.findall(r"`([^`]+)`", row):
-        if name not in theorems:
-            missing.append(f"docs/DEFINITIONS.md: no theorem `{name}`")
 words = set()
 for path in list(root.glob("crates/**/*.antt")) + list(root.glob("crates/**/*.rt")):
     words |= set(re.findall(r"[^\s(){}.,;⟦⟧⌜⌝←]+", path.read_text()))
+words |= {path.name for path in root.glob("crates/*")}
 for name in sorted(named):
     if re.fullmatch(r"[A-Za-z][\w-]*", name) and name not in words:
         missing.append(f"docs/DEFINITIONS.md: `{name}` is nowhere in crates/")
@@ -72,9 +50,9 @@ sys.dont_write_bytecode = True
 sys.path.insert(0, str(root / "tools" / "oracle"))
 import plain_page  # noqa: E402
 
-PAGE = 112  # "a reader that fits on one page" (document 02, item 12)
 plain = (root / "docs" / "PLAIN.md").read_text()
 shown = [line for block in re.findall(r"^```rust\n(.*?)^```", plain, re.M | re.S) for line in block.split("\n") if line.strip()]
+PAGE = 112  # "a reader that fits on one page" (document 02, item 12)
 code = (root / "crates" / "plain" / "src" / "lib.rt").read_text()
 code = code[code.index("// The reader between"):]
 if shown != [line for line in code.split("\n") if line.strip() and not line.strip().startswith("ensures")]:
@@ -83,11 +61,12 @@ if re.findall(r"^\| \d.*$", plain, re.M) != plain_page.rows():
     missing.append("docs/PLAIN.md: the rows of its capture are not tools/oracle/plain_page.py's")
 if plain.count("\n") > PAGE:
     missing.append(f"docs/PLAIN.md: more than a page of {PAGE} lines")
-# links, and the definitions of docs/RULES.md
+# links, the definitions of docs/RULES.md, and the rows of docs/DEFINITIONS.md
 sys.path.insert(0, str(root / "tools" / "pages"))
+import files  # noqa: E402
 import links  # noqa: E402
 
-missing += links.wrong()
+missing += links.wrong() + files.wrong()
 for line in missing:
     print(line)
 sys.exit(1 if missing else 0)

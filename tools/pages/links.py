@@ -1,6 +1,6 @@
 #!/usr/bin/env python3
-"""tools/pages/links.py: every link of every page leads to a file, and to a heading of it where it names one; and in docs/RULES.md each definition stands in
-the file that is named before it. Prints what does not and exits 1, or says nothing.
+"""tools/pages/links.py: every link of every page leads to a file, and to a heading of it where it names one; in docs/RULES.md each definition stands in
+the file that is named before it; and docs/DEFINITIONS.md links each section of it. Prints what does not and exits 1, or says nothing.
 """
 import pathlib
 import re
@@ -11,7 +11,7 @@ root = pathlib.Path(__file__).resolve().parent.parent.parent
 
 LINK = re.compile(r"\[[^\]]*\]\(([^)\s]+)\)")
 DEFINED = re.compile(r"^(?:unfoldable |abbrev )*pub (?:record |data )?([^\s:({]+)", re.M)
-# what pages name before it lands: crates, and names of a file
+# crates that pages name before they land
 AHEAD = {"sizes", "size_lines", "size_table"}
 
 
@@ -66,9 +66,19 @@ def misplaced(page):
                     yield f"{page.relative_to(root)}: `{name}` is not in {path.relative_to(root)}"
 
 
+def unlinked(rules, definitions):
+    """Sections of the rules that the page of definitions does not link, but for those of crates that have not landed."""
+    linked = set(re.findall(r"\(RULES\.md#([^)]*)\)", definitions.read_text()))
+    for title in re.findall(r"^## (.*)$", rules.read_text(), re.M):
+        anchor = headings(f"## {title}").pop()
+        if anchor not in linked and not ahead(root / "crates" / anchor):
+            yield f"docs/DEFINITIONS.md: no link to {title} of docs/RULES.md"
+
+
 def wrong():
+    rules = root / "docs" / "RULES.md"
     found = [line for page in pages() if page.exists() for line in broken(page)]
-    return found + list(misplaced(root / "docs" / "RULES.md"))
+    return found + list(misplaced(rules)) + list(unlinked(rules, root / "docs" / "DEFINITIONS.md"))
 
 
 if __name__ == "__main__":
