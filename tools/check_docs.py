@@ -3,7 +3,8 @@
 
 - docs/DEFINITIONS.md: every definition and record of crates/*/specs is named there with its file, but for files whose first line says `Internal`, and
   every name and theorem there stands in the file of its row (tools/pages/files.py).
-- docs/PROMISES.md: every public function and no other is there, each with two must-fail edits or more, and every edit named there exists.
+- docs/PROMISES.md: every public function and no other is there, each with two must-fail edits or more, which exist and are told in their own words
+  (tools/pages/ruled_out.py).
 - README.md shows its samples as they are. docs/PLAIN.md shows the reader's code, all of it and in its order but for what it uses and promises, and the
   model's rows of its worked capture, these alone and in their order, on one page.
 - All pages: links lead to files and headings; docs/RULES.md names definitions in their files, and docs/DEFINITIONS.md links its sections
@@ -33,16 +34,6 @@ for path in root.glob("crates/*/src/lib.rt"):
         public.add(f"{path.parent.parent.name}::{name}")
 missing += [f"docs/PROMISES.md: `{name}` is not there" for name in sorted(public - promised)]
 missing += [f"docs/PROMISES.md: there is no public `{name}`" for name in sorted(promised - public)]
-EDIT = re.compile(r"\b(\w+)/`(\w+)`")
-for crate, edit in EDIT.findall(promises):
-    places = [root / "crates" / crate / "must-fail", root / "more-edits" / crate]
-    if not any((place / f"{edit}.edit").exists() for place in places):
-        missing.append(f"docs/PROMISES.md: no edit {crate}/{edit}")
-for row in re.findall(r"^\| `\w+::\w+`.*$", promises, re.M):
-    if len(re.findall(r"`\w+::\w+`", row.split("|")[1])) > 1:
-        missing.append(f"docs/PROMISES.md: a row for each function: {row.split('|')[1].strip()}")
-    if len(set(EDIT.findall(row))) < 2:
-        missing.append(f"docs/PROMISES.md: fewer than two edits: {row.split('|')[1].strip()}")
 readme = (root / "README.md").read_text()
 missing += [f"README.md: samples/{name} is not shown as it is" for name in ("first.txt", "first.log.txt", "room.log.txt", "sizes.sizes.txt") if (root / "samples" / name).read_text() not in readme]
 # docs/PLAIN.md: the code of the reader, and the worked capture
@@ -61,12 +52,13 @@ if re.findall(r"^\| \d.*$", plain, re.M) != plain_page.rows():
     missing.append("docs/PLAIN.md: the rows of its capture are not tools/oracle/plain_page.py's")
 if plain.count("\n") > PAGE:
     missing.append(f"docs/PLAIN.md: more than a page of {PAGE} lines")
-# links, the definitions of docs/RULES.md, and the rows of docs/DEFINITIONS.md
+# links, the definitions of docs/RULES.md, the rows of docs/DEFINITIONS.md and of docs/PROMISES.md
 sys.path.insert(0, str(root / "tools" / "pages"))
 import files  # noqa: E402
 import links  # noqa: E402
+import ruled_out  # noqa: E402
 
-missing += links.wrong() + files.wrong()
+missing += links.wrong() + files.wrong() + ruled_out.wrong()
 for line in missing:
     print(line)
 sys.exit(1 if missing else 0)
