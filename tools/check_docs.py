@@ -5,6 +5,7 @@
   every name and theorem there stands in the file of its row (tools/pages/files.py).
 - docs/PROMISES.md: every public function and no other is there, each with two must-fail edits or more, which exist and are told in their own words
   (tools/pages/ruled_out.py).
+- docs/TRUST.md tells how many lines one has to believe (tools/pages/trust.py).
 - README.md shows its samples as they are. docs/PLAIN.md shows the reader's code, all of it and in its order but for what it uses and promises, and the
   model's rows of its worked capture, these alone and in their order, on one page.
 - All pages: links lead to files and headings; docs/RULES.md names definitions in their files, and docs/DEFINITIONS.md links its sections
@@ -52,13 +53,14 @@ if re.findall(r"^\| \d.*$", plain, re.M) != plain_page.rows():
     missing.append("docs/PLAIN.md: the rows of its capture are not tools/oracle/plain_page.py's")
 if plain.count("\n") > PAGE:
     missing.append(f"docs/PLAIN.md: more than a page of {PAGE} lines")
-# links, the definitions of docs/RULES.md, the rows of docs/DEFINITIONS.md and of docs/PROMISES.md
+# links, the definitions of docs/RULES.md, the rows of docs/DEFINITIONS.md and of docs/PROMISES.md, the table of docs/TRUST.md
 sys.path.insert(0, str(root / "tools" / "pages"))
 import files  # noqa: E402
 import links  # noqa: E402
 import ruled_out  # noqa: E402
+import trust  # noqa: E402
 
-missing += links.wrong() + files.wrong() + ruled_out.wrong()
+missing += links.wrong() + files.wrong() + ruled_out.wrong() + trust.wrong()
 for line in missing:
     print(line)
 sys.exit(1 if missing else 0)
