@@ -1,10 +1,12 @@
 #!/usr/bin/env python3
-"""Holds the pages to the sources. Prints what is missing and exits 1, or says nothing.
+"""tools/check_docs.py [--make]: holds the pages to the sources. Prints what is missing and exits 1, or says nothing. With --make it first makes what is
+made in them: links, tables, lines of the changelog.
 
 - docs/DEFINITIONS.md: every definition and record of crates/*/specs is named there with its file, but for files whose first line says `Internal`, and
   every name and theorem there stands in the file of its row (tools/pages/files.py).
 - docs/PROMISES.md: every public function and no other is there, each with two must-fail edits or more, which exist and are told in their own words
   (tools/pages/ruled_out.py).
+- CHANGELOG.md has a line for each landing note (tools/pages/changelog.py).
 - docs/TRUST.md tells how many lines one has to believe (tools/pages/trust.py).
 - README.md shows its samples as they are. docs/PLAIN.md shows the reader's code, all of it and in its order but for what it uses and promises, and the
   model's rows of its worked capture, these alone and in their order, on one page.
@@ -16,6 +18,18 @@ import re
 import sys
 
 root = pathlib.Path(__file__).resolve().parent.parent
+sys.dont_write_bytecode = True
+sys.path[:0] = [str(root / "tools" / "pages"), str(root / "tools" / "oracle")]
+import changelog  # noqa: E402
+import files  # noqa: E402
+import links  # noqa: E402
+import plain_page  # noqa: E402
+import ruled_out  # noqa: E402
+import trust  # noqa: E402
+
+if sys.argv[1:] == ["--make"]:
+    for made in (files, ruled_out, trust, changelog):
+        made.page.write_text(made.made(made.page.read_text()))
 page = (root / "docs" / "DEFINITIONS.md").read_text()
 named = set(re.findall(r"`([^`\s]+)`", page))
 
@@ -38,10 +52,6 @@ missing += [f"docs/PROMISES.md: there is no public `{name}`" for name in sorted(
 readme = (root / "README.md").read_text()
 missing += [f"README.md: samples/{name} is not shown as it is" for name in ("first.txt", "first.log.txt", "room.log.txt", "sizes.sizes.txt") if (root / "samples" / name).read_text() not in readme]
 # docs/PLAIN.md: the code of the reader, and the worked capture
-sys.dont_write_bytecode = True
-sys.path.insert(0, str(root / "tools" / "oracle"))
-import plain_page  # noqa: E402
-
 plain = (root / "docs" / "PLAIN.md").read_text()
 shown = [line for block in re.findall(r"^```rust\n(.*?)^```", plain, re.M | re.S) for line in block.split("\n") if line.strip()]
 PAGE = 112  # "a reader that fits on one page" (document 02, item 12)
@@ -53,14 +63,8 @@ if re.findall(r"^\| \d.*$", plain, re.M) != plain_page.rows():
     missing.append("docs/PLAIN.md: the rows of its capture are not tools/oracle/plain_page.py's")
 if plain.count("\n") > PAGE:
     missing.append(f"docs/PLAIN.md: more than a page of {PAGE} lines")
-# links, the definitions of docs/RULES.md, the rows of docs/DEFINITIONS.md and of docs/PROMISES.md, the table of docs/TRUST.md
-sys.path.insert(0, str(root / "tools" / "pages"))
-import files  # noqa: E402
-import links  # noqa: E402
-import ruled_out  # noqa: E402
-import trust  # noqa: E402
-
-missing += links.wrong() + files.wrong() + ruled_out.wrong() + trust.wrong()
+# links, and what is made
+missing += links.wrong() + files.wrong() + ruled_out.wrong() + trust.wrong() + changelog.wrong()
 for line in missing:
     print(line)
 sys.exit(1 if missing else 0)

@@ -16,8 +16,9 @@ AHEAD = {"sizes", "size_lines", "size_table"}
 
 
 def pages():
-    """The pages that git knows, or all where there is no git."""
-    listed = subprocess.run(["git", "ls-files", "*.md"], cwd=root, capture_output=True, text=True).stdout.split()
+    """The pages of the repository, new ones too; all there are where there is no git."""
+    words = ["git", "ls-files", "--cached", "--others", "--exclude-standard", "*.md"]
+    listed = subprocess.run(words, cwd=root, capture_output=True, text=True).stdout.split()
     return [root / name for name in listed] or [path for path in root.rglob("*.md") if "target" not in path.parts]
 
 
