@@ -1,11 +1,12 @@
 #!/usr/bin/env python3
 """tools/check_docs.py [--make]: holds the pages to the sources. Prints what is missing and exits 1, or says nothing. With --make it first makes what is
-made in them: links, tables, lines of the changelog.
+made in them: links, tables, the picture, lines of the changelog.
 
 - docs/DEFINITIONS.md: every definition and record of crates/*/specs is named there with its file, but for files whose first line says `Internal`, and
   every name and theorem there stands in the file of its row (tools/pages/files.py).
 - docs/PROMISES.md: every public function and no other is there, each with two must-fail edits or more, which exist and are told in their own words
   (tools/pages/ruled_out.py).
+- docs/ARCHITECTURE.md has every crate on its floor, and docs/crates.svg shows who uses whom (tools/pages/picture.py).
 - CHANGELOG.md has a line for each landing note (tools/pages/changelog.py).
 - docs/TRUST.md tells how many lines one has to believe (tools/pages/trust.py).
 - README.md shows its samples as they are. docs/PLAIN.md shows the reader's code, all of it and in its order but for what it uses and promises, and the
@@ -23,6 +24,7 @@ sys.path[:0] = [str(root / "tools" / "pages"), str(root / "tools" / "oracle")]
 import changelog  # noqa: E402
 import files  # noqa: E402
 import links  # noqa: E402
+import picture  # noqa: E402
 import plain_page  # noqa: E402
 import ruled_out  # noqa: E402
 import trust  # noqa: E402
@@ -30,6 +32,7 @@ import trust  # noqa: E402
 if sys.argv[1:] == ["--make"]:
     for made in (files, ruled_out, trust, changelog):
         made.page.write_text(made.made(made.page.read_text()))
+    picture.picture.write_text(picture.drawn())
 page = (root / "docs" / "DEFINITIONS.md").read_text()
 named = set(re.findall(r"`([^`\s]+)`", page))
 
@@ -64,7 +67,7 @@ if re.findall(r"^\| \d.*$", plain, re.M) != plain_page.rows():
 if plain.count("\n") > PAGE:
     missing.append(f"docs/PLAIN.md: more than a page of {PAGE} lines")
 # links, and what is made
-missing += links.wrong() + files.wrong() + ruled_out.wrong() + trust.wrong() + changelog.wrong()
+missing += links.wrong() + files.wrong() + ruled_out.wrong() + trust.wrong() + picture.wrong() + changelog.wrong()
 for line in missing:
     print(line)
 sys.exit(1 if missing else 0)
