@@ -1,10 +1,10 @@
 #!/usr/bin/env python3
-"""tools/pages/picture.py [--check | --text]: docs/crates.svg, which crate uses which, from crates.txt.
+"""tools/pages/picture.py [--check | --text | --order]: docs/crates.svg, which crate uses which, from crates.txt.
 
 crates.txt lists for each crate all that it may name; a line is drawn only where no crate between has it already. A crate stands above all that it uses,
 the ground floor at the bottom; programs are drawn with a dashed frame, what has no code of its own with a round one. --text prints the lines as text.
---check changes nothing, and tells where the picture is not as made, where docs/ARCHITECTURE.md has a crate that is not listed, lacks one or has it below
-one that it uses.
+--order puts crates.txt into the order of the floors of docs/ARCHITECTURE.md. --check changes nothing, and tells where the picture is not as made, where
+crates.txt is in another order, and where that page has a crate that is not listed, lacks one or has it below one that it uses.
 """
 import re
 import sys
@@ -172,9 +172,24 @@ def told():
     return {crate: int(row[0]) if row[0].isdigit() else None for row in rows for crate in re.findall(r"`(\w+)`", row[1])}
 
 
+def ordered():
+    """crates.txt, floor by floor as the page has them."""
+    known, text = told(), (root / "crates.txt").read_text()
+    of = {line.split(":")[0]: line for line in text.split("\n") if line and not line.startswith("#")}
+    lines, floor = [text.split("\n", 1)[0]], 0
+    for crate in [crate for crate in known if crate in of] + [crate for crate in of if crate not in known]:
+        if known.get(crate) != floor:
+            floor = known.get(crate)
+            lines.append(f"# Floor {floor}" if floor else "# Programs that run and compare")
+        lines.append(of[crate])
+    return "\n".join(lines) + "\n"
+
+
 def wrong():
     crates, known = listed(), told()
     found = [] if picture.exists() and picture.read_text() == drawn() else ["docs/crates.svg is not as made (tools/pages/picture.py)"]
+    if (root / "crates.txt").read_text() != ordered():
+        found.append("crates.txt is not in the order of docs/ARCHITECTURE.md (tools/pages/picture.py --order)")
     found += [f"docs/ARCHITECTURE.md: `{crate}` is on no floor" for crate in crates if crate not in known]
     found += [f"docs/ARCHITECTURE.md: crates.txt has no `{crate}`" for crate in known if crate not in crates and crate not in AHEAD]
     for crate, below in crates.items():
@@ -188,6 +203,8 @@ if __name__ == "__main__":
     if sys.argv[1:] == ["--text"]:
         for crate, below in direct(listed()).items():
             print(f"{crate} uses {', '.join(below)}" if below else crate)
+    elif sys.argv[1:] == ["--order"]:
+        (root / "crates.txt").write_text(ordered())
     elif sys.argv[1:] == ["--check"]:
         problems = wrong()
         print("\n".join(problems), end="\n" if problems else "")
