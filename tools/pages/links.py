@@ -11,8 +11,6 @@ root = pathlib.Path(__file__).resolve().parent.parent.parent
 
 LINK = re.compile(r"\[[^\]]*\]\(([^)\s]+)\)")
 DEFINED = re.compile(r"^(?:unfoldable |abbrev )*pub (?:record |data )?([^\s:({]+)", re.M)
-# crates that pages name before they land
-AHEAD = {"sizes", "size_lines", "size_table"}
 
 
 def pages():
@@ -34,12 +32,6 @@ def headings(text):
     return {re.sub(r"[^\w\- ]", "", title.lower()).replace(" ", "-") for title in titles}
 
 
-def ahead(path):
-    """A file of a crate that has not landed."""
-    parts = path.relative_to(root).parts
-    return len(parts) > 1 and parts[0] == "crates" and parts[1] in AHEAD and not (root / "crates" / parts[1]).exists()
-
-
 def broken(page):
     """The links of a page that lead nowhere."""
     for link in LINK.findall(prose(page.read_text())):
@@ -48,8 +40,7 @@ def broken(page):
         name, _, anchor = link.partition("#")
         to = (page.parent / name).resolve() if name else page
         if not to.exists():
-            if not ahead(to):
-                yield f"{page.relative_to(root)}: {link} is not there"
+            yield f"{page.relative_to(root)}: {link} is not there"
         elif anchor and to.suffix == ".md" and anchor not in headings(to.read_text()):
             yield f"{page.relative_to(root)}: {link}: no such heading"
 
@@ -59,7 +50,7 @@ def misplaced(page):
     for paragraph in re.findall(r"^\*Definitions\.\*(.*?)(?:\n\n|\Z)", page.read_text(), re.M | re.S):
         for link, names in re.findall(r"\]\(([^)]*)\)([^\[]*)", paragraph):
             path = (page.parent / link).resolve()
-            if ahead(path) or not path.exists():
+            if not path.exists():
                 continue
             there = set(DEFINED.findall(path.read_text()))
             for name in re.findall(r"`([^`]+)`", names):
@@ -68,11 +59,11 @@ def misplaced(page):
 
 
 def unlinked(rules, definitions):
-    """Sections of the rules that the page of definitions does not link, but for those of crates that have not landed."""
+    """Sections of the rules that the page of definitions does not link."""
     linked = set(re.findall(r"\(RULES\.md#([^)]*)\)", definitions.read_text()))
     for title in re.findall(r"^## (.*)$", rules.read_text(), re.M):
         anchor = headings(f"## {title}").pop()
-        if anchor not in linked and not ahead(root / "crates" / anchor):
+        if anchor not in linked:
             yield f"docs/DEFINITIONS.md: no link to {title} of docs/RULES.md"
 
 

@@ -11,7 +11,6 @@ import sys
 
 sys.dont_write_bytecode = True
 from files import cells, root  # noqa: E402
-from links import AHEAD  # noqa: E402
 
 picture = root / "docs" / "crates.svg"
 page = root / "docs" / "ARCHITECTURE.md"
@@ -191,7 +190,7 @@ def wrong():
     if (root / "crates.txt").read_text() != ordered():
         found.append("crates.txt is not in the order of docs/ARCHITECTURE.md (tools/pages/picture.py --order)")
     found += [f"docs/ARCHITECTURE.md: `{crate}` is on no floor" for crate in crates if crate not in known]
-    found += [f"docs/ARCHITECTURE.md: crates.txt has no `{crate}`" for crate in known if crate not in crates and crate not in AHEAD]
+    found += [f"docs/ARCHITECTURE.md: crates.txt has no `{crate}`" for crate in known if crate not in crates]
     for crate, below in crates.items():
         for one in below:
             if (known.get(crate) or 99) < (known.get(one) or 0):
