@@ -1,4 +1,4 @@
-"""An independent model of document 01 with items 1 to 13 of document 02, written from their text alone and not from the definitions in crates/*/specs.
+"""An independent model of document 01 with items 1 to 14 of document 02, written from their text alone and not from the definitions in crates/*/specs.
 
 Each piece stands under the sentence of the documents that it renders. The check is zlib's crc32, not a loop of our own, and a log's record is laid
 out by struct.
@@ -1042,6 +1042,114 @@ def idle_sending(state, octets, marks, place, n: int, totals=None) -> Sending:
     return sent(idle_refusals(octets, marks, place, n), state, octets, marks, place, idle_symbols(n), totals=totals)
 
 
+# ---- Quiet means quiet (item 14)
+
+
+class Set(NamedTuple):
+    """A reading set a class."""
+    cls: int
+    quanta: int
+
+
+class Wrote(NamedTuple):
+    """A call wrote so many symbols. The first of them is the Start of a client frame of that class, if there is one, and no other is."""
+    count: int
+    cls: Optional[int]
+
+
+def loud(trace: List) -> Optional[int]:
+    """"after a reading that sets a class to q quanta, none of the next 64 × q symbols that we write is the Start of a client frame of that class, unless a
+    later reading sets that class again first": where in the trace of a sequence of calls such a Start is."""
+    for at, event in enumerate(trace):
+        passed = 0
+        for later in range(at + 1, len(trace)) if isinstance(event, Set) else ():
+            if isinstance(trace[later], Set):
+                if trace[later].cls == event.cls:
+                    break
+            else:
+                # "Control frames and other classes may start."
+                if trace[later].cls == event.cls and passed < 64 * event.quanta:
+                    return later
+                passed += trace[later].count
+    return None
+
+
+@dataclass(frozen=True)
+class Hearing:
+    """A call that reads; open point: capture, job and table may be others each time."""
+    how: str  # reading, walk, logged or plain
+    capture: Optional[Tuple[List[int], List[int]]]  # octets and marks; none: the line that is written into
+    place: int = 0
+    records: int = 0  # of a log of zero octets
+    job: int = 0
+    table: Table = field(default_factory=lambda: EMPTY)
+
+
+@dataclass(frozen=True)
+class Writing:
+    """A call that writes into the line."""
+    what: str  # client, pause, pfc or idle
+    place: int
+    asked: object  # a Client; quanta; (named, quanta); a number of Idles
+    port: str = PLAIN
+    counting: bool = False  # with the totals of the line, which are true
+
+
+def heard(s: Settings, state: State, octets: List[int], marks: List[int], c: Hearing) -> Tuple[State, List[Set]]:
+    """The state behind a call that reads, and what it set. No timer is asked: the quanta are those of the captured octets."""
+    if c.how == "reading":
+        r = reading(s, state, octets, marks, c.place, c.job, c.table)
+        after, starts = r.state, [(r.start, r.outcome)]
+    elif c.how == "walk":
+        readings = walk(s, state, octets, marks, 0, c.job, c.table)
+        after, starts = readings[-1].state, [(r.start, r.outcome) for r in readings]
+    elif c.how == "logged":
+        walked = logged_walk(s, state, octets, marks, c.place, [0] * (RECORD.size * c.records), c.job, c.table)
+        after, starts = walked.state, [(r.place, r.outcome) for r in read_back(walked.log)]
+    else:
+        reader, starts, start = PlainReader(state=state), [], None
+        for place, symbol in enumerate(zip(octets, marks)):
+            step = taking(s, reader, *symbol, c.job, c.table)
+            if step.ended:
+                starts.append((start, step.ended.outcome))
+            reader, start = step.reader, place if is_start(*symbol) else start
+        after = reader.state
+    sets = []
+    for start, outcome in starts:
+        quanta = [int.from_bytes(bytes(octets[start + 8 + at:start + 10 + at]), "big") for at in range(16, 34, 2)] if outcome in (8, 9) else []
+        sets += [Set(n, quanta[0]) for n in range(8) if outcome == 8] + [Set(n, quanta[1 + n]) for n in range(8) if outcome == 9 and quanta[0] >> n & 1]
+    return after, sets
+
+
+def written_by(s: Settings, state: State, octets: List[int], marks: List[int], c: Writing) -> Sending:
+    totals = true_totals(octets, marks) if c.counting else None
+    if c.what == "client":
+        return client_sending(s, state, octets, marks, c.place, c.asked, c.port, totals)
+    if c.what == "pause":
+        return pause_sending(s, state, octets, marks, c.place, c.asked, c.port, totals)
+    if c.what == "pfc":
+        return pfc_sending(s, state, octets, marks, c.place, *c.asked, c.port, totals)
+    return idle_sending(state, octets, marks, c.place, c.asked, totals)
+
+
+def quiet_calls(s: Settings, state: State, octets: List[int], marks: List[int], calls: List) -> Tuple[List, State]:
+    """"Over any sequence of our calls on one state with fixed valid settings": the trace of these calls, and the state behind them."""
+    trace = []
+    for c in calls:
+        if isinstance(c, Hearing):
+            state, sets = heard(s, state, *(c.capture or (octets, marks)), c)
+            trace += sets
+            continue
+        a = written_by(s, state, octets, marks, c)
+        state, octets, marks = a.state, a.octets, a.marks
+        if not a.refusal:
+            starts = [n for n in range(a.place - c.place) if is_start(octets[c.place + n], marks[c.place + n])]
+            assert starts == ([] if c.what == "idle" else [0])
+            trace.append(Wrote(a.place - c.place, c.asked.cls if c.what == "client" else None))
+    assert loud(trace) is None
+    return trace, state
+
+
 # ---- The printing program
 
 # "Settings: own 02-00-00-00-00-01, none listed, broadcast on, promiscuous off, checking on, M 1518, flow none, `pass control` off."
@@ -1720,3 +1828,65 @@ def try_sizes():
 
 
 try_sizes()
+
+
+# ---- Quiet, tried on traces and with drawn calls
+
+
+def try_quiet():
+    # Traces, loud and not, on both sides of the last symbol of the quiet.
+    one, idles = Wrote(84, 3), lambda n: Wrote(n, None)
+    for trace, at in [
+            ([one], None), ([Set(3, 0), one], None), ([Set(3, 1), one], 1), ([Set(3, 1), idles(63), one], 2), ([Set(3, 1), idles(64), one], None),
+            ([Set(3, 65535), idles(64 * 65535 - 1), one], 2), ([Set(3, 65535), idles(64 * 65535), one], None), ([one, Set(3, 1)], None),
+            ([Set(3, 2), Wrote(84, 2), one], 2), ([Set(3, 2), Wrote(84, 2), idles(43), one], 3), ([Set(3, 2), Wrote(84, 2), idles(44), one], None),
+            ([Set(3, 9), Set(3, 0), one], None), ([Set(3, 9), Set(2, 0), one], 2), ([Set(3, 0), Set(3, 1), one], 2), ([Set(2, 9), one], None),
+            ([Set(3, 1), idles(60), Set(3, 1), idles(60), one], 4), ([Set(3, 3), idles(60), Set(3, 1), idles(64), one], None)]:
+        assert loud(trace) == at
+    own, other, draw, seen = PRINTING.own, [2, 0, 0, 0, 0, 9], random.Random(14), []
+
+    def symbols():
+        """A pause, a PFC frame or noise, at times cut."""
+        few = [0, 1, 1, 2, 3, 7]
+        line = draw.choice([pause_symbols(replace(PRINTING, own=other), draw.choice(few)), [(START, 1), (7, 0)],
+                            pfc_symbols(replace(PRINTING, own=other), draw.randrange(256), [draw.choice(few) for _ in range(8)])])
+        return line[:draw.choice([30] + [len(line)] * 7)]
+
+    def call(length):
+        if draw.randrange(4) == 0:
+            line = [symbol for _ in range(draw.randrange(1, 4)) for symbol in symbols()]
+            capture = draw.choice([None] + [([octet for octet, _ in line], [mark for _, mark in line])] * 3)
+            table = draw.choice([EMPTY, [(0, other)] + [None] * 15, [(1, other)] * 2 + [None] * 14])
+            return Hearing(draw.choice(["reading", "walk", "logged", "plain"]), capture, draw.choice([0, 0, 84, 999]), draw.randrange(4),
+                           draw.choice([0, 0, 1, 1, 2]), table)
+        tags, data = draw.choice([[], [], [(SERVICE, 5)] * 2]), [7] * draw.choice([0, 0, 49])
+        client = Client(draw.choice([own, other]), tags, draw.choice([None, 0x0800]), draw.randrange(9), data)
+        what, asked = draw.choice([("client", client)] * 4 + [("idle", draw.choice([0, 1, 63, 64, 65, 300])), ("pause", draw.choice([0, 1, 3])),
+                                                              ("pfc", (draw.randrange(256), [1] * 8))])
+        return Writing(what, draw.choice([0, 0, 4, 7, length - 84, length]), asked, draw.choice([PLAIN, FOUR_LANE]), draw.randrange(3) == 0)
+
+    for _ in range(60):
+        length = draw.choice([84, 400])
+        calls = [call(length) for _ in range(25)]
+        trace, state = quiet_calls(replace(PRINTING, flow=draw.choice(["pause", "PFC"])), State(), [0xA7] * length, [0xC9] * length, calls)
+        # From a fresh state no class is held any longer than that.
+        for n in range(8):
+            at = max((at for at, event in enumerate(trace) if isinstance(event, Set) and event.cls == n), default=None)
+            left = 0 if at is None else 64 * trace[at].quanta - sum(event.count for event in trace[at:] if isinstance(event, Wrote))
+            assert state.timers[n] == max(0, left)
+        seen += trace
+    sets, starts = [event for event in seen if isinstance(event, Set)], [event for event in seen if isinstance(event, Wrote) and event.cls is not None]
+    assert len(sets) > 300 and len(starts) > 100
+    # Every way to read sets the same, and what follows is held by it.
+    line = [(START, 1)] + pause_symbols(PRINTING, 2) + pfc_symbols(PRINTING, 0x81, [3] * 8)
+    capture, client = ([octet for octet, _ in line], [mark for _, mark in line]), Client(other, [], None, 7, [])
+    for flow, sets, slots in [("pause", 8, 128), ("PFC", 2, 192), ("none", 0, 0)]:
+        place = 1 if flow == "pause" else 2
+        for c in [Hearing("walk", capture), Hearing("plain", capture), Hearing("logged", capture, 1, 2), Hearing("reading", capture, place)]:
+            for n, starts in [(0, slots == 0), (max(0, slots - 1), slots == 0), (slots, True)]:
+                calls = [c, Writing("idle", 5, n), Writing("client", 9, client)]
+                trace, state = quiet_calls(replace(PRINTING, flow=flow), State(), [0] * 400, [0] * 400, calls)
+                assert len(trace) == sets + 1 + starts
+
+
+try_quiet()

@@ -1,4 +1,4 @@
-//! A reference implementation of document 01, with items 1 to 13 of document 02:
+//! A reference implementation of document 01, with items 1 to 14 of document 02:
 //! the work of an Ethernet MAC on line symbols kept in memory.
 //!
 //! Written from those documents alone, to be compared with the proved program.
@@ -15,6 +15,7 @@ mod log;
 mod plain;
 mod port;
 mod print;
+mod quiet;
 mod reason;
 mod receive;
 mod refusal;
@@ -34,6 +35,7 @@ pub use log::{LogEnd, LogReader, Logged, Record};
 pub use plain::{Ended, PlainReader};
 pub use port::Port;
 pub use print::print;
+pub use quiet::{run_quietly, Call, Hearing, Loud, Quiet, Writing};
 pub use reason::{explain, Explained, Reason, Why};
 pub use receive::{read, walk, Answer, Reading, Walked};
 pub use send::{fill_idle, send_client, send_pause, send_pfc, Client, Form, Sent, Tag, TagKind};

@@ -88,7 +88,7 @@ pub(crate) struct Line<'a> {
 }
 
 impl<'a> Line<'a> {
-    fn new(octets: &'a mut [u8], marks: &'a mut [u8], place: usize) -> Self {
+    pub(crate) fn new(octets: &'a mut [u8], marks: &'a mut [u8], place: usize) -> Self {
         Line {
             octets,
             marks,

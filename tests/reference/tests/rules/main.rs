@@ -1,4 +1,4 @@
-//! The rules of document 01 and of items 1 to 13 of document 02, one module for
+//! The rules of document 01 and of items 1 to 14 of document 02, one module for
 //! each part.
 
 mod addresses;
@@ -12,6 +12,7 @@ mod limits;
 mod log;
 mod plain;
 mod printing;
+mod quiet;
 mod reading;
 mod reasons;
 mod refusals;
