@@ -1,10 +1,10 @@
 -- Document 02, item 9, of the sending calls with totals, each claim one statement over the four of them: what a call leaves in the totals (`totals-left`,
 -- block by block `each-block`); a refused call changes none (`refused-none`); true totals stay true (`sends-true`); the number it gives is that of its
--- whole table of refusals (`number-given`). Assumes nothing.
+-- whole table of refusals (`number-given`), and but for its totals it is the call without them with that table (`counted-sent`). Assumes nothing.
 use Prim.Native.Nat.{ℕ, zero, suc, _+_, _<_}
 use native.Mathlib.Omega.{arith}
 use mathlib.Core.Path.{_≡_, refl, sym, ap, _∙_, subst}
-use mathlib.Core.Bool.{true, cond}
+use mathlib.Core.Bool.{cond}
 use mathlib.Core.List.{List}
 use lib.ListN.{length, getD}
 use Rattle.line.specs.Line.{Symbol, capture, octetsOf, marksOf, overwrite}
@@ -21,14 +21,15 @@ use Rattle.station.specs.declared.Checked.the-variants.{Fine, Refused}
 use Rattle.station.specs.Numbers.{checkedNumber}
 use Rattle.station.specs.Station.{isPauseMode, isPfcMode}
 use Rattle.station.proofs.Refusals.{fine-row}
-use Rattle.writing.specs.Frames.{clientBody, pauseBody, pfcBody, idleSymbols}
-use Rattle.writing.specs.Gaps.{gapOn, symbolsOn}
-use Rattle.send.specs.Sending.{wentRefusal, sendChecked, clientRefusals, controlRefusals, idleRefusals, clientChecked, pauseChecked, pfcChecked, idleChecked, frameSending, clientSending, pauseSending, pfcSending, idleSending}
+use Rattle.writing.specs.Frames.{pauseBody, pfcBody}
+use Rattle.send.specs.Sending.{wentRefusal, sendChecked, clientRefusals, controlRefusals, idleRefusals, clientChecked, pauseChecked, pfcChecked, idleChecked}
+use Rattle.send.specs.Sending.{frameSending, clientSending, pauseSending, pfcSending, idleSending}
 use Rattle.send.proofs.Refusals.{Room, passed, passed-control, passed-idle}
 use Rattle.totals.specs.Totals.{blockTotal, trueTotals, writtenInto, recounted, wrongTotals, highTotal, beforeRefusals}
 use Rattle.totals.proofs.Laws.{stay-true, none-recounted, getD-recounted, length-recounted}
 use Rattle.counting.specs.Counting.{Counting, frameTotals, countChecked, clientCounting, pauseCounting, pfcCounting, idleCounting}
-use Rattle.counting.specs.Claims.{Lent, TotalsTrue, Sends, sendsClient, sendsPause, sendsPfc, fillsIdle, stateOf, placeOf, countingOf, withTotals, allRefusals, leftBy, RefusedCall}
+use Rattle.counting.specs.Claims.{Lent, TotalsTrue, Sends, sendsClient, sendsPause, sendsPfc, fillsIdle, placeOf, sendingOf, countingOf, symbolsAsked}
+use Rattle.counting.specs.Claims.{countAfter, withTotals, refusalsOf, comeFirst, allRefusals, leftBy, RefusedCall}
 use Rattle.counting.proofs.Calls.{framed-room}
 
 -- ---- 21 and 22 behind the first n rows of a table
@@ -117,75 +118,63 @@ module _ (st : State) (os ms ts : List ℕ) (place : ℕ) (new : List Symbol) (c
   number-is Fine (Refused x) all f g = ap checkedNumber (sym (g refl))
   number-is Fine Fine all f g = ap checkedNumber (sym (g refl))
 
+  -- both tables together: the call without totals, by the whole table
+  sent-by-all : (early k all : Checked) → ((x : Refusal) → early ≡ Refused x → all ≡ Refused x) → (early ≡ Fine → all ≡ k)
+      → made early k .sent ≡ sendChecked all st os ms place new count
+  unfolding countChecked sendChecked
+  sent-by-all (Refused x) k all f g = sym (ap (λ (a : Checked). sendChecked a st os ms place new count) (f x refl))
+  sent-by-all Fine k all f g = sym (ap (λ (a : Checked). sendChecked a st os ms place new count) (g refl))
+
 -- ---- each call is such a call
 
-record Seen (l : Lent) (c : Sends) : Type 0 where
-  n : ℕ
-  rows : Table Checked
-  new : List Symbol
-  count : ℕ
-  table : allRefusals l c ≡ withTotals n (l .octets) (l .totals) rows
-  is : countingOf l c
-      ≡ made (stateOf c) (l .octets) (l .marks) (l .totals) (placeOf c) new count (first (withTotals n (l .octets) (l .totals) (upTo n rows))) (first rows)
-  room : first rows ≡ Fine → Room (l .octets) (l .marks) (placeOf c) new
+-- without totals
+pub sent-by : (st : State) (os ms : List ℕ) (c : Sends)
+    → sendingOf st os ms c ≡ sendChecked (first (refusalsOf st os ms c)) st os ms (placeOf c) (symbolsAsked st c) (countAfter st c)
+unfolding sendingOf refusalsOf symbolsAsked countAfter frameSending
+sent-by st os ms (sendsClient s port place c d) = unfold clientSending clientChecked in refl
+sent-by st os ms (sendsPause s port place q) = unfold pauseSending pauseChecked in refl
+sent-by st os ms (sendsPfc s port place k) = unfold pfcSending pfcChecked in refl
+sent-by st os ms (fillsIdle place n) = unfold idleSending idleChecked in refl
 
-seen : (l : Lent) (c : Sends) → Seen l c
-unfolding countingOf allRefusals withTotals upTo frameTotals beforeRefusals clientCounting pauseCounting pfcCounting idleCounting clientSending pauseSending pfcSending idleSending frameSending clientChecked pauseChecked pfcChecked idleChecked clientRefusals controlRefusals idleRefusals
-seen l (sendsClient s st port place c d) =
-    record {
-      n = 4;
-      rows = clientRefusals s st port (l .octets) (l .marks) place c d;
-      new = symbolsOn port (st .deficit) place (clientBody s c d);
-      count = gapOn port (st .deficit) place (clientBody s c d) .count;
-      table = refl;
-      is = refl;
-      room = λ f. framed-room (passed s st port (l .octets) (l .marks) place c d f .framed);
-    }
-seen l (sendsPause s st port place q) =
-    record {
-      n = 4;
-      rows = controlRefusals s port (st .deficit) (l .octets) (l .marks) place (isPauseMode (s .flow)) (pauseBody s q);
-      new = symbolsOn port (st .deficit) place (pauseBody s q);
-      count = gapOn port (st .deficit) place (pauseBody s q) .count;
-      table = refl;
-      is = refl;
-      room = λ f. framed-room (passed-control s port (st .deficit) (l .octets) (l .marks) place (isPauseMode (s .flow)) (pauseBody s q) f .1);
-    }
-seen l (sendsPfc s st port place k) =
-    record {
-      n = 4;
-      rows = controlRefusals s port (st .deficit) (l .octets) (l .marks) place (isPfcMode (s .flow)) (pfcBody s k);
-      new = symbolsOn port (st .deficit) place (pfcBody s k);
-      count = gapOn port (st .deficit) place (pfcBody s k) .count;
-      table = refl;
-      is = refl;
-      room = λ f. framed-room (passed-control s port (st .deficit) (l .octets) (l .marks) place (isPfcMode (s .flow)) (pfcBody s k) f .1);
-    }
-seen l (fillsIdle st place m) =
-    record {
-      n = 2;
-      rows = idleRefusals (l .octets) (l .marks) place (idleSymbols m);
-      new = idleSymbols m;
-      count = st .deficit;
-      table = refl;
-      is = refl;
-      room = λ f. passed-idle (l .octets) (l .marks) place m f;
-    }
+-- there is room for what it writes
+asked-room : (st : State) (os ms : List ℕ) (c : Sends) → first (refusalsOf st os ms c) ≡ Fine → Room os ms (placeOf c) (symbolsAsked st c)
+unfolding refusalsOf symbolsAsked clientChecked idleChecked
+asked-room st os ms (sendsClient s port place c d) f = framed-room (passed s st port os ms place c d f .framed)
+asked-room st os ms (sendsPause s port place q) f =
+    framed-room (passed-control s port (st .deficit) os ms place (isPauseMode (s .flow)) (pauseBody s q) f .1)
+asked-room st os ms (sendsPfc s port place k) f =
+    framed-room (passed-control s port (st .deficit) os ms place (isPfcMode (s .flow)) (pfcBody s k) f .1)
+asked-room st os ms (fillsIdle place n) f = passed-idle os ms place n f
+
+-- with totals: what its tests up to 22 give, and then the table of the call without them
+abbrev early : State → Lent → Sends → Checked
+early st l c = first (withTotals (comeFirst c) (l .octets) (l .totals) (upTo (comeFirst c) (refusalsOf st (l .octets) (l .marks) c)))
+
+abbrev later : State → Lent → Sends → Checked
+later st l c = first (refusalsOf st (l .octets) (l .marks) c)
+
+counted-by : (st : State) (l : Lent) (c : Sends)
+    → countingOf st l c
+    ≡ made st (l .octets) (l .marks) (l .totals) (placeOf c) (symbolsAsked st c) (countAfter st c) (early st l c) (later st l c)
+unfolding countingOf refusalsOf symbolsAsked countAfter withTotals upTo frameTotals beforeRefusals frameSending
+counted-by st l (sendsClient s port place c d) = unfold clientCounting clientSending clientChecked clientRefusals in refl
+counted-by st l (sendsPause s port place q) = unfold pauseCounting pauseSending pauseChecked controlRefusals in refl
+counted-by st l (sendsPfc s port place k) = unfold pfcCounting pfcSending pfcChecked controlRefusals in refl
+counted-by st l (fillsIdle place n) = unfold idleCounting idleSending idleChecked idleRefusals in refl
 
 -- ---- the claims
 
-module _ (l : Lent) (c : Sends) where
+module _ (st : State) (l : Lent) (c : Sends) where
   abbrev x : Counting
-  x = countingOf l c
+  x = countingOf st l c
 
   -- what a call leaves in the totals, refused or not
   pub totals-left : x .totals ≡ recounted (capture (x .sent .octets) (x .sent .marks)) (placeOf c) (x .sent .given .place) (l .totals)
   totals-left =
-      let v = seen l c in
       subst
       (λ (y : Counting). y .totals ≡ recounted (capture (y .sent .octets) (y .sent .marks)) (placeOf c) (y .sent .given .place) (l .totals))
-      (sym (v .is))
-      (left (stateOf c) (l .octets) (l .marks) (l .totals) (placeOf c) (v .new) (v .count) _ _)
+      (sym (counted-by st l c))
+      (left st (l .octets) (l .marks) (l .totals) (placeOf c) (symbolsAsked st c) (countAfter st c) _ _)
 
   -- "counts anew the blocks it writes into and touches no other total": of each of the totals, and there are as many as before
   pub each-block : (k : ℕ) → k < length (l .totals)
@@ -197,30 +186,47 @@ module _ (l : Lent) (c : Sends) where
   as-many-left = ap length totals-left ∙ length-recounted _ (placeOf c) (x .sent .given .place) (l .totals)
 
   -- "A refused call changes none.": neither total nor anything else
-  pub refused-none : 0 < wentRefusal (x .sent .given .answer) → RefusedCall (stateOf c) l (placeOf c) x
+  pub refused-none : 0 < wentRefusal (x .sent .given .answer) → RefusedCall st l (placeOf c) x
   refused-none =
-      let v = seen l c in
       subst
-      (λ (y : Counting). 0 < wentRefusal (y .sent .given .answer) → RefusedCall (stateOf c) l (placeOf c) y)
-      (sym (v .is))
-      (none-changed (stateOf c) (l .octets) (l .marks) (l .totals) (placeOf c) (v .new) (v .count) _ _)
+      (λ (y : Counting). 0 < wentRefusal (y .sent .given .answer) → RefusedCall st l (placeOf c) y)
+      (sym (counted-by st l c))
+      (none-changed st (l .octets) (l .marks) (l .totals) (placeOf c) (symbolsAsked st c) (countAfter st c) _ _)
 
   -- true totals stay true
   pub sends-true : TotalsTrue l → TotalsTrue (leftBy x)
   unfolding TotalsTrue
   sends-true e =
-      let v = seen l c in
       subst
       (λ (y : Counting). TotalsTrue (leftBy y))
-      (sym (v .is))
-      (still-true (stateOf c) (l .octets) (l .marks) (l .totals) (placeOf c) (v .new) (v .count) _ _ (v .room) e)
+      (sym (counted-by st l c))
+      (still-true st (l .octets) (l .marks) (l .totals) (placeOf c) (symbolsAsked st c) (countAfter st c) _ _ (asked-room st (l .octets) (l .marks) c) e)
+
+  -- the whole table: refused early, it refuses by that number; else it gives what the table of the call without totals does
+  all-early : (x : Refusal) → early st l c ≡ Refused x → first (allRefusals st l c) ≡ Refused x
+  unfolding allRefusals
+  all-early = early-first (l .octets) (l .totals) (comeFirst c) (refusalsOf st (l .octets) (l .marks) c)
+
+  all-later : early st l c ≡ Fine → first (allRefusals st l c) ≡ later st l c
+  unfolding allRefusals
+  all-later = then-others (l .octets) (l .totals) (comeFirst c) (refusalsOf st (l .octets) (l .marks) c)
 
   -- the number given is that of the whole table: "Refusals, after 3 and 19"
-  pub number-given : wentRefusal (x .sent .given .answer) ≡ checkedNumber (first (allRefusals l c))
+  pub number-given : wentRefusal (x .sent .given .answer) ≡ checkedNumber (first (allRefusals st l c))
   number-given =
-      let v = seen l c in
-      ap (λ (y : Counting). wentRefusal (y .sent .given .answer)) (v .is)
-      ∙ number-is (stateOf c) (l .octets) (l .marks) (l .totals) (placeOf c) (v .new) (v .count) _ _ _
-      (early-first (l .octets) (l .totals) (v .n) (v .rows))
-      (then-others (l .octets) (l .totals) (v .n) (v .rows))
-      ∙ ap (λ (t : Table Checked). checkedNumber (first t)) (sym (v .table))
+      ap (λ (y : Counting). wentRefusal (y .sent .given .answer)) (counted-by st l c)
+      ∙ number-is st (l .octets) (l .marks) (l .totals) (placeOf c) (symbolsAsked st c) (countAfter st c) _ _ _ all-early all-later
+
+  -- but for its totals it is the call without them, refused by the whole table
+  pub counted-sent : x .sent ≡ sendChecked (first (allRefusals st l c)) st (l .octets) (l .marks) (placeOf c) (symbolsAsked st c) (countAfter st c)
+  counted-sent =
+      ap (λ (y : Counting). y .sent) (counted-by st l c)
+      ∙ sent-by-all st (l .octets) (l .marks) (l .totals) (placeOf c) (symbolsAsked st c) (countAfter st c) _ _ _ all-early all-later
+
+  -- where the whole table refuses nothing, the call without totals is not refused either
+  pub none-refused : first (allRefusals st l c) ≡ Fine → first (refusalsOf st (l .octets) (l .marks) c) ≡ Fine
+  none-refused h = by-early (early st l c) refl
+    where
+      by-early : (k : Checked) → early st l c ≡ k → later st l c ≡ Fine
+      by-early (Refused x) e = never x (sym h ∙ all-early x e)
+      by-early Fine e = sym (all-later e) ∙ h

@@ -26,7 +26,7 @@ fill-keeps Fine os ms ts e = refl
 pub call-true : (l : Lent) (c : Call) → TotalsTrue l → TotalsTrue (afterCall l c)
 unfolding TotalsTrue afterCall filled
 call-true l fillsTotals e = fill-keeps (first (fillRefusals (l .octets) (l .marks) (l .totals))) (l .octets) (l .marks) (l .totals) e
-call-true l (sends c) e = sends-true l c e
+call-true l (sends st c) e = sends-true st l c e
 
 pub calls-true : (l : Lent) (cs : List Call) → TotalsTrue l → TotalsTrue (afterCalls l cs)
 unfolding afterCalls

@@ -3,7 +3,7 @@
 use Prim.Native.Nat.{ℕ, zero, suc}
 use mathlib.Core.Path.{_≡_}
 use mathlib.Core.List.{List, [], _∷_}
-use Rattle.line.specs.Line.{capture}
+use Rattle.line.specs.Line.{Symbol, capture}
 use Rattle.line.specs.Table.{Table, _⇒_, _∣_, otherwise}
 use Rattle.station.specs.declared.Settings.{Settings}
 use Rattle.station.specs.declared.State.{State}
@@ -15,8 +15,9 @@ use Rattle.station.specs.declared.Checked.the-variants.{Refused}
 use Rattle.station.specs.Station.{isPauseMode, isPfcMode}
 use Rattle.writing.specs.declared.Client.{Client}
 use Rattle.writing.specs.declared.Classes.{Classes}
-use Rattle.writing.specs.Frames.{pauseBody, pfcBody, idleSymbols}
-use Rattle.send.specs.Sending.{clientRefusals, controlRefusals, idleRefusals}
+use Rattle.writing.specs.Frames.{clientBody, pauseBody, pfcBody, idleSymbols}
+use Rattle.writing.specs.Gaps.{gapOn, symbolsOn}
+use Rattle.send.specs.Sending.{Sending, clientRefusals, controlRefusals, idleRefusals, clientSending, pauseSending, pfcSending, idleSending}
 use Rattle.totals.specs.Totals.{trueTotals, wrongTotals, highTotal, filled}
 use Rattle.counting.specs.Counting.{Counting, clientCounting, pauseCounting, pfcCounting, idleCounting}
 
@@ -32,31 +33,44 @@ TotalsTrue l = l .totals ≡ trueTotals (capture (l .octets) (l .marks))
 
 -- ---- "Each sending call and Idle fill"
 
--- such a call: the settings and port of a frame, the state, the place and what is asked; the state is whatever other calls, readings too, have left
+-- such a call: the settings and port of a frame, the place and what is asked. Its state is whatever other calls, readings too, have left.
 pub data Sends : Type 0 where
-  sendsClient : Settings → State → Port → ℕ → Client → List ℕ → Sends
-  sendsPause : Settings → State → Port → ℕ → Quanta → Sends
-  sendsPfc : Settings → State → Port → ℕ → Classes → Sends
-  fillsIdle : State → ℕ → ℕ → Sends
-
-abbrev pub stateOf : Sends → State
-stateOf (sendsClient s st port place c d) = st
-stateOf (sendsPause s st port place q) = st
-stateOf (sendsPfc s st port place k) = st
-stateOf (fillsIdle st place n) = st
+  sendsClient : Settings → Port → ℕ → Client → List ℕ → Sends
+  sendsPause : Settings → Port → ℕ → Quanta → Sends
+  sendsPfc : Settings → Port → ℕ → Classes → Sends
+  fillsIdle : ℕ → ℕ → Sends
 
 abbrev pub placeOf : Sends → ℕ
-placeOf (sendsClient s st port place c d) = place
-placeOf (sendsPause s st port place q) = place
-placeOf (sendsPfc s st port place k) = place
-placeOf (fillsIdle st place n) = place
+placeOf (sendsClient s port place c d) = place
+placeOf (sendsPause s port place q) = place
+placeOf (sendsPfc s port place k) = place
+placeOf (fillsIdle place n) = place
 
--- what it gives and leaves
-unfoldable pub countingOf : Lent → Sends → Counting
-countingOf l (sendsClient s st port place c d) = clientCounting s st port (l .octets) (l .marks) (l .totals) place c d
-countingOf l (sendsPause s st port place q) = pauseCounting s st port (l .octets) (l .marks) (l .totals) place q
-countingOf l (sendsPfc s st port place k) = pfcCounting s st port (l .octets) (l .marks) (l .totals) place k
-countingOf l (fillsIdle st place n) = idleCounting st (l .octets) (l .marks) (l .totals) place n
+-- what it gives and leaves without totals, and with them
+unfoldable pub sendingOf : State → List ℕ → List ℕ → Sends → Sending
+sendingOf st os ms (sendsClient s port place c d) = clientSending s st port os ms place c d
+sendingOf st os ms (sendsPause s port place q) = pauseSending s st port os ms place q
+sendingOf st os ms (sendsPfc s port place k) = pfcSending s st port os ms place k
+sendingOf st os ms (fillsIdle place n) = idleSending st os ms place n
+
+unfoldable pub countingOf : State → Lent → Sends → Counting
+countingOf st l (sendsClient s port place c d) = clientCounting s st port (l .octets) (l .marks) (l .totals) place c d
+countingOf st l (sendsPause s port place q) = pauseCounting s st port (l .octets) (l .marks) (l .totals) place q
+countingOf st l (sendsPfc s port place k) = pfcCounting s st port (l .octets) (l .marks) (l .totals) place k
+countingOf st l (fillsIdle place n) = idleCounting st (l .octets) (l .marks) (l .totals) place n
+
+-- the symbols that it writes unless it is refused, and the deficit count after them
+unfoldable pub symbolsAsked : State → Sends → List Symbol
+symbolsAsked st (sendsClient s port place c d) = symbolsOn port (st .deficit) place (clientBody s c d)
+symbolsAsked st (sendsPause s port place q) = symbolsOn port (st .deficit) place (pauseBody s q)
+symbolsAsked st (sendsPfc s port place k) = symbolsOn port (st .deficit) place (pfcBody s k)
+symbolsAsked st (fillsIdle place n) = idleSymbols n
+
+unfoldable pub countAfter : State → Sends → ℕ
+countAfter st (sendsClient s port place c d) = gapOn port (st .deficit) place (clientBody s c d) .count
+countAfter st (sendsPause s port place q) = gapOn port (st .deficit) place (pauseBody s q) .count
+countAfter st (sendsPfc s port place k) = gapOn port (st .deficit) place (pfcBody s k) .count
+countAfter st (fillsIdle place n) = st .deficit
 
 -- the capture and the totals after it
 abbrev pub leftBy : Counting → Lent
@@ -75,24 +89,31 @@ withTotals zero os ts rows = wrongTotals os ts ⇒ Refused WrongTotals ∣ highT
 withTotals (suc n) os ts (otherwise a) = otherwise a
 withTotals (suc n) os ts (r ∣ rows) = r ∣ withTotals n os ts rows
 
--- 1, 2, 3 and 19 come before them in a frame's call, 2 and 3 in Idle fill's
-unfoldable pub allRefusals : Lent → Sends → Table Checked
-allRefusals l (sendsClient s st port place c d) = withTotals 4 (l .octets) (l .totals) (clientRefusals s st port (l .octets) (l .marks) place c d)
-allRefusals l (sendsPause s st port place q) =
-    withTotals 4 (l .octets) (l .totals) (controlRefusals s port (st .deficit) (l .octets) (l .marks) place (isPauseMode (s .flow)) (pauseBody s q))
-allRefusals l (sendsPfc s st port place k) =
-    withTotals 4 (l .octets) (l .totals) (controlRefusals s port (st .deficit) (l .octets) (l .marks) place (isPfcMode (s .flow)) (pfcBody s k))
-allRefusals l (fillsIdle st place n) = withTotals 2 (l .octets) (l .totals) (idleRefusals (l .octets) (l .marks) place (idleSymbols n))
+-- the table of the call without totals; 1, 2, 3 and 19 come first in a frame's, 2 and 3 in Idle fill's
+unfoldable pub refusalsOf : State → List ℕ → List ℕ → Sends → Table Checked
+refusalsOf st os ms (sendsClient s port place c d) = clientRefusals s st port os ms place c d
+refusalsOf st os ms (sendsPause s port place q) = controlRefusals s port (st .deficit) os ms place (isPauseMode (s .flow)) (pauseBody s q)
+refusalsOf st os ms (sendsPfc s port place k) = controlRefusals s port (st .deficit) os ms place (isPfcMode (s .flow)) (pfcBody s k)
+refusalsOf st os ms (fillsIdle place n) = idleRefusals os ms place (idleSymbols n)
+
+abbrev pub comeFirst : Sends → ℕ
+comeFirst (sendsClient s port place c d) = 4
+comeFirst (sendsPause s port place q) = 4
+comeFirst (sendsPfc s port place k) = 4
+comeFirst (fillsIdle place n) = 2
+
+unfoldable pub allRefusals : State → Lent → Sends → Table Checked
+allRefusals st l c = withTotals (comeFirst c) (l .octets) (l .totals) (refusalsOf st (l .octets) (l .marks) c)
 
 -- ---- any sequence of calls on one capture
 
 pub data Call : Type 0 where
   fillsTotals : Call
-  sends : Sends → Call
+  sends : State → Sends → Call
 
 unfoldable pub afterCall : Lent → Call → Lent
 afterCall l fillsTotals = record { octets = l .octets; marks = l .marks; totals = filled (l .octets) (l .marks) (l .totals) .totals }
-afterCall l (sends c) = leftBy (countingOf l c)
+afterCall l (sends st c) = leftBy (countingOf st l c)
 
 unfoldable pub afterCalls : Lent → List Call → Lent
 afterCalls l [] = l

@@ -13,6 +13,7 @@ pub mod Quiet
 pub mod Row
 pub mod Seam
 pub mod SizesRise
+pub mod States
 pub mod Sum
 pub mod Tables
 pub mod Timers

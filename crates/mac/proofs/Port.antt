@@ -4,38 +4,36 @@
 -- (`deficit-is`), and from a count of 0, n gaps together lie between 12 × n - 3 and 12 × n (`gaps-between`). Assumes nothing.
 use Prim.Native.Nat.{ℕ, zero, suc, _+_, _-_, _*_, _%_, _≤_}
 use native.Mathlib.Omega.{arith}
-use mathlib.Core.Path.{_≡_, refl, sym, ap, _∙_}
-use mathlib.Core.Bool.{Bool, true, false, cond, false≢true}
+use mathlib.Core.Path.{_≡_, refl, sym, ap, _∙_, subst}
+use mathlib.Core.Bool.{true, false, false≢true}
 use mathlib.Core.List.{List, [], _∷_, _++_, map, append-nil}
-use mathlib.Core.Option.{Option}
 use mathlib.Core.Logic.{_⊎_, inl, inr, ⊎-elim}
 use lib.ListN.{length, replicate, length-append}
-use Rattle.line.specs.Line.{Symbol, isData, isControl, isStart, asData, asControl, start, terminate, idle, preamble, AfterStart, unended, ended, MetStart, metStarts}
+use Rattle.line.specs.Line.{Symbol, isData, isControl, isStart, asData, asControl, start, idle, preamble, MetStart, metStarts}
 use Rattle.line.specs.Table.{first}
 use Rattle.line.proofs.Symbols.{by-test, met-start}
 use Rattle.line.proofs.Starts.{met-data}
 use Rattle.fcs.specs.Fcs.{fcs}
-use Rattle.station.specs.declared.Port.{Port}
 use Rattle.station.specs.declared.Port.the-variants.{Plain, FourLane}
-use Rattle.station.specs.declared.Address.{Address}
 use Rattle.station.specs.declared.Settings.{Settings}
 use Rattle.station.specs.declared.State.{State}
 use Rattle.station.specs.declared.Checked.{Checked}
 use Rattle.station.specs.declared.Checked.the-variants.{Fine, Refused}
 use Rattle.station.specs.Station.{total}
-use Rattle.table.specs.Entries.{mine}
-use Rattle.receive.specs.Reading.{stateAfter, readRun, readStart, readRefusals, reading}
+use Rattle.receive.specs.Reading.{stateAfter}
 use Rattle.writing.specs.Frames.{clientBody, pauseBody, pfcBody, gap, onLine}
 use Rattle.writing.specs.Gaps.{gapAt, gapOn, symbolsOn}
 use Rattle.writing.proofs.GapLaws.{four-lane}
 use Rattle.writing.proofs.Sizes.{line-size}
-use Rattle.send.specs.Sending.{written, stateSent, sendChecked, frameSending, pauseChecked, pfcChecked, clientSending, pauseSending, pfcSending, idleSending}
+use Rattle.send.specs.Sending.{Sending, written, stateSent, sendChecked, clientChecked}
 use Rattle.send.proofs.Refusals.{divisible, deficit-to-3, Framed, passed, passed-control}
+use Rattle.counting.specs.Claims.{Sends, sendsClient, sendsPause, sendsPfc, fillsIdle, placeOf, sendingOf, countingOf, symbolsAsked, countAfter, refusalsOf}
+use Rattle.counting.proofs.Claims.{sent-by, counted-sent, none-refused}
 use Rattle.mac.specs.Demand2.{startPlaces}
-use Rattle.mac.specs.Calls.{Call, reads, walks, sendsClient, sendsPause, sendsPfc, fillsIdle, afterCall, afterCalls, writes}
-use Rattle.mac.specs.Port.{isFourLane, onPort, placeOf, gapSize, gapOfFrame, gapsOf, allGaps, GoesOut, OutOrNot, AllDivided, Between}
+use Rattle.mac.specs.Calls.{Call, reads, walks, keeps, takes, sends, counts, asksSuch, afterCall, afterCalls, writes, Read, readBy}
+use Rattle.mac.specs.Port.{onFourLanes, onPort, writesFrom, gapSize, gapOfFrame, gapsOf, allGaps, GoesOut, OutOrNot, AllDivided, Between}
 use Rattle.mac.proofs.Demand3.{gap-skipped}
-use Rattle.mac.proofs.Timers.{afterStarts, read-state, walk-state}
+use Rattle.mac.proofs.States.{afterReads, Does, by-reading, by-sending, does}
 
 -- ---- the gap and the Start of a frame, by its symbols
 
@@ -57,7 +55,7 @@ frame-gap : (idles : ℕ) (body : List ℕ) → gapSize (onLine idles body) ≡ 
 unfolding onLine
 frame-gap idles body = line-gap idles (preamble ++ (body ++ fcs body))
 
-none-in-gap : (idles at : ℕ) → metStarts at (gap idles) ≡ []
+pub none-in-gap : (idles at : ℕ) → metStarts at (gap idles) ≡ []
 none-in-gap idles at = ap (metStarts at) (sym (append-nil (gap idles))) ∙ gap-skipped idles at [] ∙ (unfold metStarts in refl)
 
 frame-starts : (place idles : ℕ) (body : List ℕ) → startPlaces (metStarts place (onLine idles body)) ≡ place ∷ []
@@ -96,30 +94,50 @@ goes-out st n place body aligned low =
 of-frame : {s : Settings} {count place : ℕ} {os ms body : List ℕ} → Framed s FourLane count os ms place body → (place % 4 ≡ 0) × (count ≤ 3)
 of-frame {s} {count} {place} {os} k = (divisible os place (k .starts), deficit-to-3 count (k .low))
 
-out-or-not : (k : Checked) (st : State) (os ms : List ℕ) (place : ℕ) (body : List ℕ) → (k ≡ Fine → (place % 4 ≡ 0) × (st .deficit ≤ 3))
-    → ((written k (symbolsOn FourLane (st .deficit) place body) ≡ []) × (frameSending k st FourLane os ms place body .given .state ≡ st))
-    ⊎ GoesOut st place (written k (symbolsOn FourLane (st .deficit) place body)) (frameSending k st FourLane os ms place body .given .state)
-unfolding frameSending sendChecked written
-out-or-not (Refused x) st os ms place body f = inl (refl, refl)
-out-or-not Fine st os ms place body f = let w = f refl in inr (goes-out st _ place body (w .0) (w .1))
+-- of such a frame's call, once its table has answered
+port-aligned : (st : State) (os ms : List ℕ) (c : Sends) → onFourLanes c ≡ true → first (refusalsOf st os ms c) ≡ Fine → (placeOf c % 4 ≡ 0) × (st .deficit ≤ 3)
+unfolding onFourLanes refusalsOf clientChecked
+port-aligned st os ms (sendsClient s Plain p c d) h = absurd (false≢true h)
+port-aligned st os ms (sendsClient s FourLane p c d) h = λ e. of-frame (passed s st FourLane os ms p c d e .framed)
+port-aligned st os ms (sendsPause s Plain p q) h = absurd (false≢true h)
+port-aligned st os ms (sendsPause s FourLane p q) h = λ e. of-frame (passed-control s FourLane (st .deficit) os ms p _ (pauseBody s q) e .1)
+port-aligned st os ms (sendsPfc s Plain p k) h = absurd (false≢true h)
+port-aligned st os ms (sendsPfc s FourLane p k) h = λ e. of-frame (passed-control s FourLane (st .deficit) os ms p _ (pfcBody s k) e .1)
+port-aligned st os ms (fillsIdle p n) h = absurd (false≢true h)
+
+asked-out : (st : State) (n : ℕ) (c : Sends) → onFourLanes c ≡ true → placeOf c % 4 ≡ 0 → st .deficit ≤ 3
+    → GoesOut st (placeOf c) (symbolsAsked st c) (stateSent st n (countAfter st c))
+unfolding onFourLanes symbolsAsked countAfter
+asked-out st n (sendsClient s Plain p c d) h = absurd (false≢true h)
+asked-out st n (sendsClient s FourLane p c d) h = goes-out st n p (clientBody s c d)
+asked-out st n (sendsPause s Plain p q) h = absurd (false≢true h)
+asked-out st n (sendsPause s FourLane p q) h = goes-out st n p (pauseBody s q)
+asked-out st n (sendsPfc s Plain p k) h = absurd (false≢true h)
+asked-out st n (sendsPfc s FourLane p k) h = goes-out st n p (pfcBody s k)
+asked-out st n (fillsIdle p m) h = absurd (false≢true h)
+
+out-or-not : (k : Checked) (st : State) (os ms : List ℕ) (c : Sends) → onFourLanes c ≡ true → (k ≡ Fine → (placeOf c % 4 ≡ 0) × (st .deficit ≤ 3))
+    → (x : Sending) → x ≡ sendChecked k st os ms (placeOf c) (symbolsAsked st c) (countAfter st c)
+    → ((written k (symbolsAsked st c) ≡ []) × (x .given .state ≡ st)) ⊎ GoesOut st (placeOf c) (written k (symbolsAsked st c)) (x .given .state)
+unfolding sendChecked written
+out-or-not (Refused y) st os ms c h f x e = inl (refl, ap (λ (z : Sending). z .given .state) e)
+out-or-not Fine st os ms c h f x e =
+    let w = f refl in
+    inr (subst (λ (z : Sending). GoesOut st (placeOf c) (symbolsAsked st c) (z .given .state)) (sym e) (asked-out st _ c h (w .0) (w .1)))
 
 pub frame-on-port : (st : State) (c : Call) → onPort c ≡ true → OutOrNot st c
-unfolding onPort placeOf writes afterCall clientSending pauseSending pauseChecked pfcSending pfcChecked
+unfolding onPort asksSuch writesFrom writes afterCall
 frame-on-port st (reads s job es os ms p) h = absurd (false≢true h)
 frame-on-port st (walks s job es os ms) h = absurd (false≢true h)
-frame-on-port st (sendsClient s Plain os ms p c d) h = absurd (false≢true h)
-frame-on-port st (sendsClient s FourLane os ms p c d) h =
-    out-or-not _ st os ms p (clientBody s c d) (λ e. of-frame (passed s st FourLane os ms p c d e .framed))
-frame-on-port st (sendsPause s Plain os ms p q) h = absurd (false≢true h)
-frame-on-port st (sendsPause s FourLane os ms p q) h =
-    out-or-not _ st os ms p (pauseBody s q) (λ e. of-frame (passed-control s FourLane (st .deficit) os ms p _ (pauseBody s q) e .1))
-frame-on-port st (sendsPfc s Plain os ms p k) h = absurd (false≢true h)
-frame-on-port st (sendsPfc s FourLane os ms p k) h =
-    out-or-not _ st os ms p (pfcBody s k) (λ e. of-frame (passed-control s FourLane (st .deficit) os ms p _ (pfcBody s k) e .1))
-frame-on-port st (fillsIdle os ms p n) h = absurd (false≢true h)
+frame-on-port st (keeps s job es os ms p l) h = absurd (false≢true h)
+frame-on-port st (takes s job es at running run x) h = absurd (false≢true h)
+frame-on-port st (sends os ms c) h = out-or-not _ st os ms c h (port-aligned st os ms c h) (sendingOf st os ms c) (sent-by st os ms c)
+frame-on-port st (counts l c) h =
+    out-or-not _ st (l .octets) (l .marks) c h (λ e. port-aligned st (l .octets) (l .marks) c h (none-refused st l c e))
+    (countingOf st l c .sent) (counted-sent st l c)
 
 -- "accepts Start only at places divisible by four"
-pub starts-aligned : (st : State) (c : Call) → onPort c ≡ true → AllDivided (startPlaces (metStarts (placeOf c) (writes st c)))
+pub starts-aligned : (st : State) (c : Call) → onPort c ≡ true → AllDivided (startPlaces (metStarts (writesFrom c) (writes st c)))
 unfolding AllDivided
 starts-aligned st c h =
     ⊎-elim
@@ -129,41 +147,37 @@ starts-aligned st c h =
 
 -- ---- any other call
 
-starts-keep : (s : Settings) (own : List (Option Address)) (st : State) (l : List MetStart) → afterStarts s own st l .deficit ≡ st .deficit
-unfolding afterStarts
-starts-keep s own st [] = refl
-starts-keep s own st (m ∷ l) = starts-keep s own (readStart s own st (m .place) (m .follows) .state) l ∙ one (m .follows)
-  where
-    one : (f : AfterStart) → readStart s own st (m .place) f .state .deficit ≡ st .deficit
-    one unended = unfold readStart in refl
-    one (ended run by) = unfold readStart readRun stateAfter in refl
+reads-keep : (st : State) (l : List Read) → afterReads st l .deficit ≡ st .deficit
+unfolding afterReads stateAfter
+reads-keep st [] = refl
+reads-keep st (r ∷ l) = reads-keep (stateAfter (r .outcome) (r .frame) st) l
 
-read-keeps : (s : Settings) (own : List (Option Address)) (st st′ : State) (l : List MetStart) → st′ ≡ afterStarts s own st l → st′ .deficit ≡ st .deficit
-read-keeps s own st st′ l e = ap (λ (x : State). x .deficit) e ∙ starts-keep s own st l
+-- a frame of the plain port, and Idle fill
+asked-keeps : (st : State) (c : Sends) → onFourLanes c ≡ false → countAfter st c ≡ st .deficit
+unfolding onFourLanes countAfter gapOn gapAt
+asked-keeps st (sendsClient s Plain p c d) h = refl
+asked-keeps st (sendsClient s FourLane p c d) h = absurd (false≢true (sym h))
+asked-keeps st (sendsPause s Plain p q) h = refl
+asked-keeps st (sendsPause s FourLane p q) h = absurd (false≢true (sym h))
+asked-keeps st (sendsPfc s Plain p k) h = refl
+asked-keeps st (sendsPfc s FourLane p k) h = absurd (false≢true (sym h))
+asked-keeps st (fillsIdle p n) h = refl
 
-plain-keeps : (k : Checked) (st : State) (os ms : List ℕ) (p : ℕ) (body : List ℕ) → frameSending k st Plain os ms p body .given .state .deficit ≡ st .deficit
-unfolding frameSending sendChecked stateSent gapOn gapAt
-plain-keeps (Refused x) st os ms p body = refl
-plain-keeps Fine st os ms p body = refl
-
-idle-keeps : (k : Checked) (st : State) (os ms : List ℕ) (p : ℕ) (new : List Symbol)
-    → sendChecked k st os ms p new (st .deficit) .given .state .deficit ≡ st .deficit
+sent-keeps : (k : Checked) (st : State) (os ms : List ℕ) (p : ℕ) (new : List Symbol) (count : ℕ) → count ≡ st .deficit
+    → sendChecked k st os ms p new count .given .state .deficit ≡ st .deficit
 unfolding sendChecked stateSent
-idle-keeps (Refused x) st os ms p new = refl
-idle-keeps Fine st os ms p new = refl
+sent-keeps (Refused x) st os ms p new count e = refl
+sent-keeps Fine st os ms p new count e = e
 
 -- "only frames sent on this port change it"
 pub only-this-port : (st : State) (c : Call) → onPort c ≡ false → afterCall st c .deficit ≡ st .deficit
-unfolding onPort afterCall reading clientSending pauseSending pfcSending idleSending
-only-this-port st (reads s job es os ms p) h = read-keeps s (mine job es) st _ _ (read-state s (mine job es) st os ms p (first (readRefusals s job es os ms p)))
-only-this-port st (walks s job es os ms) h = read-keeps s (mine job es) st _ _ (walk-state s job es st os ms (first (readRefusals s job es os ms 0)) refl)
-only-this-port st (sendsClient s Plain os ms p c d) h = plain-keeps _ st os ms p (clientBody s c d)
-only-this-port st (sendsClient s FourLane os ms p c d) h = absurd (false≢true (sym h))
-only-this-port st (sendsPause s Plain os ms p q) h = plain-keeps _ st os ms p (pauseBody s q)
-only-this-port st (sendsPause s FourLane os ms p q) h = absurd (false≢true (sym h))
-only-this-port st (sendsPfc s Plain os ms p k) h = plain-keeps _ st os ms p (pfcBody s k)
-only-this-port st (sendsPfc s FourLane os ms p k) h = absurd (false≢true (sym h))
-only-this-port st (fillsIdle os ms p n) h = idle-keeps _ st os ms p _
+unfolding onPort
+only-this-port st c h = by (does st c)
+  where
+    by : Does st c → afterCall st c .deficit ≡ st .deficit
+    by (by-reading t w e) = ap (λ (x : State). x .deficit) e ∙ reads-keep st (readBy st c)
+    by (by-sending k os ms x t n f w e) =
+        ap (λ (y : State). y .deficit) e ∙ sent-keeps k st os ms (placeOf x) (symbolsAsked st x) (countAfter st x) (asked-keeps st x (sym (t onFourLanes) ∙ h))
 
 -- ---- any sequence of calls
 

@@ -4,13 +4,14 @@ use Prim.Native.Nat.{ℕ}
 use mathlib.Core.Path.{_≡_, refl}
 use mathlib.Core.List.{List, [], _∷_}
 use Rattle.line.specs.Table.{first}
+use Rattle.station.specs.declared.State.{State}
 use Rattle.station.specs.declared.Checked.{Checked}
 use Rattle.station.specs.declared.Checked.the-variants.{Fine, Refused}
 use Rattle.station.specs.Numbers.{checkedNumber}
 use Rattle.send.specs.Sending.{clientRefusals, controlRefusals, idleRefusals}
 use Rattle.totals.specs.Totals.{beforeRefusals, fillRefusals, beforeChecked, beforePlace, fillChecked, filled, countRefusal}
 use Rattle.totals.proofs.Claims.{fill-refused-none}
-use Rattle.counting.specs.Claims.{Lent, Sends, sendsClient, sendsPause, sendsPfc, fillsIdle, withTotals, allRefusals}
+use Rattle.counting.specs.Claims.{Lent, Sends, sendsClient, sendsPause, sendsPfc, fillsIdle, withTotals, refusalsOf, allRefusals}
 use Rattle.counting.proofs.Claims.{number-given, refused-none}
 use Rattle.mac.specs.Demand1.{numbersOf}
 use Rattle.mac.specs.Totals.{refusesBy, CountsOrRefuses, AnswersOrRefuses, FillsOrRefuses}
@@ -18,16 +19,16 @@ use Rattle.mac.proofs.Demand1.{isIn, repeats, Listed, exactly}
 
 -- ---- the sending calls
 
-counting-listed : (l : Lent) (c : Sends) → Listed (allRefusals l c) (refusesBy c)
-unfolding allRefusals refusesBy withTotals clientRefusals controlRefusals idleRefusals numbersOf repeats isIn
-counting-listed l (sendsClient s st port place c d) = (refl, refl)
-counting-listed l (sendsPause s st port place q) = (refl, refl)
-counting-listed l (sendsPfc s st port place k) = (refl, refl)
-counting-listed l (fillsIdle st place n) = (refl, refl)
+counting-listed : (st : State) (l : Lent) (c : Sends) → Listed (allRefusals st l c) (refusesBy c)
+unfolding allRefusals refusalsOf refusesBy withTotals clientRefusals controlRefusals idleRefusals numbersOf repeats isIn
+counting-listed st l (sendsClient s port place c d) = (refl, refl)
+counting-listed st l (sendsPause s port place q) = (refl, refl)
+counting-listed st l (sendsPfc s port place k) = (refl, refl)
+counting-listed st l (fillsIdle place n) = (refl, refl)
 
 -- "Refusals, after 3 and 19"; "A refused call changes none."
-pub counting-refuses : (l : Lent) (c : Sends) → CountsOrRefuses l c
-counting-refuses l c = record { exactly = exactly (counting-listed l c) (number-given l c); refused = refused-none l c }
+pub counting-refuses : (st : State) (l : Lent) (c : Sends) → CountsOrRefuses st l c
+counting-refuses st l c = record { exactly = exactly (counting-listed st l c) (number-given st l c); refused = refused-none st l c }
 
 -- ---- the question: 2, 3, 21, 22
 

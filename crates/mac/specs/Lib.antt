@@ -6,6 +6,7 @@ pub mod LikeError
 pub mod Limits
 pub mod Plain
 pub mod Port
+pub mod Quiet
 pub mod Starts
 pub mod Tables
 pub mod Totals

@@ -9,30 +9,32 @@ use Rattle.line.specs.Line.{Symbol, isControl, isStart, metStarts}
 use Rattle.station.specs.declared.Port.{Port}
 use Rattle.station.specs.declared.Port.the-variants.{Plain, FourLane}
 use Rattle.station.specs.declared.State.{State}
+use Rattle.counting.specs.Claims.{Sends, sendsClient, sendsPause, sendsPfc, fillsIdle, placeOf}
 use Rattle.mac.specs.Demand2.{startPlaces}
-use Rattle.mac.specs.Calls.{Call, reads, walks, sendsClient, sendsPause, sendsPfc, fillsIdle, afterCall, writes}
+use Rattle.mac.specs.Calls.{Call, reads, walks, keeps, takes, sends, counts, asksSuch, afterCall, writes}
 
 abbrev pub isFourLane : Port → Bool
 isFourLane Plain = false
 isFourLane FourLane = true
 
--- a call sends a frame on this port
-unfoldable pub onPort : Call → Bool
-onPort (reads s job es os ms p) = false
-onPort (walks s job es os ms) = false
-onPort (sendsClient s port os ms p c d) = isFourLane port
-onPort (sendsPause s port os ms p q) = isFourLane port
-onPort (sendsPfc s port os ms p k) = isFourLane port
-onPort (fillsIdle os ms p n) = false
+-- a call sends a frame on this port, without totals or with them
+unfoldable pub onFourLanes : Sends → Bool
+onFourLanes (sendsClient s port place c d) = isFourLane port
+onFourLanes (sendsPause s port place q) = isFourLane port
+onFourLanes (sendsPfc s port place k) = isFourLane port
+onFourLanes (fillsIdle place n) = false
 
--- the place from which on a call writes; a reading and a walk write nothing
-unfoldable pub placeOf : Call → ℕ
-placeOf (reads s job es os ms p) = p
-placeOf (walks s job es os ms) = 0
-placeOf (sendsClient s port os ms p c d) = p
-placeOf (sendsPause s port os ms p q) = p
-placeOf (sendsPfc s port os ms p k) = p
-placeOf (fillsIdle os ms p n) = p
+unfoldable pub onPort : Call → Bool
+onPort c = asksSuch onFourLanes c
+
+-- the place from which on a call writes; those that read write nothing
+unfoldable pub writesFrom : Call → ℕ
+writesFrom (reads s job es os ms p) = p
+writesFrom (walks s job es os ms) = 0
+writesFrom (keeps s job es os ms p l) = p
+writesFrom (takes s job es at running run x) = at
+writesFrom (sends os ms c) = placeOf c
+writesFrom (counts l c) = placeOf c
 
 -- ---- "Its gaps, Terminate included": of the symbols that were written
 
@@ -72,7 +74,7 @@ pub record GoesOut (st : State) (place : ℕ) (new : List Symbol) (after : State
 
 -- of a call on this port: it writes nothing and leaves the state, or its frame goes out
 abbrev pub OutOrNot : State → Call → Type 0
-OutOrNot st c = ((writes st c ≡ []) × (afterCall st c ≡ st)) ⊎ GoesOut st (placeOf c) (writes st c) (afterCall st c)
+OutOrNot st c = ((writes st c ≡ []) × (afterCall st c ≡ st)) ⊎ GoesOut st (writesFrom c) (writes st c) (afterCall st c)
 
 -- each of these places is divisible by four
 unfoldable pub AllDivided : List ℕ → Type 0

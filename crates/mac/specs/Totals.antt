@@ -3,23 +3,24 @@
 use Prim.Native.Nat.{ℕ, _<_}
 use mathlib.Core.Path.{_≡_}
 use mathlib.Core.List.{List, [], _∷_}
+use Rattle.station.specs.declared.State.{State}
 use Rattle.station.specs.Numbers.{checkedNumber}
 use Rattle.send.specs.Sending.{wentRefusal}
 use Rattle.totals.specs.Totals.{beforeRefusals, fillRefusals, beforePlace, filled, countRefusal}
-use Rattle.counting.specs.Claims.{Lent, Sends, sendsClient, sendsPause, sendsPfc, fillsIdle, stateOf, placeOf, countingOf, allRefusals, RefusedCall}
+use Rattle.counting.specs.Claims.{Lent, Sends, sendsClient, sendsPause, sendsPfc, fillsIdle, placeOf, countingOf, allRefusals, RefusedCall}
 use Rattle.mac.specs.Demand1.{Exactly}
 
 -- "Refusals, after 3 and 19": a client frame's; a pause or PFC frame's; Idle fill's
 unfoldable pub refusesBy : Sends → List ℕ
-refusesBy (sendsClient s st port place c d) = 1 ∷ 2 ∷ 3 ∷ 19 ∷ 21 ∷ 22 ∷ 5 ∷ 6 ∷ 10 ∷ 7 ∷ 8 ∷ 9 ∷ []
-refusesBy (sendsPause s st port place q) = 1 ∷ 2 ∷ 3 ∷ 19 ∷ 21 ∷ 22 ∷ 4 ∷ 8 ∷ []
-refusesBy (sendsPfc s st port place k) = 1 ∷ 2 ∷ 3 ∷ 19 ∷ 21 ∷ 22 ∷ 4 ∷ 8 ∷ []
-refusesBy (fillsIdle st place n) = 2 ∷ 3 ∷ 21 ∷ 22 ∷ 8 ∷ []
+refusesBy (sendsClient s port place c d) = 1 ∷ 2 ∷ 3 ∷ 19 ∷ 21 ∷ 22 ∷ 5 ∷ 6 ∷ 10 ∷ 7 ∷ 8 ∷ 9 ∷ []
+refusesBy (sendsPause s port place q) = 1 ∷ 2 ∷ 3 ∷ 19 ∷ 21 ∷ 22 ∷ 4 ∷ 8 ∷ []
+refusesBy (sendsPfc s port place k) = 1 ∷ 2 ∷ 3 ∷ 19 ∷ 21 ∷ 22 ∷ 4 ∷ 8 ∷ []
+refusesBy (fillsIdle place n) = 2 ∷ 3 ∷ 21 ∷ 22 ∷ 8 ∷ []
 
--- a sending call, on a capture and its totals
-pub record CountsOrRefuses (l : Lent) (c : Sends) : Type 0 where
-  pub exactly : Exactly (allRefusals l c) (refusesBy c) (wentRefusal (countingOf l c .sent .given .answer))
-  pub refused : 0 < wentRefusal (countingOf l c .sent .given .answer) → RefusedCall (stateOf c) l (placeOf c) (countingOf l c)
+-- a sending call, in a state, on a capture and its totals
+pub record CountsOrRefuses (st : State) (l : Lent) (c : Sends) : Type 0 where
+  pub exactly : Exactly (allRefusals st l c) (refusesBy c) (wentRefusal (countingOf st l c .sent .given .answer))
+  pub refused : 0 < wentRefusal (countingOf st l c .sent .given .answer) → RefusedCall st l (placeOf c) (countingOf st l c)
 
 -- the question, which changes nothing
 abbrev pub AnswersOrRefuses : List ℕ → List ℕ → ℕ → List ℕ → Type 0

@@ -17,7 +17,7 @@ const MANY: usize = 1000;
 /// Makes the calls of one case of a seed.
 pub fn run(bench: &mut Bench, seed: u64, case: u64) -> Result<(), Difference> {
     let mut prng = bench.begin(seed, case);
-    match prng.below(30) {
+    match prng.below(31) {
         0..=7 => reading(bench, &mut prng),
         8..=13 => sending(bench, &mut prng),
         14 => holding(bench, &mut prng),
@@ -33,6 +33,7 @@ pub fn run(bench: &mut Bench, seed: u64, case: u64) -> Result<(), Difference> {
         26 => room(bench, &mut prng),
         27 => plain(bench, &mut prng),
         28 => sizes(bench, &mut prng),
+        29 => quiet(bench, &mut prng),
         _ => screens(bench, &mut prng),
     }
 }
@@ -156,6 +157,15 @@ fn sizes(bench: &mut Bench, prng: &mut Prng) -> Result<(), Difference> {
     let (a, b) = (generate::sizes(prng), generate::sizes(prng));
     bench.join(&a, &b)?;
     Ok(())
+}
+
+/// All calls that take a state, one after the other on one state with fixed settings; at times the
+/// longest wait.
+fn quiet(bench: &mut Bench, prng: &mut Prng) -> Result<(), Difference> {
+    if prng.one_in(100) {
+        return bench.quiet_long(prng);
+    }
+    bench.quiet(prng)
 }
 
 /// Buffers are written into, one sending after the other, and read at the end.

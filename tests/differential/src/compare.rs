@@ -506,7 +506,8 @@ pub(crate) fn by_reference(
     }
 }
 
-fn by_library(
+/// A sending by the library's Rust face.
+pub(crate) fn by_library(
     s: &Settings,
     state: &mut fenhamper::State,
     sender: &mut Sender,

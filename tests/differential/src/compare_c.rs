@@ -16,6 +16,30 @@ pub(crate) fn after(refused: bool, before: &raw::State, state: &State) -> raw::S
     }
 }
 
+/// A sending through the C face, a client frame's record beside what it means.
+pub(crate) fn by_c(
+    settings: &raw::Settings,
+    (numbers, port): (&mut raw::State, u8),
+    lent: &mut Lent,
+    place: usize,
+    (sending, client): (&Sending, Option<&raw::Client>),
+) -> [u64; raw::SENT] {
+    let line = lent.both();
+    match (sending, client) {
+        (Sending::Client(_, data), Some(client)) => {
+            raw::send_client(settings, numbers, port, line, place, client, data)
+        }
+        (Sending::Client(..), None) => panic!("a client frame has a record"),
+        (Sending::Pause(quanta), _) => {
+            raw::send_pause(settings, numbers, port, line, place, *quanta)
+        }
+        (Sending::Pfc(named, quanta), _) => {
+            raw::send_pfc(settings, numbers, port, line, place, *named, quanta)
+        }
+        (Sending::Idle(n), _) => raw::fill_idle(numbers, line, place, *n),
+    }
+}
+
 impl Bench {
     /// One reading through the C face; the state goes on to that after it.
     pub(crate) fn c_read(
@@ -139,20 +163,8 @@ impl Bench {
         let port_meant = records::port(port);
         let on = (&mut state, port_meant);
         let expected = by_reference(self.check, &s, on, lent, place, sending);
-        let line = library_lent.both();
-        let answer = match (sending, client) {
-            (Sending::Client(_, data), Some(client)) => {
-                raw::send_client(settings, numbers, port, line, place, client, data)
-            }
-            (Sending::Client(..), None) => panic!("a client frame has a record"),
-            (Sending::Pause(quanta), _) => {
-                raw::send_pause(settings, numbers, port, line, place, *quanta)
-            }
-            (Sending::Pfc(named, quanta), _) => {
-                raw::send_pfc(settings, numbers, port, line, place, *named, quanta)
-            }
-            (Sending::Idle(n), _) => raw::fill_idle(numbers, line, place, *n),
-        };
+        let on = (&mut *numbers, port);
+        let answer = by_c(settings, on, &mut library_lent, place, (sending, client));
 
         let call = &format!("{} in C", sending.name());
         let inputs = || {

@@ -62,7 +62,7 @@ impl Counted {
         (self.lent.octets(), self.lent.marks())
     }
 
-    fn all(&mut self) -> (&mut [u8], &mut [u8], &mut [u16]) {
+    pub(crate) fn all(&mut self) -> (&mut [u8], &mut [u8], &mut [u16]) {
         let (octets, marks) = self.lent.both();
         (octets, marks, self.totals.lent())
     }
@@ -377,7 +377,7 @@ fn by_reference(
 }
 
 /// The same through the C face.
-fn in_c_face(
+pub(crate) fn in_c_face(
     settings: &raw::Settings,
     (numbers, port): (&mut raw::State, u8),
     counted: &mut Counted,
@@ -401,7 +401,7 @@ fn in_c_face(
 }
 
 /// The same through the Rust face.
-fn in_rust_face(
+pub(crate) fn in_rust_face(
     s: &Settings,
     state: &mut fenhamper::State,
     line: &mut Line,

@@ -3,6 +3,7 @@ use crate::seen::{CSeen, FcsSeen, ReadingSeen, RowSeen, SendingSeen, WalkSeen};
 use crate::seen_jobs::{ScreenSeen, TableSeen};
 use crate::seen_log::{GoingOnSeen, KeepSeen, LogSeen};
 use crate::seen_plain::PlainSeen;
+use crate::seen_quiet::QuietSeen;
 use crate::seen_reason::ReasonSeen;
 use crate::seen_sizes::SizesSeen;
 use crate::seen_totals::TotalsSeen;
@@ -21,6 +22,8 @@ pub(crate) enum When {
     Plain(Box<dyn Fn(&PlainSeen) -> bool>),
     /// By a call on a size table.
     Sizes(Box<dyn Fn(&SizesSeen) -> bool>),
+    /// By a call of a sequence on one state.
+    Quiet(Box<dyn Fn(&QuietSeen) -> bool>),
     /// By a sending.
     Sending(Box<dyn Fn(&SendingSeen) -> bool>),
     /// By a row of frames on both ports.
@@ -51,6 +54,7 @@ enum Sort {
     Reason,
     Plain,
     Sizes,
+    Quiet,
     Sending,
     Row,
     Log,
@@ -74,6 +78,7 @@ impl When {
             When::Reason(_) => Sort::Reason,
             When::Plain(_) => Sort::Plain,
             When::Sizes(_) => Sort::Sizes,
+            When::Quiet(_) => Sort::Quiet,
             When::Sending(_) => Sort::Sending,
             When::Row(_) => Sort::Row,
             When::Log(_) => Sort::Log,
@@ -153,6 +158,13 @@ impl Coverage {
         self.hit(
             Sort::Sizes,
             |when| matches!(when, When::Sizes(test) if test(seen)),
+        );
+    }
+
+    pub(crate) fn quiet(&mut self, seen: &QuietSeen) {
+        self.hit(
+            Sort::Quiet,
+            |when| matches!(when, When::Quiet(test) if test(seen)),
         );
     }
 

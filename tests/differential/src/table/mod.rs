@@ -9,6 +9,7 @@ mod keeping;
 mod log;
 mod plain;
 mod ports;
+mod quiet;
 mod reading;
 mod reasons;
 mod room;
@@ -24,6 +25,7 @@ use crate::seen::{CSeen, FcsSeen, ReadingSeen, RowSeen, SendingSeen, WalkSeen};
 use crate::seen_jobs::{ScreenSeen, TableSeen};
 use crate::seen_log::{GoingOnSeen, KeepSeen, LogSeen};
 use crate::seen_plain::PlainSeen;
+use crate::seen_quiet::QuietSeen;
 use crate::seen_reason::ReasonSeen;
 use crate::seen_sizes::SizesSeen;
 use crate::seen_totals::TotalsSeen;
@@ -42,6 +44,7 @@ pub(crate) fn rows() -> Vec<Row> {
     sizes::rows(&mut table);
     sending::rows(&mut table);
     ports::rows(&mut table);
+    quiet::rows(&mut table);
     log::rows(&mut table);
     room::rows(&mut table);
     keeping::rows(&mut table);
@@ -99,6 +102,10 @@ impl Table {
 
     fn sizes(&mut self, name: impl Into<String>, test: impl Fn(&SizesSeen) -> bool + 'static) {
         self.row(name, When::Sizes(Box::new(test)));
+    }
+
+    fn quiet(&mut self, name: impl Into<String>, test: impl Fn(&QuietSeen) -> bool + 'static) {
+        self.row(name, When::Quiet(Box::new(test)));
     }
 
     fn walk(&mut self, name: impl Into<String>, test: impl Fn(&WalkSeen) -> bool + 'static) {
