@@ -3,7 +3,6 @@
 use crate::compare::{Bench, Difference, Lent};
 use crate::compare_jobs::LentTable;
 use crate::compare_log::LentLog;
-use crate::compare_plain::any_reader;
 use crate::compare_totals::{Counted, LentTotals};
 use crate::generate::{self, Sending, Symbols, IDLE, START, SYMBOLS, TERMINATE};
 use crate::prng::Prng;
@@ -13,6 +12,9 @@ use reference::{Client, Flow, Form, LogEnd, Port, Settings};
 
 /// Too many Starts for a log that is walked into until no further one is left, a few at a time.
 const MANY: usize = 1000;
+
+/// Of so many cases of the plain reader one fills it.
+const FILLED: usize = 64;
 
 /// Makes the calls of one case of a seed.
 pub fn run(bench: &mut Bench, seed: u64, case: u64) -> Result<(), Difference> {
@@ -116,13 +118,14 @@ fn plain(bench: &mut Bench, prng: &mut Prng) -> Result<(), Difference> {
             0 => generate::capture(prng, &s, &l),
             _ => generate::explained_capture(prng, &s, &l),
         };
-        let lent = lend(prng, &symbols);
-        bench.plain(&s, &l, &state, &lent)?;
-        let l = generate::misnumbered(prng, &l);
-        bench.c_plain(&settings, &l, &numbers, &lent)?;
+        plain_capture(bench, prng, (&settings, &l), (&state, &numbers), &symbols)?;
+    }
+    if prng.one_in(FILLED) {
+        let symbols = generate::filled_capture(prng, &s, &l);
+        plain_capture(bench, prng, (&settings, &l), (&state, &numbers), &symbols)?;
     }
     for _ in 0..prng.between(4, 12) {
-        let reader = any_reader(prng);
+        let reader = generate::any_reader(prng, &s);
         let octet = prng.octet();
         let octet = prng.pick(&[START, TERMINATE, TERMINATE, IDLE, octet]);
         let mark = prng.pick(&[0, 1, 1, 2, 128, 255]);
@@ -130,6 +133,36 @@ fn plain(bench: &mut Bench, prng: &mut Prng) -> Result<(), Difference> {
         bench.c_plain_any(&settings, &l, &numbers, &reader, (octet, mark))?;
     }
     Ok(())
+}
+
+/// A capture by both faces; every second time another listens for a stretch of it.
+fn plain_capture(
+    bench: &mut Bench,
+    prng: &mut Prng,
+    (settings, l): (&raw::Settings, &generate::Listener),
+    (state, numbers): (&reference::State, &raw::State),
+    symbols: &Symbols,
+) -> Result<(), Difference> {
+    let s = records::settings(settings);
+    let lent = lend(prng, symbols);
+    let turn = prng.coin().then(|| generate::turn(prng, &s, l, symbols));
+    bench.plain(&s, l, turn.as_ref(), state, &lent)?;
+    let l = generate::misnumbered(prng, l);
+    let often = turn.as_ref().is_some_and(|turn| turn.places.end > SYMBOLS);
+    let turn = turn.map(|turn| match prng.below(if often { 2 } else { 8 }) {
+        // such as the Rust face has not
+        0 => generate::Turn {
+            s,
+            l: l.of(prng.pick(&[2, 255])),
+            ..turn
+        },
+        _ => turn,
+    });
+    let other = match &turn {
+        Some(turn) => generate::settings_record(prng, &turn.s),
+        None => *settings,
+    };
+    bench.c_plain([settings, &other], &l, turn.as_ref(), numbers, &lent)
 }
 
 /// Captures are added to a size table, in one order and another, and in two halves; and tables.

@@ -1,10 +1,10 @@
 //! The plain reader, through both faces, symbol by symbol beside the reference's, and its end beside
 //! the library's own walk.
 use crate::compare::{heard, Bench, Difference, Lent};
-use crate::generate::{Listener, START, SYMBOLS, TERMINATE};
-use crate::prng::Prng;
+use crate::generate::{Listener, Turn, PREAMBLE, START, SYMBOLS, TERMINATE};
 use crate::raw::plain::{self as layout, Plain};
-use crate::seen_plain::PlainSeen;
+use crate::seen_jobs::TableOf;
+use crate::seen_plain::{AnyPlainSeen, Line, PlainSeen};
 use crate::seen_reason::Face;
 use crate::{face, raw, records};
 use fenhamper::{Capture, Symbol, Way};
@@ -55,155 +55,252 @@ fn holds(s: &Settings, l: &Listener, taken: u64) -> [bool; 4] {
     ]
 }
 
+/// Who listens at a place, by number: the second in its turn, and where that is refused the first.
+fn listening(turn: Option<&Turn>, place: usize) -> &'static [usize] {
+    match turn {
+        Some(turn) if turn.places.contains(&place) => &[1, 0],
+        _ => &[0],
+    }
+}
+
+/// Who listens in a turn, to be shown if the two sides differ.
+fn shown(turn: Option<&Turn>) -> String {
+    let shown = |turn: &Turn| {
+        let listener = crate::show::listener(&turn.l);
+        format!("\nat {:?}: {:?}, {listener}", turn.places, turn.s)
+    };
+    turn.map(shown).unwrap_or_default()
+}
+
+/// The symbols of a capture, and one more where that is one too many.
+fn offered(lent: &Lent, more: u8) -> impl Iterator<Item = (u8, u8)> + '_ {
+    let symbols = lent
+        .octets()
+        .iter()
+        .copied()
+        .zip(lent.marks().iter().copied());
+    let full = symbols.len() >= SYMBOLS;
+    symbols.chain([(more, 1)].into_iter().filter(move |_| full))
+}
+
+/// A symbol and what it is offered to.
+struct Offer<'a> {
+    face: Face,
+    s: &'a Settings,
+    l: &'a Listener,
+    line: Line<'a>,
+    symbol: (u8, u8),
+}
+
+impl Offer<'_> {
+    /// What became of it, for the coverage table. Data shows nothing, but for the last symbol; nor does
+    /// a control symbol right behind another, with no run.
+    fn seen(&self, bench: &mut Bench, before: &PlainReader, after: &PlainReader, told: Told) {
+        let (octet, mark) = self.symbol;
+        let alike =
+            mark == 0 || self.line.begun.is_none() && self.line.place > 0 && !self.line.data;
+        if alike && told == Ok(None) && self.line.place + 1 != SYMBOLS {
+            return;
+        }
+        bench.coverage.plain(&PlainSeen {
+            face: self.face,
+            s: self.s,
+            job: self.l.job,
+            table: TableOf(&self.l.octets),
+            line: self.line,
+            symbol: Some((octet, mark)),
+            refusal: told.err().unwrap_or(0),
+            told: told.ok().flatten(),
+            before: before.state(),
+            after: after.state(),
+            stays: before == after,
+            open: after.run().is_some(),
+            frame: told.ok().and_then(|_| PlainSeen::ended(&self.line, mark)),
+        });
+    }
+}
+
 impl Bench {
     /// The symbols of a capture through the Rust face, one by one, and its end beside a walk.
     pub(crate) fn plain(
         &mut self,
         s: &Settings,
         l: &Listener,
+        turn: Option<&Turn>,
         state: &State,
         lent: &Lent,
     ) -> Result<(), Difference> {
         self.calls += 1;
-        let symbols = lent.octets().iter().zip(lent.marks());
-        let symbols: Vec<(u8, u8)> = symbols.map(|(&octet, &mark)| (octet, mark)).collect();
-        let table = face::table(l);
-        let listener = face::listener(s, l, &table);
-        let mut library = fenhamper::Plain::new(listener).with_state(face::state(state));
+        let face = Face::Rust;
+        let of = |turn: &Turn| (turn.s, turn.l);
+        let both = [(*s, *l), turn.map_or((*s, *l), of)];
+        let tables = [0, 1].map(|who| face::table(&both[who].1));
+        let listeners = [0, 1].map(|who| face::listener(&both[who].0, &both[who].1, &tables[who]));
+        let mut library = fenhamper::Plain::new(listeners[0]).with_state(face::state(state));
         let mut reader = PlainReader::new(*state);
-        let inputs = || heard(s, l, state, lent, 0, self.whole);
-        let full = symbols.len() >= SYMBOLS;
-        // one more where that is one too many
-        let more = [(START, 1)].into_iter().filter(|_| full);
-        for (octet, mark) in symbols.iter().copied().chain(more) {
-            let (taken, run) = (reader.taken(), reader.run());
-            let expected = reader.take(self.check, s, l.job, &l.table, octet, mark);
-            let answer = told(library.push(Symbol { octet, mark }));
-            let at = || format!("symbol {taken}: {octet:#04X}, mark {mark}\n{}", inputs());
-            self.same(("plain", "told"), (answer, expected), at)?;
-            let places = (library.place(), reader.taken());
-            self.same(("plain", "place"), places, at)?;
-            self.same(("plain", "run"), (library.run(), reader.run()), at)?;
-            if mark != 0 || expected.is_err() {
-                let states = (&library.state, &face::state(reader.state()));
-                self.same(("plain", "state"), states, at)?;
-                self.coverage.plain(&PlainSeen {
-                    face: Face::Rust,
+        let mut line = Line::new(lent.octets());
+        let whole = self.whole;
+        let inputs = || heard(s, l, state, lent, 0, whole) + &shown(turn);
+        'symbols: for symbol in offered(lent, START) {
+            let (octet, mark) = symbol;
+            for &who in listening(turn, line.place) {
+                let (s, l) = (&both[who].0, &both[who].1);
+                let before = reader;
+                let expected = reader.take(self.check, s, l.job, &l.table, octet, mark);
+                library.listener = listeners[who];
+                let answer = library.push(Symbol { octet, mark });
+                let place = line.place;
+                let at = || format!("symbol {place}: {octet:#04X}, mark {mark}\n{}", inputs());
+                self.same(("plain", "told"), (told(answer), expected), at)?;
+                if let Ok(Some(told)) = answer {
+                    let start = line.begun.map(|begun| begun.place);
+                    let places = ((Some(told.start), told.next), (start, place));
+                    self.same(("plain", "places of the run"), places, at)?;
+                }
+                let places = (library.place(), reader.taken());
+                self.same(("plain", "place"), places, at)?;
+                self.same(("plain", "run"), (library.run(), reader.run()), at)?;
+                if mark != 0 || expected.is_err() {
+                    let states = (&library.state, &face::state(reader.state()));
+                    self.same(("plain", "state"), states, at)?;
+                }
+                let offer = Offer {
+                    face,
                     s,
-                    holds: holds(s, l, taken as u64),
-                    taken,
-                    run,
-                    symbol: Some((octet, mark)),
-                    refusal: expected.err().unwrap_or(0),
-                    told: expected.ok().flatten(),
-                    any: false,
-                });
+                    l,
+                    line,
+                    symbol,
+                };
+                offer.seen(self, &before, &reader, expected);
+                match expected {
+                    Err(refusal) => line.refuse(refusal),
+                    Ok(_) => {
+                        line.take(symbol, s, l.job);
+                        continue 'symbols;
+                    }
+                }
             }
-            if expected.is_err() {
-                break;
-            }
+            break;
         }
         let states = (&library.state, &face::state(reader.state()));
         self.same(("plain", "state at the end"), states, inputs)?;
-        if lent.octets().len() == lent.marks().len() && symbols.len() <= SYMBOLS {
+        let all = lent.octets().len() == lent.marks().len() && line.place == lent.octets().len();
+        if all && turn.is_none() {
             // "the same outcomes, status words, counters and timers as the walk"
             let mut walk_state = face::state(state);
             let capture = Capture::new(lent.octets(), lent.marks());
-            let walked = capture.walk(listener, &mut walk_state);
-            if let Ok(walk) = walked {
-                let opens = (library.is_open(), walk.open);
-                self.same(("plain", "open, and the walk's"), opens, inputs)?;
-                let states = (&library.state, &walk_state);
-                self.same(("plain", "state, and the walk's"), states, inputs)?;
-            }
+            let walked = capture.walk(listeners[0], &mut walk_state);
+            // the walk is refused only if the first symbol would be, and there is none
+            let open = walked.map_or(false, |walk| walk.open);
+            let opens = (
+                (library.is_open(), walked.is_ok() || line.place == 0),
+                (open, true),
+            );
+            self.same(("plain", "open, and the walk's"), opens, inputs)?;
+            let states = (&library.state, &walk_state);
+            self.same(("plain", "state, and the walk's"), states, inputs)?;
         }
-        self.end_of_plain(Face::Rust, s, &reader);
+        self.end_of_plain(face, (s, l), line, &reader);
         Ok(())
     }
 
-    fn end_of_plain(&mut self, face: Face, s: &Settings, reader: &PlainReader) {
+    fn end_of_plain(
+        &mut self,
+        face: Face,
+        (s, l): (&Settings, &Listener),
+        line: Line,
+        reader: &PlainReader,
+    ) {
         self.coverage.plain(&PlainSeen {
             face,
             s,
-            holds: [false; 4],
-            taken: reader.taken(),
-            run: reader.run(),
+            job: l.job,
+            table: TableOf(&l.octets),
+            line,
             symbol: None,
             refusal: 0,
             told: None,
-            any: false,
+            before: reader.state(),
+            after: reader.state(),
+            stays: true,
+            open: reader.run().is_some(),
+            frame: None,
         });
     }
 
     /// The same through the C face, with any settings and state.
     pub(crate) fn c_plain(
         &mut self,
-        settings: &raw::Settings,
+        records: [&raw::Settings; 2],
         l: &Listener,
+        turn: Option<&Turn>,
         numbers_before: &raw::State,
         lent: &Lent,
     ) -> Result<(), Difference> {
         self.calls += 1;
-        let s = records::settings(settings);
+        let face = Face::C;
+        let both = records.map(records::settings);
+        let listeners = [l, turn.map_or(l, |turn| &turn.l)];
         let state = records::state(numbers_before);
         let mut library_state = *numbers_before;
         let mut library = raw::plain_fresh();
         let mut reader = PlainReader::new(state);
+        let mut line = Line::new(lent.octets());
+        let whole = self.whole;
         let inputs = || {
-            let meant = heard(&s, l, &state, lent, 0, self.whole);
-            format!("{settings:?}\nstate {numbers_before:X?}\nmeant: {meant}")
+            let meant = heard(&both[0], l, &state, lent, 0, whole) + &shown(turn);
+            format!("{records:?}\nstate {numbers_before:X?}\nmeant: {meant}")
         };
-        let symbols = lent.octets().iter().zip(lent.marks());
-        let full = symbols.len() >= SYMBOLS;
-        let more = [(&TERMINATE, &1)].into_iter().filter(|_| full);
-        for (&octet, &mark) in symbols.chain(more) {
-            let (taken, run) = (reader.taken(), reader.run());
-            let (before, state_before) = (library, library_state);
-            let expected = reader.take(self.check, &s, l.job, &l.table, octet, mark);
-            let symbol = (octet, mark);
-            let answer =
-                raw::plain_symbol(settings, l.raw(), &mut library_state, &mut library, symbol);
-            let at = || format!("symbol {taken}: {octet:#04X}, mark {mark}\n{}", inputs());
-            self.same(("plain in C", "told"), (answer, numbers(expected)), at)?;
-            let open = u64::from(reader.run().is_some());
-            let place = reader.taken() as u64;
-            let reached = [library.numbers[0], library.numbers[1]];
-            self.same(
-                ("plain in C", "place and run"),
-                (reached, [place, open]),
-                at,
-            )?;
-            // "with the state kept": all of it, to the bit; by a symbol that counts no Start too
-            let kept = match expected {
-                Ok(Some(_)) => records::state_written(&state_before, reader.state()),
-                _ => state_before,
-            };
-            self.same(("plain in C", "state"), (library_state, kept), at)?;
-            if expected.is_err() {
-                self.same(("plain in C", "reader"), (library, before), at)?;
+        'symbols: for symbol in offered(lent, TERMINATE) {
+            let (octet, mark) = symbol;
+            for &who in listening(turn, line.place) {
+                let (s, l) = (&both[who], listeners[who]);
+                let (before, state_before, reader_before) = (library, library_state, reader);
+                let expected = reader.take(self.check, s, l.job, &l.table, octet, mark);
+                let states = (&mut library_state, &mut library);
+                let answer = raw::plain_symbol(records[who], l.raw(), states.0, states.1, symbol);
+                let place = line.place;
+                let at = || format!("symbol {place}: {octet:#04X}, mark {mark}\n{}", inputs());
+                self.same(("plain in C", "told"), (answer, numbers(expected)), at)?;
+                let open = u64::from(reader.run().is_some());
+                let reached = [
+                    library.numbers[layout::PLACE],
+                    library.numbers[layout::RUNNING],
+                ];
+                let places = (reached, [reader.taken() as u64, open]);
+                self.same(("plain in C", "place and run"), places, at)?;
+                // "with the state kept": all of it, to the bit; by a symbol that counts no Start too
+                let kept = match expected {
+                    Ok(Some(_)) => records::state_written(&state_before, reader.state()),
+                    _ => state_before,
+                };
+                self.same(("plain in C", "state"), (library_state, kept), at)?;
+                if expected.is_err() {
+                    self.same(("plain in C", "reader"), (library, before), at)?;
+                }
+                if let (Some(n), Ok(_)) = (reader.run(), &expected) {
+                    let count = (library.numbers[layout::COUNT], n as u64);
+                    self.same(("plain in C", "count"), count, at)?;
+                }
+                let offer = Offer {
+                    face,
+                    s,
+                    l,
+                    line,
+                    symbol,
+                };
+                offer.seen(self, &reader_before, &reader, expected);
+                match expected {
+                    Err(refusal) => line.refuse(refusal),
+                    Ok(_) => {
+                        line.take(symbol, s, l.job);
+                        continue 'symbols;
+                    }
+                }
             }
-            if let (Some(n), Ok(_)) = (reader.run(), &expected) {
-                let count = (library.numbers[layout::COUNT], n as u64);
-                self.same(("plain in C", "count"), count, at)?;
-            }
-            if mark != 0 || expected.is_err() {
-                self.coverage.plain(&PlainSeen {
-                    face: Face::C,
-                    s: &s,
-                    holds: holds(&s, l, taken as u64),
-                    taken,
-                    run,
-                    symbol: Some((octet, mark)),
-                    refusal: expected.err().unwrap_or(0),
-                    told: expected.ok().flatten(),
-                    any: false,
-                });
-            }
-            if expected.is_err() {
-                break;
-            }
+            break;
         }
-        self.end_of_plain(Face::C, &s, &reader);
+        self.end_of_plain(face, (&both[0], l), line, &reader);
         Ok(())
     }
 
@@ -268,16 +365,16 @@ impl Bench {
             _ => *state,
         };
         self.same((call, "state"), (library_state, kept), inputs)?;
-        self.coverage.plain(&PlainSeen {
-            face: Face::C,
+        self.coverage.any_plain(&AnyPlainSeen {
             s: &s,
             holds,
-            taken: reader.numbers[layout::PLACE] as usize,
-            run,
-            symbol: Some((octet, mark)),
+            before: reader,
+            after: &after,
+            octet,
+            mark,
             refusal: refusal.unwrap_or(0),
-            told: expected.ok().flatten(),
-            any: true,
+            outcome: expected.ok().flatten().map_or(0, |told| told.outcome),
+            tags: tags_of(reader),
         });
         Ok(())
     }
@@ -303,13 +400,10 @@ impl Bench {
     fn thrown_away(&self, s: &Settings, reader: &Plain, by: u8) -> Option<u8> {
         let count = usize::from(reader.numbers[layout::COUNT] as u16);
         let register = reader.numbers[layout::REGISTER] as u32;
-        let field = |at: usize| [reader.first[7 + at], reader.first[8 + at]];
-        let fields = (0..8).map(|n| field(12 + 4 * n));
-        let tags = fields.take_while(|f| [[0x81, 0], [0x88, 0xA8]].contains(f));
-        let most = usize::from(s.limit) + 4 * tags.count();
+        let most = usize::from(s.limit) + 4 * tags_of(reader);
         if by != TERMINATE {
             Some(1)
-        } else if count < 7 || reader.first[..7] != [0x55, 0x55, 0x55, 0x55, 0x55, 0x55, 0xD5] {
+        } else if count < 7 || reader.first[..7] != PREAMBLE {
             Some(2)
         } else if count - 7 < 64 {
             Some(3)
@@ -321,62 +415,9 @@ impl Bench {
     }
 }
 
-/// Any record of a reader; at times one that has a preamble, or tags behind it.
-pub(crate) fn any_reader(prng: &mut Prng) -> Plain {
-    let mut wide = |low: u64, bits: u32| {
-        let high = prng.pick(&[0, 1 << bits, u64::MAX << bits]);
-        low | high
-    };
-    let (place, start, register) = (wide(0, 32), wide(0, 32), wide(0, 32));
-    let count = wide(0, 16);
-    let any = [(); 4].map(|()| prng.number() & 0xFFFF_FFFF);
-    let places = [
-        0,
-        1,
-        65_534,
-        65_535,
-        65_536,
-        65_537,
-        any[0],
-        any[0] & 0xFFFF,
-    ];
-    let counts = [
-        0,
-        6,
-        7,
-        10,
-        11,
-        52,
-        53,
-        70,
-        71,
-        1525,
-        1526,
-        1529,
-        65_535,
-        any[1] & 0xFFFF,
-    ];
-    let mut reader = Plain {
-        numbers: [0; layout::NUMBERS],
-        first: [(); layout::FIRST].map(|()| prng.octet()),
-        last: [(); layout::LAST].map(|()| prng.octet()),
-        unused: [(); 7].map(|()| prng.octet()),
-    };
-    reader.numbers = [
-        place | prng.pick(&places),
-        prng.pick(&[0, 1, 1, 2, 256, 1 << 63]),
-        start | any[2],
-        count | prng.pick(&counts),
-        register | any[3],
-        prng.number(),
-        prng.number(),
-        prng.number(),
-    ];
-    if prng.below(3) > 0 {
-        reader.first[..7].copy_from_slice(&[0x55, 0x55, 0x55, 0x55, 0x55, 0x55, 0xD5]);
-        for n in 0..prng.pick(&[0, 1, 2, 8]) {
-            reader.first[19 + 4 * n..][..2].copy_from_slice(&[0x81, 0]);
-        }
-    }
-    reader
+/// The tags behind the preamble that a record has kept.
+fn tags_of(reader: &Plain) -> usize {
+    let field = |n: usize| [reader.first[19 + 4 * n], reader.first[20 + 4 * n]];
+    let is_tag = |n: &usize| [[0x81, 0], [0x88, 0xA8]].contains(&field(*n));
+    (0..8).take_while(is_tag).count()
 }

@@ -2,7 +2,7 @@
 use crate::seen::{CSeen, FcsSeen, ReadingSeen, RowSeen, SendingSeen, WalkSeen};
 use crate::seen_jobs::{ScreenSeen, TableSeen};
 use crate::seen_log::{GoingOnSeen, KeepSeen, LogSeen};
-use crate::seen_plain::PlainSeen;
+use crate::seen_plain::{AnyPlainSeen, PlainSeen};
 use crate::seen_quiet::QuietSeen;
 use crate::seen_reason::ReasonSeen;
 use crate::seen_sizes::SizesSeen;
@@ -20,6 +20,8 @@ pub(crate) enum When {
     Reason(Box<dyn Fn(&ReasonSeen) -> bool>),
     /// By a symbol of the plain reader.
     Plain(Box<dyn Fn(&PlainSeen) -> bool>),
+    /// By a symbol of any record of one.
+    AnyPlain(Box<dyn Fn(&AnyPlainSeen) -> bool>),
     /// By a call on a size table.
     Sizes(Box<dyn Fn(&SizesSeen) -> bool>),
     /// By a call of a sequence on one state.
@@ -53,6 +55,7 @@ enum Sort {
     Walk,
     Reason,
     Plain,
+    AnyPlain,
     Sizes,
     Quiet,
     Sending,
@@ -77,6 +80,7 @@ impl When {
             When::Walk(_) => Sort::Walk,
             When::Reason(_) => Sort::Reason,
             When::Plain(_) => Sort::Plain,
+            When::AnyPlain(_) => Sort::AnyPlain,
             When::Sizes(_) => Sort::Sizes,
             When::Quiet(_) => Sort::Quiet,
             When::Sending(_) => Sort::Sending,
@@ -151,6 +155,13 @@ impl Coverage {
         self.hit(
             Sort::Plain,
             |when| matches!(when, When::Plain(test) if test(seen)),
+        );
+    }
+
+    pub(crate) fn any_plain(&mut self, seen: &AnyPlainSeen) {
+        self.hit(
+            Sort::AnyPlain,
+            |when| matches!(when, When::AnyPlain(test) if test(seen)),
         );
     }
 

@@ -52,7 +52,8 @@ pub struct FrameSeen<'a> {
 }
 
 impl<'a> FrameSeen<'a> {
-    fn new(octets: &'a [u8], outcome: u8) -> FrameSeen<'a> {
+    /// The FCS is judged for the outcomes 1 and 3 to 5.
+    pub fn new(octets: &'a [u8], outcome: u8) -> FrameSeen<'a> {
         let is_tag = |k: &usize| is_tag_kind(number_at(octets, 12 + 4 * k));
         let tags = (0..8).take_while(is_tag).count();
         let field_at = 12 + 4 * tags;

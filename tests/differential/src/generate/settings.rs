@@ -11,13 +11,18 @@ pub const RESERVED_GROUP: [u8; 6] = [0x01, 0x80, 0xC2, 0x00, 0x00, 0x01];
 pub fn settings(prng: &mut Prng) -> Settings {
     let mut s = valid_settings(prng);
     while prng.one_in(16) {
-        if prng.coin() {
-            s.own = prng.pick(&[BROADCAST, RESERVED_GROUP, [1, 0, 0, 0, 0, 0], group(s.own)]);
-        } else {
-            s.limit = prng.pick(&[0, 1500, 1517, 9619, 9622, 65_535]);
-        }
+        refuse(prng, &mut s);
     }
     s
+}
+
+/// Makes settings such that they are refused.
+pub fn refuse(prng: &mut Prng, s: &mut Settings) {
+    if prng.coin() {
+        s.own = prng.pick(&[BROADCAST, RESERVED_GROUP, [1, 0, 0, 0, 0, 0], group(s.own)]);
+    } else {
+        s.limit = prng.pick(&[0, 1500, 1517, 9619, 9622, 65_535]);
+    }
 }
 
 /// Settings that no call refuses.

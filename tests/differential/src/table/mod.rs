@@ -24,7 +24,7 @@ use crate::coverage::{Row, When};
 use crate::seen::{CSeen, FcsSeen, ReadingSeen, RowSeen, SendingSeen, WalkSeen};
 use crate::seen_jobs::{ScreenSeen, TableSeen};
 use crate::seen_log::{GoingOnSeen, KeepSeen, LogSeen};
-use crate::seen_plain::PlainSeen;
+use crate::seen_plain::{AnyPlainSeen, PlainSeen};
 use crate::seen_quiet::QuietSeen;
 use crate::seen_reason::ReasonSeen;
 use crate::seen_sizes::SizesSeen;
@@ -98,6 +98,14 @@ impl Table {
 
     fn plain(&mut self, name: impl Into<String>, test: impl Fn(&PlainSeen) -> bool + 'static) {
         self.row(name, When::Plain(Box::new(test)));
+    }
+
+    fn any_plain(
+        &mut self,
+        name: impl Into<String>,
+        test: impl Fn(&AnyPlainSeen) -> bool + 'static,
+    ) {
+        self.row(name, When::AnyPlain(Box::new(test)));
     }
 
     fn sizes(&mut self, name: impl Into<String>, test: impl Fn(&SizesSeen) -> bool + 'static) {
