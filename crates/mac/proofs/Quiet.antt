@@ -32,11 +32,11 @@ use Rattle.writing.specs.Frames.{clientBody, pauseBody, pfcBody, gap, onLine}
 use Rattle.writing.specs.Gaps.{gapOn, symbolsOn}
 use Rattle.send.specs.Sending.{held, written, clientRefusals, controlRefusals}
 use Rattle.counting.specs.Claims.{Sends, sendsClient, sendsPause, sendsPfc, fillsIdle, symbolsAsked, withTotals, refusalsOf, comeFirst, allRefusals}
-use Rattle.mac.specs.Calls.{Call, reads, walks, keeps, takes, sends, counts, asksSuch, afterCall, afterCalls, writes, allWritten, setsClass}
-use Rattle.mac.specs.Quiet.{Event, isSet, isWritten, asksFor, isClientOf, writtenBy, callEvents, events, writtenNext, Quiet, symbolsOf, AlikeFor}
+use Rattle.mac.specs.Calls.{Call, reads, walks, keeps, takes, sends, counts, asksSuch, afterCall, afterCalls, writes, allWritten, setsClass, latest}
+use Rattle.mac.specs.Quiet.{Event, isSet, isWritten, asksFor, isClientOf, writtenBy, callEvents, events, writtenNext, Quiet, symbolsOf, timeAfter, AlikeFor}
 use Rattle.mac.proofs.Port.{none-in-gap}
 use Rattle.mac.proofs.States.{Does, by-reading, by-sending, does}
-use Rattle.mac.proofs.Timers.{latest, call-keeps, call-timer, sets-or-writes}
+use Rattle.mac.proofs.Timers.{call-keeps, call-timer, sets-or-writes}
 
 -- ---- while a class is held, no call for a client frame of it writes anything
 
@@ -83,11 +83,6 @@ held-writes-none st k h c e = by (does st c)
     by (by-sending r os ms x t n f w g) = w ∙ not-written r (symbolsAsked st x) (λ a. held-not-fine st k h os ms x (sym (t (asksFor k)) ∙ e) (f a))
 
 -- ---- from a timer at t on, over what happens to the class: a symbol that starts a client frame of it is written only at 0
-
-unfoldable pub timeAfter : ℕ → List Event → ℕ
-timeAfter t [] = t
-timeAfter t (isSet q ∷ es) = timeAfter (64 * q .0) es
-timeAfter t (isWritten x starts ∷ es) = timeAfter (t - 1) es
 
 unfoldable Waits : ℕ → List Event → Type 0
 Waits t [] = Unit {0}
@@ -220,7 +215,7 @@ pub held-quiet : (k : ℕ) (st : State) → k < length (st .timers) → (cs : Li
     → getD (writtenNext (events k st cs)) j false ≡ false
 held-quiet k st eight cs j h = waits-next (timer (st .timers) k .0) (events k st cs) (events-wait k st cs eight) j h
 
--- item 14, for each class, from any state on
+-- item 14, for each class (a state has eight timers), from any state on and whatever the settings of the calls
 pub quiet : (k : ℕ) (st : State) → k < length (st .timers) → (cs : List Call) → Quiet (events k st cs)
 unfolding Quiet Waits
 quiet k st eight cs before after q e j h =

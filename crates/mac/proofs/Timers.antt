@@ -30,7 +30,7 @@ use Rattle.receive.specs.Reading.{stateAfter}
 use Rattle.writing.specs.declared.Client.{Client}
 use Rattle.send.specs.Sending.{held, written, wentRefusal, stateSent, sendChecked, clientRefusals, clientSending}
 use Rattle.mac.specs.Demand1.{rowHolds, NoneBefore}
-use Rattle.mac.specs.Calls.{Call, afterCall, afterCalls, writes, allWritten, Read, readBy, names, quantaOf, setBy, setByAll, setsClass, NoneSets}
+use Rattle.mac.specs.Calls.{Call, afterCall, afterCalls, writes, allWritten, Read, readBy, names, quantaOf, setBy, setByAll, setsClass, latest, NoneSets}
 use Rattle.mac.proofs.Demand1.{client-refuses}
 use Rattle.mac.proofs.States.{afterReads, Does, by-reading, by-sending, does}
 
@@ -41,11 +41,6 @@ unfolding timer lowered
 lowered-timer n [] k = omega arith
 lowered-timer n (t ∷ ts) zero = refl
 lowered-timer n (t ∷ ts) (suc k) = lowered-timer n ts k
-
--- what it is set to last; as it was where it is not set
-unfoldable pub latest : List Quanta → Slots → Slots
-latest [] t = t
-latest (q ∷ qs) t = latest qs (slotsOf q)
 
 latest-append : (a b : List Quanta) (t : Slots) → latest (a ++ b) t ≡ latest b (latest a t)
 unfolding latest

@@ -17,11 +17,12 @@ use Rattle.station.specs.declared.Address.{Address}
 use Rattle.station.specs.declared.Settings.{Settings}
 use Rattle.station.specs.declared.State.{State}
 use Rattle.station.specs.declared.Quanta.{Quanta}
+use Rattle.station.specs.declared.Slots.{Slots}
 use Rattle.station.specs.declared.Outcome.{Outcome}
 use Rattle.station.specs.declared.Checked.{Checked}
 use Rattle.station.specs.declared.Checked.the-variants.{Fine, Refused}
 use Rattle.station.specs.Numbers.{byOutcome}
-use Rattle.flow.specs.Timers.{quantaAt}
+use Rattle.flow.specs.Timers.{slotsOf, quantaAt}
 use Rattle.table.specs.declared.Entry.{Entry}
 use Rattle.table.specs.Entries.{mine}
 use Rattle.outcome.specs.Outcomes.{outcome, frameOf}
@@ -178,6 +179,11 @@ setByAll class (r ∷ l) = setBy (r .outcome) (r .frame) class ++ setByAll class
 
 unfoldable pub setsClass : ℕ → State → Call → List Quanta
 setsClass class st c = setByAll class (readBy st c)
+
+-- "Setting replaces the old time": what a timer is set to last; as it was where it is not set
+unfoldable pub latest : List Quanta → Slots → Slots
+latest [] t = t
+latest (q ∷ qs) t = latest qs (slotsOf q)
 
 -- no call of these sets the class
 unfoldable pub NoneSets : ℕ → State → List Call → Type 0

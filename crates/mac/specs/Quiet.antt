@@ -1,7 +1,7 @@
 -- Document 02, item 14, "Quiet means quiet": what its claims speak of, in the order of its words. The theorems are proofs/Quiet.antt. "Over any sequence
 -- of our calls on one state with fixed valid settings": over any list of `Call`s (specs/Calls), each with settings of its own, so that fixed valid ones are
 -- a case.
-use Prim.Native.Nat.{ℕ, _*_, _<_}
+use Prim.Native.Nat.{ℕ, _-_, _*_, _<_}
 use mathlib.Core.Path.{_≡_}
 use mathlib.Core.Bool.{Bool, true, false, _&&_}
 use mathlib.Core.List.{List, [], _∷_, _++_, map}
@@ -64,6 +64,12 @@ unfoldable pub symbolsOf : List Event → List Symbol
 symbolsOf [] = []
 symbolsOf (isSet q ∷ es) = symbolsOf es
 symbolsOf (isWritten x starts ∷ es) = x ∷ symbolsOf es
+
+-- what is left of a wait of t symbols: a reading that sets the class puts it to 64 × q, a symbol that we write takes one off
+unfoldable pub timeAfter : ℕ → List Event → ℕ
+timeAfter t [] = t
+timeAfter t (isSet q ∷ es) = timeAfter (64 * q .0) es
+timeAfter t (isWritten x starts ∷ es) = timeAfter (t - 1) es
 
 -- "Control frames and other classes may start": two states that have the same deficit count and, where the call is for a client frame, the same timer of
 -- that frame's class, are alike for it; every other timer may be whatever it is

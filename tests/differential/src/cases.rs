@@ -195,7 +195,7 @@ fn sizes(bench: &mut Bench, prng: &mut Prng) -> Result<(), Difference> {
 /// All calls that take a state, one after the other on one state with fixed settings; at times the
 /// longest wait.
 fn quiet(bench: &mut Bench, prng: &mut Prng) -> Result<(), Difference> {
-    if prng.one_in(100) {
+    if prng.one_in(400) {
         return bench.quiet_long(prng);
     }
     bench.quiet(prng)

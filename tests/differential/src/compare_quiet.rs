@@ -338,9 +338,12 @@ impl Bench {
             |prng: &mut Prng, q: &Sequence| generate::quiet_client(prng, &q.s, class as u8);
         let tried = client(prng, &q);
         self.quiet_write(prng, &mut q, tried)?;
-        while q.watch.left[class] > 1 {
-            let idles = q.watch.left[class] as usize - 1;
-            self.quiet_write(prng, &mut q, Sending::Idle(idles.min(SYMBOLS)))?;
+        // 64 fills of a whole line, and some that are refused
+        for _ in 0..100 {
+            let idles = (q.watch.left[class] as usize).saturating_sub(1);
+            if idles > 0 {
+                self.quiet_write(prng, &mut q, Sending::Idle(idles.min(SYMBOLS)))?;
+            }
         }
         let tried = client(prng, &q);
         self.quiet_write(prng, &mut q, tried)?;

@@ -19,6 +19,19 @@ pub enum Ear {
     Plain,
 }
 
+/// What happened since a class was set, to others than it.
+#[derive(Clone, Copy, Debug, Default)]
+pub struct Meanwhile {
+    /// A control frame was written.
+    pub control: bool,
+    /// A client frame was written; of this class there can be none in its wait.
+    pub client: bool,
+    /// Idles were written.
+    pub idles: bool,
+    /// A reading set another class and not this one.
+    pub passed_over: bool,
+}
+
 /// How a class was set last.
 #[derive(Clone, Copy, Debug)]
 pub struct Set {
@@ -32,6 +45,8 @@ pub struct Set {
     pub before: u64,
     /// Whether the same call set it before, and to how many quanta.
     pub same_call: Option<u16>,
+    /// What happened since.
+    pub meanwhile: Meanwhile,
 }
 
 /// What is kept of each class.
@@ -56,7 +71,12 @@ impl Watch {
     pub fn heard(&mut self, by: (Ear, u8), octets: &[u8], starts: &[(u8, usize)]) {
         let mut in_this_call = [None; 8];
         for &start in starts {
-            for (class, quanta) in quanta_set(octets, start).into_iter().enumerate() {
+            let sets = quanta_set(octets, start);
+            let some = sets.iter().any(Option::is_some);
+            for (class, quanta) in sets.into_iter().enumerate() {
+                if let (Some(set), None, true) = (&mut self.set[class], quanta, some) {
+                    set.meanwhile.passed_over = true;
+                }
                 let Some(quanta) = quanta else { continue };
                 self.set[class] = Some(Set {
                     by,
@@ -64,6 +84,7 @@ impl Watch {
                     written: 0,
                     before: self.left[class],
                     same_call: in_this_call[class].replace(quanta),
+                    meanwhile: Meanwhile::default(),
                 });
                 self.left[class] = QUANTUM * u64::from(quanta);
             }
@@ -73,16 +94,23 @@ impl Watch {
     /// A call wrote these symbols, in order; `client` is the class if it was asked for a client
     /// frame. Says whether one of them is the Start of such a frame that had still to wait.
     pub fn wrote(&mut self, client: Option<u8>, octets: &[u8], marks: &[u8]) -> bool {
-        let mut loud = false;
-        for (&octet, &mark) in octets.iter().zip(marks) {
+        let (mut loud, n) = (false, octets.len() as u64);
+        for ((&octet, &mark), before) in octets.iter().zip(marks).zip(0..) {
             if let Some(class) = client.filter(|_| octet == START && mark != 0) {
-                loud |= self.left[usize::from(class)] > 0;
+                loud |= self.left[usize::from(class)] > before;
             }
-            for class in 0..8 {
-                self.left[class] = self.left[class].saturating_sub(1);
-                if let Some(set) = &mut self.set[class] {
-                    set.written += 1;
-                }
+        }
+        for left in &mut self.left {
+            *left = left.saturating_sub(n);
+        }
+        let frame = octets.first() == Some(&START) && marks[0] != 0;
+        for set in self.set.iter_mut().flatten() {
+            set.written += n;
+            let since = &mut set.meanwhile;
+            match (client, frame) {
+                (Some(_), _) => since.client = true,
+                (None, true) => since.control = true,
+                (None, false) => since.idles |= n > 0,
             }
         }
         loud

@@ -1,7 +1,7 @@
 //! Quiet means quiet: item 14 of document 02, over sequences of calls on one state.
 use super::Table;
 use crate::seen_quiet::{QuietCall, QuietSeen};
-use crate::watch::Ear;
+use crate::watch::{Ear, Meanwhile};
 use reference::Port;
 
 /// The calls that read.
@@ -14,6 +14,7 @@ const EARS: [(&str, Ear); 4] = [
 
 pub fn rows(t: &mut Table) {
     both_sides(t);
+    meanwhile(t);
     waits(t);
     again(t);
     others(t);
@@ -47,6 +48,27 @@ fn both_sides(t: &mut Table) {
                 move |q| q.written_so(on, counted) && q.at_the_end(0, 0),
             );
         }
+    }
+}
+
+/// "the next 64 × q symbols that we write": whatever they are, and whatever is set besides.
+fn meanwhile(t: &mut Table) {
+    let rows: [(&str, fn(&Meanwhile) -> bool); 4] = [
+        ("a control frame", |since| since.control),
+        ("a client frame of another class", |since| since.client),
+        ("Idles", |since| since.idles),
+        ("a setting of other classes", |since| since.passed_over),
+    ];
+    for (name, test) in rows {
+        let since = move |q: &QuietSeen| q.client().is_some_and(|(set, _)| test(&set.meanwhile));
+        t.quiet(
+            format!("quiet: {name} meanwhile: symbol 64 × q - 1: refusal 9"),
+            move |q| since(q) && q.at_the_end(1, 9),
+        );
+        t.quiet(
+            format!("quiet: {name} meanwhile: symbol 64 × q: written"),
+            move |q| since(q) && q.at_the_end(0, 0),
+        );
     }
 }
 
