@@ -33,7 +33,8 @@ use Rattle.writing.specs.Gaps.{gapOn, symbolsOn}
 use Rattle.send.specs.Sending.{held, written, clientRefusals, controlRefusals}
 use Rattle.counting.specs.Claims.{Sends, sendsClient, sendsPause, sendsPfc, fillsIdle, symbolsAsked, withTotals, refusalsOf, comeFirst, allRefusals}
 use Rattle.mac.specs.Calls.{Call, reads, walks, keeps, takes, sends, counts, asksSuch, afterCall, afterCalls, writes, allWritten, setsClass, latest}
-use Rattle.mac.specs.Quiet.{Event, isSet, isWritten, asksFor, isClientOf, writtenBy, callEvents, events, writtenNext, Quiet, symbolsOf, timeAfter, AlikeFor}
+use Rattle.mac.specs.Quiet.{Event, isSet, isWritten, asksFor, isClientOf, writtenBy, callEvents, events}
+use Rattle.mac.specs.Quiet.{writtenNext, Quiet, symbolsOf, timeAfter, AlikeFor}
 use Rattle.mac.proofs.Port.{none-in-gap}
 use Rattle.mac.proofs.States.{Does, by-reading, by-sending, does}
 use Rattle.mac.proofs.Timers.{call-keeps, call-timer, sets-or-writes}

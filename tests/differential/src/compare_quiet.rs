@@ -250,6 +250,8 @@ struct Sequence {
     place: usize,
     /// A client frame stands in the line.
     own_frames: bool,
+    /// The class whose wait was looked at last.
+    last: u8,
 }
 
 impl Sequence {
@@ -281,6 +283,7 @@ impl Sequence {
             given,
             place: 0,
             own_frames: false,
+            last: 0,
         }
     }
 
@@ -321,7 +324,8 @@ impl Bench {
             if prng.one_in(4) {
                 self.quiet_hear(prng, &mut q, None)?;
             } else {
-                let sending = generate::quiet_sending(prng, &q.s, &q.watch.left);
+                let left = q.watch.left;
+                let sending = generate::quiet_sending(prng, &q.s, &left, &mut q.last);
                 self.quiet_write(prng, &mut q, sending)?;
             }
         }
@@ -384,7 +388,7 @@ impl Bench {
                 0 if !whole => generate::place(prng, &symbols),
                 _ => 0,
             },
-            records: if whole { 1 } else { prng.below(4) },
+            records: if whole { 1 } else { prng.below(5) },
         };
         let lines = (q.rust.line.lent.clone(), q.c.line.lent.clone());
         let before = q.watch;

@@ -115,33 +115,30 @@ pub fn quiet_client(prng: &mut Prng, s: &Settings, class: u8) -> Sending {
 }
 
 /// Something to send: a client frame of a class, a control frame of the flow mode, or Idles, so many
-/// that one of these waits ends there, or one symbol before or behind.
-pub fn quiet_sending(prng: &mut Prng, s: &Settings, left: &[u64; 8]) -> Sending {
-    let waiting: Vec<u8> = (0..8)
-        .filter(|&class| left[usize::from(class)] > 0)
-        .collect();
-    let any = prng.below(8) as u8;
-    let class = if waiting.is_empty() || prng.one_in(4) {
-        any
-    } else {
-        waiting[prng.below(waiting.len())]
+/// that one of these waits ends there, or one symbol before or behind; `last` is the class of whose
+/// wait that was last, and is mostly tried next.
+pub fn quiet_sending(prng: &mut Prng, s: &Settings, left: &[u64; 8], last: &mut u8) -> Sending {
+    let waits = |class: &u8| left[usize::from(*class)] > 0;
+    let (waiting, free): (Vec<u8>, Vec<u8>) = (0..8).partition(waits);
+    let mut one_of = |classes: &[u8]| match classes {
+        [] => prng.below(8) as u8,
+        _ => prng.pick(classes),
     };
+    let (waiting, free) = (one_of(&waiting), one_of(&free));
     match prng.below(16) {
-        0..=7 => quiet_client(prng, s, class),
+        0..=7 => {
+            let class = prng.pick(&[*last, *last, waiting, free]);
+            quiet_client(prng, s, class)
+        }
         8..=9 => match s.flow {
             Flow::Pfc => pfc(prng),
             Flow::Pause | Flow::None => Sending::Pause(short_quanta(prng)),
         },
         _ => {
-            let wait = left[usize::from(class)] as usize;
-            let off = prng.pick(&[
-                wait,
-                wait.saturating_sub(1),
-                wait.saturating_sub(1),
-                1,
-                wait + 1,
-            ]);
-            Sending::Idle(off)
+            *last = prng.pick(&[*last, waiting]);
+            let wait = left[usize::from(*last)] as usize;
+            let one_less = wait.saturating_sub(1);
+            Sending::Idle(prng.pick(&[wait, wait, one_less, 1, wait + 1]))
         }
     }
 }

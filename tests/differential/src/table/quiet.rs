@@ -4,6 +4,9 @@ use crate::seen_quiet::{QuietCall, QuietSeen};
 use crate::watch::{Ear, Meanwhile};
 use reference::Port;
 
+/// A test of what happened since a class was set.
+type Since = fn(&Meanwhile) -> bool;
+
 /// The calls that read.
 const EARS: [(&str, Ear); 4] = [
     ("read", Ear::Read),
@@ -53,7 +56,7 @@ fn both_sides(t: &mut Table) {
 
 /// "the next 64 × q symbols that we write": whatever they are, and whatever is set besides.
 fn meanwhile(t: &mut Table) {
-    let rows: [(&str, fn(&Meanwhile) -> bool); 4] = [
+    let rows: [(&str, Since); 4] = [
         ("a control frame", |since| since.control),
         ("a client frame of another class", |since| since.client),
         ("Idles", |since| since.idles),
