@@ -4,7 +4,7 @@ use Rattle.fcs.proofs.check_by.Statement.{statement}
 use Rattle.fcs.proofs.check_by.Tie as tie
 
 update-by-requires : tie.Need-update-by-requires
-update-by-requires c κs = c .before .before .before .pre (c .if1 .taken)
+update-by-requires c κs = c .before .before .before .before .pre (c .if2 .taken)
 
 sub-result : tie.Need-sub-result
 sub-result c = search needs

@@ -1,46 +1,37 @@
--- `fcs::update` meets its contract: the sixteens, and the rest.
+-- `fcs::update` meets its contract, whichever way it takes.
 -- Assumes nothing.
 use mathlib.Core.Path.{ap, _∙_}
-use Prim.Native.Nat.{_-_, _%_}
-use lib.ListN.{length}
+use native.Mathlib.Omega.{arith}
 use Rattle.crc.specs.Crc.{crcOver}
 use Rattle.fcs.proofs.Laws.{last-part}
 use borrow.Author.Needs.{needs}
 use Rattle.fcs.proofs.update.Statement.{statement}
 use Rattle.fcs.proofs.update.Tie as tie
 
-sixteens-requires : tie.Need-sixteens-requires
-sixteens-requires c κs = search needs
-
-sub-rest : tie.Need-sub-rest
-sub-rest c = search needs
-
-sub-rest-2 : tie.Need-sub-rest-2
-sub-rest-2 c = search needs
-
-part-rest-start : tie.Need-part-rest-start
-part-rest-start c = search needs
-
-part-rest-end : tie.Need-part-rest-end
-part-rest-end c = search needs
-
-rest-requires : tie.Need-rest-requires
-rest-requires c κs = search needs
+short-requires : tie.Need-short-requires
+short-requires c κs = search needs
 
 returns : tie.Need-returns
-returns c =
-    let s = c .before .before .before .before .args .s .now in
-    let r = c .before .before .sixteens in
-    c .rest .ensures ∙ ap (crcOver (r .result)) (last-part (length s - length s % 16) s) ∙ r .ensures
+returns c = search needs
+
+sub-words : tie.Need-sub-words
+sub-words c = search needs
+
+part-words-start : tie.Need-part-words-start
+part-words-start c = search needs
+
+part-words-end : tie.Need-part-words-end
+part-words-end c = search needs
+
+words-requires : tie.Need-words-requires
+words-requires c κs =
+    let s = c .before .before .before .args .s .now in rw (last-part 0 s) (omega arith)
+
+returns-2 : tie.Need-returns-2
+returns-2 c =
+    let args = c .before .before .before .before .args in
+    c .words .ensures ∙ ap (crcOver (args .reg)) (last-part 0 (args .s .now))
 
 pub update-spec : {M : Type 1} → statement M
 update-spec =
-    tie.close
-    (tie.spec
-    sixteens-requires
-    sub-rest
-    sub-rest-2
-    part-rest-start
-    part-rest-end
-    rest-requires
-    returns)
+    tie.close (tie.spec short-requires returns sub-words part-words-start part-words-end words-requires returns-2)

@@ -1,0 +1,88 @@
+-- `fcs::words` meets its contract: from what is carried on, what is left of the octets has the register at the end that the whole has from `reg`.
+-- Assumes nothing.
+use mathlib.Core.Path.{_≡_, ap, _∙_}
+use Prim.Native.Nat.{ℕ, _+_, _-_, _≤_}
+use native.Mathlib.Nat.{zero-add}
+use native.Mathlib.Omega.{arith}
+use lib.ListN.{length, drop}
+use Rattle.crc.specs.Crc.{crcOver}
+use Rattle.sparse.specs.Words.{number}
+use Rattle.fcs.proofs.Laws.{last-part}
+use borrow.Author.Needs.{needs}
+use Rattle.fcs.proofs.words.Statement.{statement}
+use Rattle.fcs.proofs.words.Tie as tie
+
+abbrev Inv-loop : tie.InvT-loop
+Inv-loop reg s w₀ i₀ w i = (i + 40 ≤ length s) × (crcOver (number w) (drop i s) ≡ crcOver reg s)
+
+abbrev μ-loop : tie.MeasureT-loop
+μ-loop reg s w₀ i₀ w i = length s - i
+
+wide32-requires : tie.Need-wide32-requires Inv-loop μ-loop
+wide32-requires c κs = search needs
+
+loop-holds : tie.Need-loop-holds Inv-loop μ-loop
+loop-holds c =
+    let s = c .before .before .args .s .now in
+    (omega arith, ap (λ (r : ℕ). crcOver r s) (zero-add (c .wide32 .result) ∙ c .wide32 .ensures))
+
+sub-loop : tie.Need-sub-loop Inv-loop μ-loop
+sub-loop c = search needs
+
+take32-requires : tie.Need-take32-requires Inv-loop μ-loop
+take32-requires c κs = search needs
+
+add-i : tie.Need-add-i Inv-loop μ-loop
+add-i c = search needs
+
+loop-less : tie.Need-loop-less Inv-loop μ-loop
+loop-less c = search needs
+
+loop-again : tie.Need-loop-again Inv-loop μ-loop
+loop-again c = (omega arith, c .take32 .ensures ∙ c .before .before .loop .inv .1)
+
+turn40-with-requires : tie.Need-turn40-with-requires Inv-loop μ-loop
+turn40-with-requires c κs = search needs
+
+add-short : tie.Need-add-short Inv-loop μ-loop
+add-short c = search needs
+
+sub-short : tie.Need-sub-short Inv-loop μ-loop
+sub-short c = search needs
+
+part-short-start : tie.Need-part-short-start Inv-loop μ-loop
+part-short-start c = search needs
+
+part-short-end : tie.Need-part-short-end Inv-loop μ-loop
+part-short-end c = search needs
+
+short-requires : tie.Need-short-requires Inv-loop μ-loop
+short-requires c κs = search needs
+
+returns : tie.Need-returns Inv-loop μ-loop
+returns c =
+    let s = c .before .before .before .before .before .before .before .args .s .now in
+    let at = c .before .before .before .before .loop in
+    let r = c .before .before .turn40-with in
+    c .short .ensures ∙ ap (crcOver (r .result)) (last-part (at .i + 40) s) ∙ r .ensures ∙ at .inv .1
+
+pub words-spec : {M : Type 1} → statement M
+words-spec =
+    tie.close
+    (tie.spec
+    Inv-loop
+    μ-loop
+    wide32-requires
+    loop-holds
+    sub-loop
+    take32-requires
+    add-i
+    loop-less
+    loop-again
+    turn40-with-requires
+    add-short
+    sub-short
+    part-short-start
+    part-short-end
+    short-requires
+    returns)
