@@ -1,19 +1,21 @@
 -- The entries of the lent tables, and a number of octets by as many tables.
 -- Assumes nothing.
 use mathlib.Core.Path.{_≡_, refl, sym, ap, ap₂, _∙_, subst}
+use mathlib.Core.Logic.{_⊎_, inl, inr, ⊎-elim}
 use mathlib.Core.List.{List, [], _∷_, _++_}
-use Prim.Native.Nat.{ℕ, zero, suc, _+_, _-_, _*_, _/_, _%_, _^_, _≤_, _<_}
-use native.Mathlib.Nat.{mod-eq-of-lt, div-lt-iff-lt-mul, pow-suc, add-suc}
+use Prim.Native.Nat.{ℕ, zero, suc, _+_, _-_, _*_, _/_, _%_, _^_, _≤_, _<_, zero-le, suc-le-suc}
+use native.Mathlib.Nat.{mod-eq-of-lt, div-lt-iff-lt-mul, one-mul, pow-suc, add-suc}
 use native.Mathlib.Numerals.{add-one}
 use native.Mathlib.Omega.{arith}
 use borrow.Author.Count.{below-more}
-use lib.Bits.{bitXor}
-use lib.Dec.{lit<}
+use lib.Bits.{bitXor, xor-comm, xor-shifted}
+use lib.Dec.{lit<, lit≤}
+use lib.Pow.{pow-mono}
 use lib.ListN.{length, getD, set, length-append, List·getD-append}
 use lib.Seq.{getD-set-same, getD-set-other, getD-at, ext-getD}
 use Rattle.crc.specs.Words.{crcZeros}
-use Rattle.crc.proofs.Linear.{none, zeros-add, over-slice}
-use Rattle.fcs.specs.Lent.{entryOf, entries, Tables, Filled}
+use Rattle.crc.proofs.Linear.{none, zeros-add, zeros-xor, over-slice}
+use Rattle.fcs.specs.Lent.{entryOf, entries, Tables, Filled, Doubled}
 
 -- ---- the entries
 
@@ -73,6 +75,32 @@ pub entry-next : (i x : ℕ) → 256 ≤ i → x ≡ entryOf (i - 256) → bitXo
 entry-next i x h e =
     ap₂ bitXor (sym (entry-first (x % 256) (omega arith))) (none (x / 256))
     ∙ sym (over-slice 0 x) ∙ ap (crcZeros 1) e ∙ next-row i h
+
+-- an octet at which the row is known, and a lower one: the entry of both
+pub doubled : (k j : ℕ) → j ≤ 7 → Doubled (k * 256 + 2 ^ j) (2 ^ j)
+unfolding entryOf
+doubled k j l x h =
+    let p = 2 ^ j in
+    let most : p ≤ 128 = pow-mono l in
+    let quotient : (k * 256 + p + x) / 256 ≡ k = omega arith in
+    let octet : (k * 256 + p + x) % 256 ≡ p + x = omega arith in
+    let below : (k * 256 + p + x - p) / 256 ≡ k = omega arith in
+    let under : (k * 256 + p + x - p) % 256 ≡ x = omega arith in
+    let same : (k * 256 + p) / 256 ≡ k = omega arith in
+    let power : (k * 256 + p) % 256 ≡ p = omega arith in
+    let sum : p + x ≡ bitXor x p =
+    sym (ap (λ (y : ℕ). y + x) (one-mul p)) ∙ sym (xor-shifted 1 j x h) ∙ ap (λ (y : ℕ). bitXor y x) (one-mul p) ∙ xor-comm p x in
+    ap₂ (λ (a b : ℕ). crcZeros (suc a) b) quotient (octet ∙ sum) ∙ zeros-xor (suc k) x p
+    ∙ sym (ap₂ bitXor (ap₂ (λ (a b : ℕ). crcZeros (suc a) b) below under) (ap₂ (λ (a b : ℕ). crcZeros (suc a) b) same power))
+
+up-to : (a b : ℕ) → (a ≤ b) ⊎ (suc b ≤ a)
+up-to zero b = inl zero-le
+up-to (suc a) zero = inr (suc-le-suc zero-le)
+up-to (suc a) (suc b) = ⊎-elim (λ p. inl (suc-le-suc p)) (λ p. inr (suc-le-suc p)) (up-to a b)
+
+-- a power of two that is below 256
+pub exponent : (j : ℕ) → 2 ^ j < 256 → j ≤ 7
+exponent j h = ⊎-elim (λ (l : j ≤ 7). l) (λ (l : 8 ≤ j). let m : 256 ≤ 2 ^ j = pow-mono l in omega arith) (up-to j 7)
 
 -- ---- octets by tables, in the form of the code that looks them up
 

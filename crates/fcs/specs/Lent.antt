@@ -2,7 +2,8 @@
 -- `check_by` requires: no caller has to look into them.
 use mathlib.Core.Path.{_≡_}
 use mathlib.Core.List.{List, [], _∷_, _++_}
-use Prim.Native.Nat.{ℕ, zero, suc, _/_, _%_, _<_}
+use Prim.Native.Nat.{ℕ, zero, suc, _+_, _-_, _/_, _%_, _<_}
+use lib.Bits.{bitXor}
 use lib.ListN.{length, getD}
 use Rattle.crc.specs.Words.{crcZeros}
 
@@ -22,6 +23,10 @@ Tables t = t ≡ entries 4096
 -- while they are made: every entry below n is right
 abbrev pub Filled : ℕ → List ℕ → Type 0
 Filled n t = (j : ℕ) → j < n → getD t j 0 ≡ entryOf j
+
+-- the n entries from i on follow from the one at i and those n before them
+abbrev pub Doubled : ℕ → ℕ → Type 0
+Doubled i n = (x : ℕ) → x < n → entryOf (i + x) ≡ bitXor (entryOf (i + x - n)) (entryOf i)
 
 -- what may be lent: nothing, or the tables
 abbrev pub Lent : List ℕ → Type 0
