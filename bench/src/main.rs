@@ -419,7 +419,10 @@ fn run() -> Result<(), String> {
         }
     }
     let libraries = [("zlib", Reader::zlib()), ("libisal", Reader::isal())];
-    let machine = machine(&libraries);
+    let mut machine = machine(&libraries);
+    machine.push(format!(
+        "timed: {rounds} rounds of {turn} ms for each rival"
+    ));
     let [zlib, isal] = libraries.map(|(_, found)| found.map(|(reader, _)| reader));
     let bench = Bench {
         effort: Effort {

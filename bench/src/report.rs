@@ -1,6 +1,8 @@
 //! The tables, in markdown.
 use std::fmt::Write;
 
+use crate::captures::SYMBOLS;
+
 /// The columns of figures: ours, and those that it is compared with.
 pub const COLUMNS: [&str; 6] = [
     "Fenhamper",
@@ -545,7 +547,8 @@ impl Report {
         out
     }
 
-    // What a walk costs by itself and for each symbol, without tables and with them.
+    // What a walk costs by itself and for each symbol, without tables and with them, and from how many symbols on the
+    // tables pay, if they do in any capture.
     fn by_itself(&self) -> String {
         let mut out = String::new();
         let names = [
@@ -554,20 +557,23 @@ impl Report {
             "each symbol, ns",
             "a long walk by itself, ns",
             "each symbol, ns",
+            "tables pay from, symbols",
         ];
         head(&mut out, names.map(str::to_owned).to_vec(), 1);
         let grown = self.growth.iter().filter(|g| GROWN.contains(&g.capture));
         for growth in grown {
             let walks = growth.cells.iter().flatten();
-            let walks: Vec<_> = walks
-                .map(|c| (c.symbols, c.symbols as f64 * c.walk))
-                .collect();
-            let (short, long): (Vec<_>, Vec<_>) = walks.iter().partition(|w| w.0 < TABLES_FROM);
+            let walks = walks.map(|c| (c.symbols, c.symbols as f64 * c.walk));
+            let (short, long): (Vec<_>, Vec<_>) = walks.partition(|w| w.0 < TABLES_FROM);
+            let (short, long) = (fitted(&short), fitted(&long));
+            let pay = short.zip(long).map(|(s, l)| (l.0 - s.0) / (s.1 - l.1));
+            let pay = pay.filter(|&symbols| (0.0..=SYMBOLS as f64).contains(&symbols));
             let mut cells = vec![growth.capture.to_owned()];
-            for fit in [fitted(&short), fitted(&long)] {
+            for fit in [short, long] {
                 cells.push(cell(fit.map(|(by_itself, _)| by_itself), 0));
                 cells.push(cell(fit.map(|(_, each)| each), 3));
             }
+            cells.push(cell(pay, 0));
             line(&mut out, cells);
         }
         out

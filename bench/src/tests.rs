@@ -343,7 +343,7 @@ fn what_is_missed_is_told() {
         assert!(asked.lines().any(|one| one == line), "{line}\n{asked}");
     }
     assert!(
-        growth.ends_with("| 64 | 50 | 1.000 | 3000 | 0.500 |\n"),
+        growth.ends_with("| 64 | 50 | 1.000 | 3000 | 0.500 | 5900 |\n"),
         "{growth}"
     );
 }
