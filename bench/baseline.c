@@ -1,6 +1,7 @@
 /*
  * A reader in C to compare with, as one writes it for speed with what is at hand: memchr for the next Start and for the end of a
- * long run, words of eight octets for that of a short one, and a CRC that is zlib's (with ZLIB) or one of its own by slicing by 16.
+ * long run, words of eight octets for that of a short one, and a CRC that is zlib's (with ZLIB), libisal's (with ISAL) or one of its own
+ * by slicing by 16.
  * It follows document 01 and items 1 to 3 of document 02 with the printing program's settings, but for the limit M, which is named, and it
  * counts outcomes. Little-endian only. And two plain loops over Starts, as one writes them without a thought of speed.
  */
@@ -8,10 +9,14 @@
 #include <stdint.h>
 #include <string.h>
 
-#ifdef ZLIB
+#if defined ZLIB
 #include <zlib.h>
 #define NAME(x) baseline_zlib_##x
+#elif defined ISAL
+#include <isa-l.h>
+#define NAME(x) baseline_isal_##x
 #else
+#define SLICING
 #define NAME(x) baseline_slicing_##x
 #endif
 
@@ -44,7 +49,7 @@ const char *NAME(setup)(void);
 /* Reads Start after Start from place 0 on and counts their outcomes. */
 struct walked NAME(walk)(uint16_t limit, uint64_t counters[OUTCOMES], const uint8_t *octets, const uint8_t *marks, size_t length);
 
-#ifndef ZLIB
+#ifdef SLICING
 
 /* Fills the totals of a capture: how many Starts each block of 256 symbols has. */
 void baseline_fill_totals(const uint8_t *octets, const uint8_t *marks, size_t length, uint16_t *totals);
@@ -54,11 +59,21 @@ size_t baseline_starts_before(const uint8_t *octets, const uint8_t *marks, size_
 
 #endif
 
-#ifdef ZLIB
+#if defined ZLIB
 
 const char *NAME(setup)(void) { return zlibVersion(); }
 
 static uint32_t check(const uint8_t *octets, size_t length) { return (uint32_t)crc32(0, octets, (uInt)length); }
+
+#elif defined ISAL
+
+#define TEXT(x) #x
+#define VERSION(major, minor, patch) TEXT(major) "." TEXT(minor) "." TEXT(patch)
+
+const char *NAME(setup)(void) { return VERSION(ISAL_MAJOR_VERSION, ISAL_MINOR_VERSION, ISAL_PATCH_VERSION); }
+
+/* By carry-less multiplication where the processor has it, which is found out at run time: more than plain x86-64. */
+static uint32_t check(const uint8_t *octets, size_t length) { return crc32_gzip_refl(0, octets, length); }
 
 #else
 
@@ -226,7 +241,7 @@ struct walked NAME(walk)(uint16_t limit, uint64_t counters[OUTCOMES], const uint
   }
 }
 
-#ifndef ZLIB
+#ifdef SLICING
 
 size_t baseline_starts_before(const uint8_t *octets, const uint8_t *marks, size_t place)
 {

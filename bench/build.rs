@@ -1,4 +1,4 @@
-//! Compiles the C baseline, with zlib too where it is installed, and notes the tools' versions.
+//! Compiles the C baseline, with zlib and libisal too where they are installed, and notes the tools' versions.
 //! CC and AR name other tools than gcc and ar.
 use std::env;
 use std::fs;
@@ -7,6 +7,30 @@ use std::process::{exit, Command};
 
 const SOURCE: &str = "baseline.c";
 const FLAGS: [&str; 4] = ["-O3", "-Wall", "-Wextra", "-std=c11"];
+
+// A library that the baseline can take its check from: what it is called where it is used, the name that it is linked by,
+// what defines it in the source, and a program that calls it.
+struct Library {
+    name: &'static str,
+    linked: &'static str,
+    flag: &'static str,
+    probe: &'static str,
+}
+
+const LIBRARIES: [Library; 2] = [
+    Library {
+        name: "zlib",
+        linked: "z",
+        flag: "-DZLIB",
+        probe: "#include <zlib.h>\nint main(void) { return (int)crc32(0, 0, 0); }\n",
+    },
+    Library {
+        name: "isal",
+        linked: "isal",
+        flag: "-DISAL",
+        probe: "#include <isa-l.h>\nint main(void) { return (int)crc32_gzip_refl(0, 0, 0); }\n",
+    },
+];
 
 fn fail(message: &str) -> ! {
     eprintln!("bench: {message}");
@@ -40,20 +64,15 @@ fn compile(folder: &Path, object: &str, more: &[&str]) -> bool {
     succeeds(gcc.arg("-o").arg(folder.join(object)))
 }
 
-// zlib counts as installed if a program that calls it can be linked.
-fn has_zlib(folder: &Path) -> bool {
+// A library counts as installed if a program that calls it can be linked.
+fn has(library: &Library, folder: &Path) -> bool {
     let probe = folder.join("probe.c");
-    let text = "#include <zlib.h>\nint main(void) { return (int)crc32(0, 0, 0); }\n";
-    if fs::write(&probe, text).is_err() {
+    if fs::write(&probe, library.probe).is_err() {
         return false;
     }
     let mut gcc = Command::new(compiler());
-    succeeds(
-        gcc.arg(&probe)
-            .arg("-o")
-            .arg(folder.join("probe"))
-            .arg("-lz"),
-    )
+    gcc.arg(&probe).arg("-o").arg(folder.join("probe"));
+    succeeds(gcc.arg(format!("-l{}", library.linked)))
 }
 
 // The first line that a tool says of its version.
@@ -67,15 +86,21 @@ fn version(tool: &str) -> String {
 fn main() {
     println!("cargo:rerun-if-changed=build.rs");
     println!("cargo:rerun-if-changed={SOURCE}");
-    println!("cargo:rustc-check-cfg=cfg(zlib)");
     let folder = PathBuf::from(env::var_os("OUT_DIR").unwrap_or_default());
     if !compile(&folder, "slicing.o", &[]) {
         fail(&format!("{} could not compile {SOURCE}", compiler()));
     }
-    let mut objects = vec!["slicing.o"];
-    let zlib = has_zlib(&folder) && compile(&folder, "zlib.o", &["-DZLIB"]);
-    if zlib {
-        objects.push("zlib.o");
+    let mut objects = vec!["slicing.o".to_owned()];
+    let mut installed = Vec::new();
+    for library in &LIBRARIES {
+        let name = library.name;
+        println!("cargo:rustc-check-cfg=cfg({name})");
+        let object = format!("{name}.o");
+        if has(library, &folder) && compile(&folder, &object, &[library.flag]) {
+            println!("cargo:rustc-cfg={name}");
+            objects.push(object);
+            installed.push(library.linked);
+        }
     }
     // an archive of an earlier build may hold an object that is no longer wanted
     let archive = folder.join("libbaseline.a");
@@ -87,10 +112,9 @@ fn main() {
     }
     println!("cargo:rustc-link-search=native={}", folder.display());
     println!("cargo:rustc-link-lib=static=baseline");
-    // behind the archive that calls it, since some linkers go by the order
-    if zlib {
-        println!("cargo:rustc-link-lib=z");
-        println!("cargo:rustc-cfg=zlib");
+    // behind the archive that calls them, since some linkers go by the order
+    for linked in installed {
+        println!("cargo:rustc-link-lib={linked}");
     }
     let rustc = env::var("RUSTC").unwrap_or_else(|_| "rustc".to_owned());
     println!("cargo:rustc-env=BENCH_RUSTC={}", version(&rustc));

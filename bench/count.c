@@ -1,7 +1,7 @@
 /*
- * The driver of tools/count_instructions: `count walk|keep|add|read|explain|plain|send|lanes OCTETS FRAMES` has that many untagged frames of that size
- * walked in one call, walked and kept in a log, added to a size table, read or explained one by one, pushed symbol by symbol, or sent one by one, also on
- * the four-lane port. They are good ones of a type, to the own address; of 0 octets they are Starts alone, each of which cuts the one before it. All that is
+ * The driver of tools/count_instructions: `count walk|keep|add|read|full|explain|plain|send|lanes OCTETS FRAMES` has that many untagged frames of that
+ * size walked in one call, walked and kept in a log, added to a size table, read one by one, also with a full table, explained one by one, pushed symbol by
+ * symbol, or sent one by one, also on the four-lane port. They are good ones of a type, to the own address; of 0 octets they are Starts alone, each of which cuts the one before it. All that is
  * done beside is the same for any number of frames, so that the difference between two numbers is what the frames took. Exits with 1 if an answer is not as
  * expected.
  */
@@ -14,6 +14,7 @@
 #define LINE FENHAMPER_MOST_SYMBOLS
 #define BESIDE_DATA 18 /* addresses, field and FCS */
 #define START 0xFB
+#define SPARE_RECORDS 1024
 
 static const fenhamper_address own = {{0x02, 0x00, 0x00, 0x00, 0x00, 0x01}};
 
@@ -92,6 +93,16 @@ static void read_frames(size_t frames) {
   }
 }
 
+/* Two jobs hold all entries; none of them is a frame's destination. */
+static void fill_table(void) {
+  size_t i, entry;
+  for (i = 0; i < FENHAMPER_ENTRIES; i++) {
+    fenhamper_address group = {{0x01, 0x00, 0x5E, 0x00, 0x00, 0x00}};
+    group.octets[5] = (uint8_t)i;
+    expect(fenhamper_table_add(&table, i < FENHAMPER_MOST_HELD ? 0 : 1, &group, &entry) == 0, "an entry is refused");
+  }
+}
+
 static void explain_frames(size_t frames) {
   fenhamper_explained explained;
   size_t place = 0;
@@ -110,11 +121,13 @@ static void walk_frames(size_t frames, size_t symbols) {
   expect(fenhamper_counter(&state, outcome) == frames, "a frame has another outcome");
 }
 
-/* Into a log with room for all of them and more. */
+/* Into a log with room for all of them and more, as the benchmark's: a slot takes its instructions too. */
 static void keep_frames(size_t frames, size_t symbols) {
   fenhamper_kept kept;
+  size_t room = (frames + SPARE_RECORDS) * sizeof *kept_records;
   if (frames == 0) return;
-  fenhamper_walk_log(&settings, 0, &table, &state, octets, symbols, marks, symbols, 0, (uint8_t *)kept_records, sizeof kept_records, &kept);
+  expect(room <= sizeof kept_records, "so many records do not fit");
+  fenhamper_walk_log(&settings, 0, &table, &state, octets, symbols, marks, symbols, 0, (uint8_t *)kept_records, room, &kept);
   expect(kept.refusal == 0 && kept.records == frames, "the walk keeps other Starts");
   expect(kept_records[frames - 1].outcome == outcome, "a frame has another outcome");
 }
@@ -143,7 +156,7 @@ static void push_frames(size_t frames, size_t symbols) {
 
 int main(int words, char **word) {
   size_t size, frames, frame, symbols;
-  expect(words == 4, "count walk|keep|add|read|explain|plain|send|lanes OCTETS FRAMES");
+  expect(words == 4, "count walk|keep|add|read|full|explain|plain|send|lanes OCTETS FRAMES");
   size = number(word[2]);
   frames = number(word[3]);
   expect(size == 0 || (size >= FENHAMPER_LEAST_FRAME && size <= BESIDE_DATA + sizeof data), "a frame has 64 to 1518 octets");
@@ -156,6 +169,8 @@ int main(int words, char **word) {
     case 'w': walk_frames(frames, symbols); break;
     case 'k': keep_frames(frames, symbols); break;
     case 'a': add_frames(frames, symbols); break;
+    case 'f': fill_table(); /* and as the next */
+    /* fall through */
     case 'r': read_frames(frames); break;
     case 'p': push_frames(frames, symbols); break;
     case 'e': explain_frames(frames); break;

@@ -5,10 +5,10 @@
  *                 fenhamper), which itself needs memset and nothing else.
  *   Memory        No heap. The archive is code and constants: it has no data section, neither .data nor .bss.
  *   Reentrant     Yes. Nothing is kept between calls but what the caller lends.
- *   Stack         At most FENHAMPER_STACK_READ octets for a reading, its reason or a call on a log or a table,
- *                 .._SCREEN for the screen's data, .._SEND for a sending call, .._COUNTED for one with totals,
- *                 .._WALK for a walk or a capture whose sizes are added, of which 16 KB are for tables of the FCS,
- *                 .._PLAIN for a symbol of the plain reader; a test measures them.
+ *   Stack         Under 20 KB for a walk, into a log or not, or a capture whose sizes are added, 16 KB of it for
+ *                 tables of the FCS; under 4 KB for any other call. FENHAMPER_STACK_.. are the octets by call, with
+ *                 its return address and arguments; tools/stack.py reckons them from the archive's code, over
+ *                 every path.
  *   Client data   Of a reading: data_length octets from octets + data_place on, in the caller's own octets and
  *                 never a copy. They always lie inside, so that no fenhamper_client_data is needed for them.
  *
@@ -78,12 +78,12 @@ static uint32_t (*const fenhamper_layout)(void) __attribute__((used)) = fenhampe
 #define FENHAMPER_RECORD_SIZE 16     /* octets of a record of a log */
 #define FENHAMPER_BLOCK 256          /* symbols, of which one total counts the Starts */
 #define FENHAMPER_MOST_BLOCKS 256    /* of a capture and of line buffers */
-#define FENHAMPER_STACK_READ 1280    /* octets of stack that a call takes at most, but for those below */
-#define FENHAMPER_STACK_SCREEN 1536  /* fenhamper_screen_data */
-#define FENHAMPER_STACK_SEND 640     /* the sending calls and Idle fill, and the two calls on totals alone */
-#define FENHAMPER_STACK_COUNTED 768  /* the sending calls and Idle fill with totals */
-#define FENHAMPER_STACK_WALK 18944   /* fenhamper_walk, fenhamper_walk_log and fenhamper_sizes_add_capture */
-#define FENHAMPER_STACK_PLAIN 1536   /* fenhamper_plain_symbol and fenhamper_plain_fresh */
+#define FENHAMPER_STACK_READ 1280    /* every call but those below: octets of stack that it takes at most */
+#define FENHAMPER_STACK_SCREEN 1536  /* screen_data */
+#define FENHAMPER_STACK_SEND 640     /* send_client, send_pause, send_pfc, fill_idle, fill_totals, starts_before */
+#define FENHAMPER_STACK_COUNTED 768  /* send_client_counted, send_pause_counted, send_pfc_counted, fill_idle_counted */
+#define FENHAMPER_STACK_WALK 18944   /* walk, walk_log, sizes_add_capture */
+#define FENHAMPER_STACK_PLAIN 1536   /* plain_symbol, plain_fresh */
 #define FENHAMPER_PLAIN_FIRST 53     /* octets of a run that the plain reader keeps from its front, */
 #define FENHAMPER_PLAIN_LAST 4       /* and from its end */
 #define FENHAMPER_BANDS 7            /* of frame lengths, in a table of sizes */

@@ -42,7 +42,19 @@ extern "C" {
     ) -> Walked;
 }
 
-/// One of the two builds of the C reader, made ready.
+#[cfg(isal)]
+extern "C" {
+    fn baseline_isal_setup() -> *const c_char;
+    fn baseline_isal_walk(
+        limit: u16,
+        counters: &mut [u64; 11],
+        octets: *const u8,
+        marks: *const u8,
+        length: usize,
+    ) -> Walked;
+}
+
+/// One of the three builds of the C reader, made ready.
 #[derive(Clone, Copy)]
 pub struct Reader {
     walk: Walk,
@@ -67,6 +79,23 @@ impl Reader {
         return Some(Reader::ready(baseline_zlib_setup, baseline_zlib_walk));
         #[cfg(not(zlib))]
         return None;
+    }
+
+    /// With libisal's check, by carry-less multiplication, and libisal's version; nothing where it
+    /// is not installed.
+    pub fn isal() -> Option<(Reader, String)> {
+        #[cfg(isal)]
+        return Some(Reader::ready(baseline_isal_setup, baseline_isal_walk));
+        #[cfg(not(isal))]
+        return None;
+    }
+
+    /// All there are.
+    #[cfg(test)]
+    pub fn all() -> Vec<Reader> {
+        let libraries = [Reader::zlib(), Reader::isal()].into_iter().flatten();
+        let libraries = libraries.map(|(reader, _)| reader);
+        [Reader::slicing()].into_iter().chain(libraries).collect()
     }
 
     pub fn walk(&self, limit: u16, counters: &mut [u64; 11], line: &Line) -> Walked {

@@ -27,7 +27,7 @@ use rivals::{Proved, ProvedSender, Rival, RoomMaker, Whose};
 
 const USAGE: &str = "\
 bench/run [--markdown FILE] [--rounds N] [--turn MILLISECONDS]
-  --markdown FILE  also write the tables to FILE; if it has the two marks of docs/SPEED.md, between them
+  --markdown FILE  also write the tables to FILE; if it has the marks of docs/SPEED.md, between them
   --rounds N       how often all rivals take their turn (7)
   --turn N         how many milliseconds a turn lasts at least (50)";
 
@@ -67,13 +67,16 @@ const COUNTED: [&str; 3] = ["all Idle", "64", "all Starts"];
 /// Where they are asked; the look is into a whole block but for one symbol.
 const ASKED: usize = SYMBOLS - 1;
 
+/// What there is no C for.
+const NOT_IN_C: [Option<f64>; 3] = [None; 3];
+
 /// How many captures the tool's `count` has in one file.
 const IN_A_FILE: usize = 100;
 
 struct Bench {
     effort: Effort,
-    slicing: Reader,
-    zlib: Option<Reader>,
+    // with a check of its own, with zlib's, with libisal's
+    in_c: [Option<Reader>; 3],
 }
 
 impl Bench {
@@ -91,25 +94,22 @@ impl Bench {
         let proved = |by| Box::new(Proved::new(by, line, limit));
         let independent = |check, by| Box::new(Independent::new(check, by, line, limit));
         let in_c = |reader| Box::new(InC::new(reader, line, limit));
-        let row = |call, ours, others: [Option<f64>; 4]| {
-            let [byte, by_16, slicing, zlib] = others;
-            Row {
+        let row =
+            |call, [ours, byte, by_16]: [f64; 3], [slicing, zlib, isal]: [Option<f64>; 3]| Row {
                 call,
                 capture: name,
                 hostile: !kind.has_frames(),
-                rates: [Some(ours), byte, by_16, slicing, zlib],
-            }
-        };
+                rates: [Some(ours), Some(byte), Some(by_16), slicing, zlib, isal],
+            };
 
         let mut walks: Rivals = vec![
             proved(By::Walk),
             proved(By::WalkLog),
             independent(Check::ByteTable, By::Walk),
             independent(Check::Slicing16, By::Walk),
-            in_c(self.slicing),
         ];
-        if let Some(zlib) = self.zlib {
-            walks.push(in_c(zlib));
+        for reader in self.in_c.into_iter().flatten() {
+            walks.push(in_c(reader));
         }
         let mut reads: Rivals = vec![
             proved(By::Read),
@@ -152,32 +152,19 @@ impl Bench {
         let added = walk.split_off(pushing);
         let plain = walk.split_off(walking);
         let read = self.rates(symbols, &mut reads);
-        let zlib = walk.get(5).copied();
-        let walkers = [Some(walk[2]), Some(walk[3]), Some(walk[4]), zlib];
-        let byte_and_16 = [Some(read[2]), Some(read[3]), None, None];
+        let mut in_c = walk.split_off(4).into_iter();
+        let in_c = self.in_c.map(|reader| reader.and_then(|_| in_c.next()));
         let mut rows = vec![
-            row("walk", walk[0], walkers),
-            row("walk_log", walk[1], walkers),
-            row(
-                "add_capture",
-                added[0],
-                [Some(added[1]), Some(added[2]), None, None],
-            ),
-            row("read", read[0], byte_and_16),
-            row(
-                "explain",
-                read[4],
-                [Some(read[5]), Some(read[6]), None, None],
-            ),
-            row(
-                "plain",
-                plain[0],
-                [Some(plain[1]), Some(plain[2]), None, None],
-            ),
+            row("walk", [walk[0], walk[2], walk[3]], in_c),
+            row("walk_log", [walk[1], walk[2], walk[3]], in_c),
+            row("add_capture", [added[0], added[1], added[2]], NOT_IN_C),
+            row("read", [read[0], read[2], read[3]], NOT_IN_C),
+            row("explain", [read[4], read[5], read[6]], NOT_IN_C),
+            row("plain", [plain[0], plain[1], plain[2]], NOT_IN_C),
         ];
         // the iterator is the same call for each Start: good traffic shows what it adds or saves
         if kind.has_frames() {
-            rows.push(row("readings", read[1], byte_and_16));
+            rows.push(row("readings", [read[1], read[2], read[3]], NOT_IN_C));
         }
         rows
     }
@@ -228,7 +215,14 @@ impl Bench {
             call,
             capture: kind.name,
             hostile: false,
-            rates: [Some(rates[0]), Some(rates[1]), Some(rates[2]), None, None],
+            rates: [
+                Some(rates[0]),
+                Some(rates[1]),
+                Some(rates[2]),
+                None,
+                None,
+                None,
+            ],
         };
         SENDINGS.into_iter().zip(rates.chunks(3)).map(row).collect()
     }
@@ -316,8 +310,10 @@ impl Bench {
                 Box::new(Proved::new(By::WalkLog, &line, kind.limit)),
             ];
             agree(kind.name, &mut rivals);
-            let rates = bench.rates(line.octets.len(), &mut rivals);
+            let symbols = line.octets.len();
+            let rates = bench.rates(symbols, &mut rivals);
             Some(Cell {
+                symbols,
                 walk: 1.0 / rates[0],
                 ratio: rates[0] / rates[1],
                 walk_log: 1.0 / rates[2],
@@ -376,7 +372,6 @@ impl Bench {
         rows.sort_by_key(|row| order.iter().position(|call| *call == row.call));
         Ok(Report {
             machine,
-            zlib: self.zlib.is_some(),
             rows,
             listed,
             room,
@@ -389,17 +384,20 @@ impl Bench {
 }
 
 // The processor's model, and what compiled the rivals.
-fn machine(zlib: Option<&str>) -> Vec<String> {
+fn machine(libraries: &[(&str, Option<(Reader, String)>)]) -> Vec<String> {
     let info = fs::read_to_string("/proc/cpuinfo").unwrap_or_default();
     let mut models = info.lines().filter(|line| line.starts_with("model name"));
     let model = models.next().and_then(|line| line.split_once(": "));
-    let zlib = zlib.map_or("not installed", |version| version);
-    vec![
+    let mut lines = vec![
         format!("processor: {}", model.map_or("unknown", |(_, name)| name)),
         format!("Rust, for release: {}", env!("BENCH_RUSTC")),
         format!("C, -O3: {}", env!("BENCH_GCC")),
-        format!("zlib: {zlib}"),
-    ]
+    ];
+    for (name, found) in libraries {
+        let version = found.as_ref().map_or("not installed", |(_, v)| v.as_str());
+        lines.push(format!("{name}: {version}"));
+    }
+    lines
 }
 
 // The value behind an option, as a number.
@@ -420,21 +418,26 @@ fn run() -> Result<(), String> {
             _ => return Err(USAGE.to_owned()),
         }
     }
-    let zlib = Reader::zlib();
+    let libraries = [("zlib", Reader::zlib()), ("libisal", Reader::isal())];
+    let mut machine = machine(&libraries);
+    machine.push(format!(
+        "timed: {rounds} rounds of {turn} ms for each rival"
+    ));
+    let [zlib, isal] = libraries.map(|(_, found)| found.map(|(reader, _)| reader));
     let bench = Bench {
         effort: Effort {
             rounds: rounds as usize,
             turn: Duration::from_millis(turn),
         },
-        slicing: Reader::slicing(),
-        zlib: zlib.as_ref().map(|(reader, _)| *reader),
+        in_c: [Some(Reader::slicing()), zlib, isal],
     };
-    let version = zlib.as_ref().map(|(_, version)| version.as_str());
-    let figures = bench.report(machine(version))?.markdown();
-    println!("{figures}");
+    let sections = bench.report(machine)?.sections();
+    for (_, text) in &sections {
+        println!("{text}");
+    }
     if let Some(file) = markdown {
         let document = fs::read_to_string(&file).unwrap_or_default();
-        let written = fs::write(&file, placed(&document, &figures));
+        let written = fs::write(&file, placed(&document, &sections)?);
         written.map_err(|error| format!("{file}: {error}"))?;
     }
     Ok(())

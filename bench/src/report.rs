@@ -1,16 +1,29 @@
 //! The tables, in markdown.
 use std::fmt::Write;
 
+use crate::captures::SYMBOLS;
+
 /// The columns of figures: ours, and those that it is compared with.
-pub const COLUMNS: [&str; 5] = [
+pub const COLUMNS: [&str; 6] = [
     "Fenhamper",
     "reference, byte table",
     "reference, by 16",
     "C, by 16",
     "C, zlib",
+    "C, libisal",
 ];
 const BY_16: usize = 2;
+const C_BY_16: usize = 3;
 const ZLIB: usize = 4;
+const ISAL: usize = 5;
+
+// What the first page shows, of good traffic: a line of 10 Gbit/s has 1.25 * 10^9 symbols a second.
+const SHOWN: [&str; 3] = ["walk", "read", "send"];
+const GOOD: [&str; 4] = ["64", "mix", "1518", "9018"];
+const LINE_RATE: f64 = 1.25;
+
+// From so many symbols on a walk makes tables of the FCS.
+const TABLES_FROM: usize = 8192;
 
 // Calls that are compared with each other.
 const LOGGED: (&str, &str) = ("walk_log", "walk");
@@ -18,6 +31,20 @@ const SIZED: (&str, &str) = ("add_capture", "walk");
 const EXPLAINED: (&str, &str) = ("explain", "read");
 const PUSHED: (&str, &str) = ("walk", "plain");
 const COUNTED: (&str, &str) = ("send, totals", "send");
+
+// Between the captures of one ratio.
+const BETWEEN: &str = " / ";
+
+// The captures whose cost is told as that of a call by itself and of each symbol.
+const GROWN: [&str; 7] = [
+    "64",
+    "mix",
+    "1518",
+    "9018",
+    "all Starts",
+    "all data",
+    "all Idle",
+];
 
 // Frames that the check finds damaged.
 const DAMAGED: &str = "83, wrong FCS";
@@ -27,7 +54,7 @@ pub struct Row {
     pub call: &'static str,
     pub capture: &'static str,
     pub hostile: bool,
-    pub rates: [Option<f64>; 5],
+    pub rates: [Option<f64>; COLUMNS.len()],
 }
 
 impl Row {
@@ -82,6 +109,8 @@ impl OfFile {
 /// What was measured on a capture of one size.
 #[derive(Clone, Copy)]
 pub struct Cell {
+    /// The whole frames that fit.
+    pub symbols: usize,
     /// Nanoseconds per symbol of `walk`.
     pub walk: f64,
     /// How many times as fast as the reference by 16 it is.
@@ -97,17 +126,62 @@ pub struct Growth {
     pub cells: Vec<Option<Cell>>,
 }
 
-// What was asked for, and what was measured.
-struct Target {
-    text: String,
+// What was asked of a ratio on one capture, and what was measured.
+struct Place {
+    capture: String,
     asked: f64,
     measured: Option<f64>,
+}
+
+impl Place {
+    fn is_missed(&self) -> bool {
+        self.measured.is_some_and(|measured| measured < self.asked)
+    }
+}
+
+// A ratio that was asked for.
+struct Target {
+    text: String,
+    places: Vec<Place>,
+}
+
+impl Target {
+    // On which captures, what was asked, what was measured, and whether that is enough.
+    fn cells(&self) -> [String; 5] {
+        // one for each capture, or one for all where all are the same
+        let all = |of: &dyn Fn(&Place) -> String| {
+            let mut cells: Vec<String> = self.places.iter().map(of).collect();
+            if cells.iter().all(|one| *one == cells[0]) {
+                cells.truncate(1);
+            }
+            cells.join(BETWEEN)
+        };
+        let tenths = |n: f64| if n * 10.0 % 1.0 == 0.0 { 1 } else { 2 };
+        let missed: Vec<&Place> = self.places.iter().filter(|p| p.is_missed()).collect();
+        let unmeasured = self.places.iter().any(|p| p.measured.is_none());
+        let verdict = if unmeasured || self.places.is_empty() {
+            "not measured".to_owned()
+        } else if missed.is_empty() {
+            "met".to_owned()
+        } else if missed.len() == self.places.len() {
+            "**missed**".to_owned()
+        } else {
+            let at: Vec<&str> = missed.iter().map(|p| p.capture.as_str()).collect();
+            format!("**missed**: {}", at.join(BETWEEN))
+        };
+        [
+            self.text.clone(),
+            all(&|p| p.capture.clone()),
+            all(&|p| cell(Some(p.asked), tenths(p.asked))),
+            all(&|p| cell(p.measured, 2)),
+            verdict,
+        ]
+    }
 }
 
 /// All that was measured.
 pub struct Report {
     pub machine: Vec<String>,
-    pub zlib: bool,
     pub rows: Vec<Row>,
     pub listed: Vec<Listed>,
     pub room: Vec<Room>,
@@ -135,6 +209,39 @@ fn least(ratios: impl Iterator<Item = (f64, String)>) -> Option<(f64, String)> {
     ratios.min_by(|a, b| a.0.total_cmp(&b.0))
 }
 
+// A ratio that was asked for on these captures, by how it was measured on each.
+fn target(text: &str, asked: Vec<(&str, f64)>, measured: impl Fn(&str) -> Option<f64>) -> Target {
+    let place = |(capture, asked): (&str, f64)| Place {
+        capture: capture.to_owned(),
+        asked,
+        measured: measured(capture),
+    };
+    Target {
+        text: text.to_owned(),
+        places: asked.into_iter().map(place).collect(),
+    }
+}
+
+// The line that is nearest to the points, by the square of what each is off in parts of itself: its height at 0, and
+// how much it rises.
+fn fitted(points: &[(usize, f64)]) -> Option<(f64, f64)> {
+    let (first, last) = (points.first()?, points.last()?);
+    if first.0 == last.0 {
+        return None;
+    }
+    let (mut w, mut wx, mut wy, mut wxx, mut wxy) = (0.0, 0.0, 0.0, 0.0, 0.0);
+    for &(symbols, y) in points {
+        let (x, weight) = (symbols as f64, 1.0 / (y * y));
+        w += weight;
+        wx += weight * x;
+        wy += weight * y;
+        wxx += weight * x * x;
+        wxy += weight * x * y;
+    }
+    let rise = (w * wxy - wx * wy) / (w * wxx - wx * wx);
+    Some(((wy - rise * wx) / w, rise))
+}
+
 // A line of a table.
 fn line(out: &mut String, cells: impl IntoIterator<Item = String>) {
     let cells: Vec<String> = cells.into_iter().collect();
@@ -158,12 +265,8 @@ impl Report {
 
     fn rates(&self, out: &mut String) {
         out.push_str("### Symbols per second\n\n");
-        out.push_str("In 10^9 symbols per second; the last four columns say how many times as fast as each of the others Fenhamper is. In rows of\n");
-        out.push_str("`walk_log` the others walk and keep no log.\n");
-        if !self.zlib {
-            out.push_str("zlib not installed.\n");
-        }
-        out.push('\n');
+        out.push_str("In 10^9 symbols per second; the last five columns say how many times as fast as each of the others Fenhamper is. In rows of\n");
+        out.push_str("`walk_log` the others walk and keep no log.\n\n");
         let mut names = vec!["Call".to_owned(), "Capture".to_owned()];
         names.extend(COLUMNS.map(str::to_owned));
         names.extend(COLUMNS[1..].iter().map(|name| format!("to {name}")));
@@ -326,100 +429,168 @@ impl Report {
         )
     }
 
-    fn targets(&self) -> Vec<Target> {
-        let mut targets = Vec::new();
-        let mut ask = |text: String, asked: f64, measured: Option<f64>| {
-            targets.push(Target {
-                text,
-                asked,
-                measured,
-            })
-        };
-        let ratio = |call, capture, column| self.row(call, capture)?.ratio(column);
-        for (capture, asked) in [("64", 2.0), ("mix", 2.0), ("1518", 1.5), ("9018", 1.5)] {
-            ask(
-                format!("`walk` to reference, by 16: {capture}"),
-                asked,
-                ratio("walk", capture, BY_16),
-            );
-        }
-        for capture in ["64", "mix", "1518", "9018"] {
-            ask(
-                format!("`read` to reference, by 16: {capture}"),
-                1.5,
-                ratio("read", capture, BY_16),
-            );
-        }
-        ask(
-            "`walk_log` to `walk`: 64".to_owned(),
-            0.8,
-            self.beside(LOGGED, "64"),
-        );
-        ask(
-            "`walk_log` to reference's walk, by 16: all Starts".to_owned(),
-            0.5,
-            ratio("walk_log", "all Starts", BY_16),
-        );
-        for capture in ["64", "mix", "1518", "9018", DAMAGED] {
-            ask(
-                format!("`add_capture` to `walk`, at most 1.1 times its time: {capture}"),
-                1.0 / 1.1,
-                self.beside(SIZED, capture),
-            );
-        }
-        for capture in ["64", "mix", "1518", "9018", DAMAGED] {
-            ask(
-                format!("`explain` to `read`, at most 1.3 times its time: {capture}"),
-                1.0 / 1.3,
-                self.beside(EXPLAINED, capture),
-            );
-        }
-        for capture in ["64", "mix", "1518"] {
-            ask(
-                format!("`walk` to C, zlib: {capture}"),
-                1.0,
-                ratio("walk", capture, ZLIB),
-            );
-        }
-        for capture in ["64", "mix", "1518", "9018"] {
-            ask(
-                format!("sending to reference, by 16: {capture}"),
-                1.2,
-                ratio("send", capture, BY_16),
-            );
-        }
-        for of_file in &self.of_files {
-            ask(
-                format!(
-                    "`count` of 100 captures to `walk` and reading the file, at most 1.5 times their time: {}",
-                    of_file.capture
-                ),
-                1.0 / 1.5,
-                of_file.ratio(),
-            );
-        }
-        let worst = [
-            ("`walk` on hostile captures", self.worst("walk")),
-            ("`walk_log` on hostile captures", self.worst("walk_log")),
-            ("`read` on hostile captures", self.worst("read")),
-            (
-                "`walk` on those of 1K to 64K symbols",
-                self.worst_by_size(|size| size >= 1024),
-            ),
-            (
-                "`walk` on those under 1K symbols",
-                self.worst_by_size(|size| size < 1024),
-            ),
-        ];
-        for (call, (ratio, capture)) in worst.into_iter().filter_map(|(c, w)| Some((c, w?))) {
-            let text = format!("{call} to reference, by 16: the worst, {capture}");
-            ask(text, 0.5, Some(ratio));
-        }
-        targets
+    // The size from 1K to 8K symbols at which `walk` does worst on frames of one kind.
+    fn worst_of_short(&self, capture: &str) -> Option<(f64, String)> {
+        let growth = self.growth.iter().find(|g| g.capture == capture)?;
+        let cells = self.sizes.iter().zip(&growth.cells);
+        let short = cells.filter(|&(&size, _)| (1024..=8192).contains(&size));
+        let name = |size| format!("{capture} at {}", size_name(size));
+        least(short.filter_map(|(&size, cell)| Some(((*cell)?.ratio, name(size)))))
     }
 
-    /// The whole report.
-    pub fn markdown(&self) -> String {
+    // All that was asked for: here and nowhere else.
+    fn targets(&self) -> Vec<Target> {
+        let to = |call, column| move |capture: &str| self.row(call, capture)?.ratio(column);
+        let beside = |calls| move |capture: &str| self.beside(calls, capture);
+        let lines = |capture: &str| Some(self.row("walk", capture)?.rates[0]? / LINE_RATE);
+        let of_file = |capture: &str| {
+            let mut files = self.of_files.iter();
+            files.find(|of_file| of_file.capture == capture)?.ratio()
+        };
+        let good = |asked: [f64; 4]| GOOD.into_iter().zip(asked).collect::<Vec<_>>();
+        let with_damaged = |asked| [&good([asked; 4])[..], &[(DAMAGED, asked)]].concat();
+        // the worst of several, which is known when they are measured
+        let worst = |text: &str, asked, places: Vec<Option<(f64, String)>>| Target {
+            text: format!("{text} to reference, by 16, the worst"),
+            places: places
+                .into_iter()
+                .flatten()
+                .map(|(ratio, capture)| Place {
+                    capture,
+                    asked,
+                    measured: Some(ratio),
+                })
+                .collect(),
+        };
+        vec![
+            target("`walk` to C, by 16", good([1.05, 1.3, 1.9, 2.3]), to("walk", C_BY_16)),
+            target("`walk` to C, zlib", good([1.0, 1.0, 2.0, 2.0]), to("walk", ZLIB)),
+            target("`walk` in lines of 10 Gbit/s", vec![("1518", 5.0)], lines),
+            target("`walk` to reference, by 16", good([2.0, 2.0, 1.5, 1.5]), to("walk", BY_16)),
+            worst(
+                "`walk` of 1K to 8K symbols",
+                2.5,
+                GOOD.map(|capture| self.worst_of_short(capture)).into(),
+            ),
+            target("`read` to reference, by 16", good([1.5, 3.0, 5.0, 8.0]), to("read", BY_16)),
+            target("`send` to reference, by 16", good([1.7, 1.9, 2.6, 3.4]), to("send", BY_16)),
+            target(
+                "`walk_log`, many readings in one call, to reference's walk, by 16",
+                vec![("64", 3.0), ("all Starts", 1.0)],
+                to("walk_log", BY_16),
+            ),
+            target("`walk_log` to `walk`", vec![("64", 0.8)], beside(LOGGED)),
+            worst("`walk` on hostile captures", 0.9, vec![self.worst("walk")]),
+            worst("`walk_log` on hostile captures", 0.9, vec![self.worst("walk_log")]),
+            worst(
+                "`walk` on hostile captures of 1K to 64K symbols",
+                0.9,
+                vec![self.worst_by_size(|size| size >= 1024)],
+            ),
+            worst(
+                "`walk` on hostile captures under 1K symbols",
+                0.9,
+                vec![self.worst_by_size(|size| size < 1024)],
+            ),
+            worst("`read` on hostile captures", 0.5, vec![self.worst("read")]),
+            target(
+                "`add_capture` to `walk`: at most 1.1 times its time",
+                with_damaged(1.0 / 1.1),
+                beside(SIZED),
+            ),
+            target(
+                "`explain` to `read`: at most 1.3 times its time",
+                with_damaged(1.0 / 1.3),
+                beside(EXPLAINED),
+            ),
+            target(
+                "`count` of 100 captures to `walk` and reading the file: at most 1.5 times their time",
+                good([1.0 / 1.5; 4]),
+                of_file,
+            ),
+        ]
+    }
+
+    // The first page: walk, read and send on good traffic.
+    fn overview(&self) -> String {
+        let mut out = String::new();
+        let names = [
+            "Call",
+            "Frames",
+            "10^9 symbols/s",
+            "lines of 10 Gbit/s",
+            "to reference, by 16",
+            "to C, by 16",
+            "to C, zlib",
+            "to C, libisal",
+        ];
+        head(&mut out, names.map(str::to_owned).to_vec(), 2);
+        let shown = SHOWN.into_iter().flat_map(|call| GOOD.map(|c| (call, c)));
+        for row in shown.filter_map(|(call, capture)| self.row(call, capture)) {
+            let rate = row.rates[0];
+            let mut cells = vec![format!("`{}`", row.call), row.capture.to_owned()];
+            cells.extend([cell(rate, 2), cell(rate.map(|r| r / LINE_RATE), 1)]);
+            cells.extend([BY_16, C_BY_16, ZLIB, ISAL].map(|column| cell(row.ratio(column), 2)));
+            line(&mut out, cells);
+        }
+        out
+    }
+
+    // What was asked, and what was reached.
+    fn asked(&self) -> String {
+        let mut out = String::new();
+        let names = ["Ratio", "captures", "asked", "reached", ""].map(str::to_owned);
+        head(&mut out, names.to_vec(), 5);
+        for target in self.targets() {
+            line(&mut out, target.cells());
+        }
+        out
+    }
+
+    // What a walk costs by itself and for each symbol, without tables and with them, and from how many symbols on the
+    // tables pay, if they do in any capture.
+    fn by_itself(&self) -> String {
+        let mut out = String::new();
+        let names = [
+            "Capture",
+            "a short walk by itself, ns",
+            "each symbol, ns",
+            "a long walk by itself, ns",
+            "each symbol, ns",
+            "tables pay from, symbols",
+        ];
+        head(&mut out, names.map(str::to_owned).to_vec(), 1);
+        let grown = self.growth.iter().filter(|g| GROWN.contains(&g.capture));
+        for growth in grown {
+            let walks = growth.cells.iter().flatten();
+            let walks = walks.map(|c| (c.symbols, c.symbols as f64 * c.walk));
+            let (short, long): (Vec<_>, Vec<_>) = walks.partition(|w| w.0 < TABLES_FROM);
+            let (short, long) = (fitted(&short), fitted(&long));
+            let pay = short.zip(long).map(|(s, l)| (l.0 - s.0) / (s.1 - l.1));
+            let pay = pay.filter(|&symbols| (0.0..=SYMBOLS as f64).contains(&symbols));
+            let mut cells = vec![growth.capture.to_owned()];
+            for fit in [short, long] {
+                cells.push(cell(fit.map(|(by_itself, _)| by_itself), 0));
+                cells.push(cell(fit.map(|(_, each)| each), 3));
+            }
+            cells.push(cell(pay, 0));
+            line(&mut out, cells);
+        }
+        out
+    }
+
+    /// What goes between the marks of the page, by their names.
+    pub fn sections(&self) -> [(&'static str, String); 4] {
+        [
+            ("overview", self.overview()),
+            ("asked", self.asked()),
+            ("growth", self.by_itself()),
+            ("figures", self.figures()),
+        ]
+    }
+
+    // All that was measured.
+    fn figures(&self) -> String {
         let mut out = String::from("### Machine\n\n");
         for line in &self.machine {
             let _ = writeln!(out, "- {line}");
@@ -452,39 +623,31 @@ impl Report {
             "\n### `walk_log`: nanoseconds per symbol by the capture's size in symbols\n\n",
         );
         self.by_size(&mut out, 3, |cell| cell.walk_log);
-        out.push_str("\n### Targets\n\n");
-        let names = ["Target", "asked", "measured", ""].map(str::to_owned);
-        head(&mut out, names.to_vec(), 1);
-        for target in self.targets() {
-            let verdict = match target.measured {
-                None => "not measured",
-                Some(measured) if measured >= target.asked => "met",
-                Some(_) => "**missed**",
-            };
-            let digits = if target.asked * 10.0 % 1.0 == 0.0 {
-                1
-            } else {
-                2
-            };
-            let asked = cell(Some(target.asked), digits);
-            let cells = [target.text, asked, cell(target.measured, 2)];
-            line(&mut out, cells.into_iter().chain([verdict.to_owned()]));
-        }
         out
     }
 }
 
-const BEGIN: &str = "<!-- figures: bench/run --markdown writes from here -->\n";
-const END: &str = "<!-- figures: to here -->\n";
-
-/// The document with these figures in place of those between its two marks; without marks, the
-/// figures alone.
-pub fn placed(document: &str, figures: &str) -> String {
-    let parts = document
-        .split_once(BEGIN)
-        .and_then(|(before, rest)| Some((before, rest.split_once(END)?.1)));
-    match parts {
-        Some((before, after)) => format!("{before}{BEGIN}\n{figures}\n{END}{after}"),
-        None => figures.to_owned(),
+/// The document with each text in place of what stands between the two marks of its name; the texts
+/// alone where there are no marks at all.
+pub fn placed(document: &str, sections: &[(&'static str, String)]) -> Result<String, String> {
+    let marks = |name| {
+        let begin = format!("<!-- {name}: bench/run --markdown writes from here -->\n");
+        (begin, format!("<!-- {name}: to here -->\n"))
+    };
+    if !sections
+        .iter()
+        .any(|(name, _)| document.contains(&marks(name).0))
+    {
+        let texts: Vec<&str> = sections.iter().map(|(_, text)| text.as_str()).collect();
+        return Ok(texts.join("\n"));
     }
+    let mut document = document.to_owned();
+    for (name, text) in sections {
+        let (begin, end) = marks(name);
+        let parts = document.split_once(&begin);
+        let parts = parts.and_then(|(before, rest)| Some((before, rest.split_once(&end)?.1)));
+        let (before, after) = parts.ok_or(format!("the marks of '{name}' are not there"))?;
+        document = format!("{before}{begin}\n{text}\n{end}{after}");
+    }
+    Ok(document)
 }

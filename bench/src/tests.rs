@@ -5,7 +5,7 @@ use crate::baseline::{self, Reader};
 use crate::captures::{data, symbols, Kind, Line, Random, FRAMES, HOSTILE};
 use crate::files::{Captures, Through, Who};
 use crate::measure::{agree, Rivals};
-use crate::report::placed;
+use crate::report::{placed, Cell, Growth, Report, Row};
 use crate::rivals::{full_log, reference_settings, Asker, By, Filler, InC, Independent};
 use crate::rivals::{IndependentSender, Job, Making, Proved, ProvedSender, Rival, RoomMaker};
 use crate::rivals::{Whose, OWN};
@@ -19,10 +19,9 @@ fn same(name: &str, line: &Line, limit: u16) -> Vec<u64> {
         Box::new(Proved::new(By::WalkLog, line, limit)),
         Box::new(Independent::new(Check::ByteTable, By::Walk, line, limit)),
         Box::new(Independent::new(Check::Slicing16, By::Walk, line, limit)),
-        Box::new(InC::new(Reader::slicing(), line, limit)),
     ];
-    if let Some((zlib, _)) = Reader::zlib() {
-        walks.push(Box::new(InC::new(zlib, line, limit)));
+    for reader in Reader::all() {
+        walks.push(Box::new(InC::new(reader, line, limit)));
     }
     let mut reads: Rivals = vec![
         Box::new(Proved::new(By::Read, line, limit)),
@@ -264,13 +263,89 @@ fn captures_are_what_they_are_called() {
 
 #[test]
 fn figures_go_between_the_marks() {
-    let begin = "<!-- figures: bench/run --markdown writes from here -->\n";
-    let end = "<!-- figures: to here -->\n";
-    let document = format!("before\n{begin}old\n{end}after\n");
-    let placed_once = placed(&document, "new\n");
-    assert_eq!(placed_once, format!("before\n{begin}\nnew\n\n{end}after\n"));
-    assert_eq!(placed(&placed_once, "new\n"), placed_once);
-    assert_eq!(placed("no marks", "new\n"), "new\n");
+    let page = |one: &str, two: &str| {
+        let marked = |name: &str, text: &str| {
+            let begin = format!("<!-- {name}: bench/run --markdown writes from here -->\n");
+            format!("before {name}\n{begin}{text}<!-- {name}: to here -->\nafter\n")
+        };
+        marked("one", one) + &marked("two", two)
+    };
+    let sections = [("one", "new\n".to_owned()), ("two", "newer\n".to_owned())];
+    let once = placed(&page("old\n", ""), &sections);
+    assert_eq!(once, Ok(page("\nnew\n\n", "\nnewer\n\n")));
+    assert_eq!(placed(&once.clone().unwrap(), &sections), once);
+    assert_eq!(
+        placed("no marks", &sections),
+        Ok("new\n\nnewer\n".to_owned())
+    );
+    let half = page("", "").replace("<!-- two: to here -->", "");
+    assert!(placed(&half, &sections).is_err());
+}
+
+// What was measured of one call on frames, by what is compared with it.
+fn row(capture: &'static str, rates: [f64; 6]) -> Row {
+    Row {
+        call: "walk",
+        capture,
+        hostile: false,
+        rates: rates.map(|rate| Some(rate).filter(|&rate| rate > 0.0)),
+    }
+}
+
+// A ratio has its row: met, missed, on which captures it is missed, or not measured.
+#[test]
+fn what_is_missed_is_told() {
+    // walks without tables and with them: 50 ns and 1 for each symbol, 3000 and a half
+    let cell = |symbols: usize, ns: f64| {
+        Some(Cell {
+            symbols,
+            walk: ns / symbols as f64,
+            ratio: 3.0,
+            walk_log: 1.0,
+        })
+    };
+    let report = Report {
+        machine: Vec::new(),
+        rows: vec![
+            row("64", [4.0, 1.0, 2.0, 3.0, 2.0, 8.0]),
+            row("mix", [4.0, 1.0, 2.0, 3.2, 2.0, 8.0]),
+            row("1518", [6.25, 1.0, 2.0, 3.0, 2.0, 0.0]),
+            row("9018", [6.0, 1.0, 2.0, 3.0, 4.0, 8.0]),
+        ],
+        listed: Vec::new(),
+        room: Vec::new(),
+        totals: Vec::new(),
+        of_files: Vec::new(),
+        sizes: vec![1024, 4096, 16_384, 65_536],
+        growth: vec![Growth {
+            capture: "64",
+            hostile: false,
+            cells: vec![
+                cell(1000, 1050.0),
+                cell(4000, 4050.0),
+                cell(16_000, 11_000.0),
+                cell(65_000, 35_500.0),
+            ],
+        }],
+    };
+    let [(_, overview), (_, asked), (_, growth), _] = report.sections();
+    assert_eq!(overview.lines().count(), 2 + 4);
+    assert!(overview.contains("| `walk` | 64 | 4.00 | 3.2 | 2.00 | 1.33 | 2.00 | 0.50 |\n"));
+    assert!(overview.contains("| `walk` | 1518 | 6.25 | 5.0 | 3.12 | 2.08 | 3.12 | - |\n"));
+    for line in [
+        "| `walk` to C, by 16 | 64 / mix / 1518 / 9018 | 1.05 / 1.3 / 1.9 / 2.3 | 1.33 / 1.25 / 2.08 / 2.00 | **missed**: mix / 9018 |",
+        "| `walk` to C, zlib | 64 / mix / 1518 / 9018 | 1.0 / 1.0 / 2.0 / 2.0 | 2.00 / 2.00 / 3.12 / 1.50 | **missed**: 9018 |",
+        "| `walk` in lines of 10 Gbit/s | 1518 | 5.0 | 5.00 | met |",
+        "| `walk` of 1K to 8K symbols to reference, by 16, the worst | 64 at 1K | 2.5 | 3.00 | met |",
+        "| `read` to reference, by 16 | 64 / mix / 1518 / 9018 | 1.5 / 3.0 / 5.0 / 8.0 | - | not measured |",
+        "| `walk` on hostile captures to reference, by 16, the worst |  |  |  | not measured |",
+    ] {
+        assert!(asked.lines().any(|one| one == line), "{line}\n{asked}");
+    }
+    assert!(
+        growth.ends_with("| 64 | 50 | 1.000 | 3000 | 0.500 | 5900 |\n"),
+        "{growth}"
+    );
 }
 
 // Both make the same room, and it is the room that there is.
