@@ -1,2 +1,4 @@
 pub mod Multiple
+pub mod Octets
+pub mod Window
 pub mod Words

@@ -44,27 +44,27 @@ loop-again c = (omega arith, c .take32 .ensures ∙ c .before .before .loop .inv
 turn40-with-requires : tie.Need-turn40-with-requires Inv-loop μ-loop
 turn40-with-requires c κs = search needs
 
-add-short : tie.Need-add-short Inv-loop μ-loop
-add-short c = search needs
+add-rest : tie.Need-add-rest Inv-loop μ-loop
+add-rest c = search needs
 
-sub-short : tie.Need-sub-short Inv-loop μ-loop
-sub-short c = search needs
+sub-rest : tie.Need-sub-rest Inv-loop μ-loop
+sub-rest c = search needs
 
-part-short-start : tie.Need-part-short-start Inv-loop μ-loop
-part-short-start c = search needs
+part-rest-start : tie.Need-part-rest-start Inv-loop μ-loop
+part-rest-start c = search needs
 
-part-short-end : tie.Need-part-short-end Inv-loop μ-loop
-part-short-end c = search needs
+part-rest-end : tie.Need-part-rest-end Inv-loop μ-loop
+part-rest-end c = search needs
 
-short-requires : tie.Need-short-requires Inv-loop μ-loop
-short-requires c κs = search needs
+rest-requires : tie.Need-rest-requires Inv-loop μ-loop
+rest-requires c κs = search needs
 
 returns : tie.Need-returns Inv-loop μ-loop
 returns c =
     let s = c .before .before .before .before .before .before .before .args .s .now in
     let at = c .before .before .before .before .loop in
     let r = c .before .before .turn40-with in
-    c .short .ensures ∙ ap (crcOver (r .result)) (last-part (at .i + 40) s) ∙ r .ensures ∙ at .inv .1
+    c .rest .ensures ∙ ap (crcOver (r .result)) (last-part (at .i + 40) s) ∙ r .ensures ∙ at .inv .1
 
 pub words-spec : {M : Type 1} → statement M
 words-spec =
@@ -80,9 +80,9 @@ words-spec =
     loop-less
     loop-again
     turn40-with-requires
-    add-short
-    sub-short
-    part-short-start
-    part-short-end
-    short-requires
+    add-rest
+    sub-rest
+    part-rest-start
+    part-rest-end
+    rest-requires
     returns)
