@@ -156,6 +156,9 @@ module _ (s : Settings) (own : List (Option Address)) (run : List ℕ) (by : ℕ
   unfolding plainJudged
   plain-judged = sym (told s own run by (plainOutcome run) _ (sym plain-outcome) (plain-made run))
 
+  pub plain-is : {j : Judged} → j ≡ plainJudged run → j ≡ judged s own run by
+  plain-is e = e ∙ sym plain-judged
+
 -- ---- what the code looks for
 
 -- two words that share three octets are thirteen octets
