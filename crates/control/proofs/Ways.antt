@@ -65,7 +65,7 @@ module _ (s : Settings) (own : List (Option Address)) (f : List ℕ) (valid : is
       let g : true ≡ false = sym broadcast-group ∙ sym (ap isGroup e) ∙ valid in
       false≢true (sym g))
 
-  own-accepted : toOwn s f ≡ true → accepts s own (destination f) ≡ true
+  pub own-accepted : toOwn s f ≡ true → accepts s own (destination f) ≡ true
   unfolding toOwn
   own-accepted o = sym (way-accepts s own (destination f)) ∙ ap (ltb 0) (way-own s own (destination f) (own-unbroadcast o) o)
 

@@ -47,7 +47,7 @@ pub fn high_first(f: &[u8], at: usize) -> u16
 // ---- tags, and where field and data stand
 
 // Field 0x8100 or 0x88A8 means tagged.
-fn is_tag_kind(field: u16) -> bool
+pub fn is_tag_kind(field: u16) -> bool
     ensures { λ r. ⌜ r ≡ isTagKind field ⌝ }
 {
     if field == 0x8100 {

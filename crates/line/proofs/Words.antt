@@ -1,13 +1,13 @@
 -- A word of octets, low octet first, and where its first octet stands that is not v. Assumes nothing.
 use Prim.Native.Nat.{ℕ, zero, suc, _+_, _-_, _*_, _/_, _%_, _^_, _≤_, _<_}
 use native.Mathlib.Omega.{arith}
-use native.Mathlib.Nat.{pow-suc, pow-succ', mul-assoc, div-one, div-div-eq-div-mul}
+use native.Mathlib.Nat.{add-zero, pow-suc, pow-succ', mul-assoc, div-one, div-div-eq-div-mul}
 use lib.Arith.{mod-mul}
 use lib.Pow.{pow-pos}
 use mathlib.Core.Path.{_≡_, refl, sym, ap, ap₂, _∙_, subst}
 use mathlib.Core.List.{List, [], _∷_}
 use lib.ListN.{length, getD, drop}
-use lib.Seq.{getD-drop}
+use lib.Seq.{getD-drop, ext-getD}
 use lib.Dec.{eqb}
 use lib.Bits.{bitXor, xor-block, xor-self, xor-add-and, and-le-l, and-le-r, xor-lt}
 use lib.Count.{trailingZeros, under}
@@ -47,20 +47,25 @@ low-drop l at k (suc n) =
     ap₂ (λ (w x : ℕ). w * 256 + x)
     (low-drop l at (k + 1) n ∙ ap (λ (j : ℕ). lowFirst l j n) (let e : at + (k + 1) ≡ at + k + 1 = omega arith in e)) (getD-drop at l k 0)
 
+-- equal numbers stand in the same octets
+pub low-same : (n : ℕ) (x y : List ℕ) → Octets x → Octets y → (at : ℕ) → lowFirst x at n ≡ lowFirst y at n
+    → (k : ℕ) → k < n → getD x (at + k) 0 ≡ getD y (at + k) 0
+unfolding lowFirst
+low-same zero x y ox oy at h k g = absurd (omega arith)
+low-same (suc n) x y ox oy at h zero g =
+    let e : getD x at 0 ≡ getD y at 0 = omega (arith, ox at, oy at) in
+    ap (λ (i : ℕ). getD x i 0) (add-zero at) ∙ e ∙ sym (ap (λ (i : ℕ). getD y i 0) (add-zero at))
+low-same (suc n) x y ox oy at h (suc k) g =
+    let p : at + suc k ≡ at + 1 + k = omega arith in
+    let e = low-same n x y ox oy (at + 1) (omega (arith, ox at, oy at)) k (omega arith) in
+    ap (λ (i : ℕ). getD x i 0) p ∙ e ∙ sym (ap (λ (i : ℕ). getD y i 0) p)
+
 -- only one string of n octets stands for a number
 pub low-only : (n : ℕ) (x y : List ℕ) → Octets x → Octets y → length x ≡ n → length y ≡ n → lowFirst x 0 n ≡ lowFirst y 0 n → x ≡ y
-unfolding lowFirst
-low-only zero [] [] ox oy ex ey h = refl
-low-only zero [] (b ∷ y) ox oy ex ey h = absurd (omega arith)
-low-only zero (a ∷ x) y ox oy ex ey h = absurd (omega arith)
-low-only (suc n) [] y ox oy ex ey h = absurd (omega arith)
-low-only (suc n) (a ∷ x) [] ox oy ex ey h = absurd (omega arith)
-low-only (suc n) (a ∷ x) (b ∷ y) ox oy ex ey h =
-    let p : lowFirst x 0 n ≡ lowFirst (a ∷ x) 1 n = low-drop (a ∷ x) 1 0 n in
-    let q : lowFirst y 0 n ≡ lowFirst (b ∷ y) 1 n = low-drop (b ∷ y) 1 0 n in
-    let la : a < 256 = ox 0 in
-    let lb : b < 256 = oy 0 in
-    ap₂ _∷_ (omega arith) (low-only n x y (λ k. ox (suc k)) (λ k. oy (suc k)) (omega arith) (omega arith) (omega arith))
+low-only n x y ox oy ex ey h =
+    ext-getD 0 x y (ex ∙ sym ey)
+    (λ k g. let p : 0 + k ≡ k = omega arith in
+    sym (ap (λ (i : ℕ). getD x i 0) p) ∙ low-same n x y ox oy 0 h k (omega arith) ∙ ap (λ (i : ℕ). getD y i 0) p)
 
 -- the number of n octets v
 unfoldable pub repeated : ℕ → ℕ → ℕ

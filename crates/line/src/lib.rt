@@ -109,7 +109,7 @@ fn wide(x: u8) -> u64
     x as u64
 }
 
-// Two, four and eight octets from `at` on as one number, which is one load.
+// Two, four and eight octets from `at` on as one number, which is one load; so `eight` is public for this repository's crates.
 fn two(s: &[u8], at: usize) -> u64
     requires { ⌜ at + 2 ≤ length (now s) ⌝ }
     ensures { λ r. ⌜ (r ≡ lowFirst (now (s .entry)) at 2) × (r < 65536) ⌝ }
@@ -124,7 +124,7 @@ fn four(s: &[u8], at: usize) -> u64
     two(s, at) + two(s, at + 2) * 65536
 }
 
-fn eight(s: &[u8], at: usize) -> u64
+pub fn eight(s: &[u8], at: usize) -> u64
     requires { ⌜ at + 8 ≤ length (now s) ⌝ }
     ensures { λ r. ⌜ r ≡ lowFirst (now (s .entry)) at 8 ⌝ }
 {

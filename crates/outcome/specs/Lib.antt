@@ -1,4 +1,5 @@
 pub mod Computed
 pub mod Outcomes
+pub mod Plain
 pub mod Status
 pub mod Steps

@@ -2,7 +2,7 @@
 use Prim.Native.Nat.{ℕ, zero, suc, _+_, _-_, _≤_, _<_}
 use native.Mathlib.Omega.{arith}
 use mathlib.Core.Path.{_≡_, refl, sym, ap, ap₂, _∙_}
-use mathlib.Core.Bool.{true, false}
+use mathlib.Core.Bool.{Bool, true, false, cond}
 use mathlib.Core.List.{List, [], _∷_}
 use mathlib.Core.Option.{Option, none, some}
 use lib.ListN.{length, getD, drop, length-take, length-drop}
@@ -18,6 +18,8 @@ use Rattle.line.proofs.Places.{run-found, after-found, after-nothing}
 use Rattle.station.specs.declared.Address.{Address}
 use Rattle.station.specs.declared.Settings.{Settings}
 use Rattle.station.specs.declared.State.{State}
+use Rattle.station.specs.declared.Slots.{Slots}
+use Rattle.station.specs.declared.Outcome.the-variants.{WrongFcs, HandedOut}
 use Rattle.station.specs.declared.Checked.{Checked}
 use Rattle.station.specs.declared.Refusal.{Refusal}
 use Rattle.station.specs.declared.Checked.the-variants.{Fine, Refused}
@@ -29,7 +31,12 @@ use Rattle.receive.specs.declared.Walked.the-variants.{Ended}
 use Rattle.receive.specs.declared.WalkEnd.{WalkEnd}
 use Rattle.table.specs.declared.Entry.{Entry}
 use Rattle.table.specs.Entries.{mine}
+use Rattle.frame.specs.Frame.{wrongFcs}
+use Rattle.flow.specs.Timers.{timersAfter, setsTimers}
+use Rattle.flow.proofs.Stays.{stays}
 use Rattle.outcome.specs.Outcomes.{outcome, frameOf}
+use Rattle.outcome.specs.Plain.{openingOf, Plain, plainOutcome}
+use Rattle.outcome.proofs.Plain.{plain-outcome}
 use Rattle.receive.specs.Reading.{stateAfter, readRun, readStart, readFound, readAt, readRefusals, readChecked, reading}
 use Rattle.receive.specs.Values.{isCounted}
 use Rattle.receive.specs.Walk.{readingsFrom, walk, walkOf, walked}
@@ -179,6 +186,16 @@ module _ (s : Settings) (own : List (Option Address)) (os ms : List ℕ) (n : �
         left s own os ms n st p ≡ left s own os ms (n + 1) (stateAfter (outcome s own r (getD os e 0)) (frameOf r) st) e
     unfolding walkOf through readStart readRun
     turn-ended same e h low high = ap over (met-ended os ms p i found same e h low high)
+
+-- a plain frame sets no timer
+pub plain-stays : (s : Settings) (es : List (Option Address)) (r : List ℕ) (by : ℕ) → Plain (openingOf (s .own)) (s .limit) r by
+    → (ts : List Slots) → ts ≡ timersAfter (outcome s es r by) (frameOf r) ts
+unfolding plainOutcome setsTimers
+plain-stays s es r by p ts = stays _ (frameOf r) ts (ap setsTimers (plain-outcome s es r by p) ∙ either (wrongFcs (frameOf r)))
+  where
+    either : (b : Bool) → setsTimers (cond b WrongFcs HandedOut) ≡ false
+    either true = refl
+    either false = refl
 
 -- the walk in one call, from its first turn
 pub walked-from : (s : Settings) (job : ℕ) (es : List Entry) (st : State) (os ms : List ℕ) → first (readRefusals s job es os ms 0) ≡ Fine

@@ -241,6 +241,9 @@ fn walk_on(
 {
     let mut counters = state.counters;
     let mut timers = state.timers;
+    // of the settings, what the quick way looks at: it is lent no more, which would be copied for each frame
+    let want = outcome::opening(s.own);
+    let limit = s.limit;
     let mut n: usize = 0;
     let mut at: usize = 0;
     loop {
@@ -265,13 +268,20 @@ fn walk_on(
                 },
             };
         };
-        let judged = outcome::judge(t, s, job, table, &octets[from..end], octets[end]);
-        let o = judged.outcome;
-        station::count(o, &mut counters);
-        if flow::sets_timers(o) {
-            let f = outcome::frame_of(&octets[from..end]);
-            let set = flow::timers_after(o, f, timers);
-            timers = set;
+        // the frame most seen sets no timer; all else goes by the rules
+        if outcome::is_plain(&want, limit, &octets[from..end], octets[end]) {
+            let judged = outcome::judge_plain(t, &octets[from..end]);
+            let o = judged.outcome;
+            station::count(o, &mut counters);
+        } else {
+            let judged = outcome::judge(t, s, job, table, &octets[from..end], octets[end]);
+            let o = judged.outcome;
+            station::count(o, &mut counters);
+            if flow::sets_timers(o) {
+                let f = outcome::frame_of(&octets[from..end]);
+                let set = flow::timers_after(o, f, timers);
+                timers = set;
+            }
         }
         n += 1;
         at = end;
