@@ -53,6 +53,11 @@ pub marks-size : (idles n : ℕ) → idles + 2 ≤ n → length (frameMarks idle
 unfolding frameMarks
 marks-size idles n h = simp (length-append, length-replicate) (omega arith)
 
+-- ---- a write, by other words for what it wrote
+
+pub wrote : {old new other held : List ℕ} {at next : ℕ} → new ≡ other → Put old at new next held → Put old at other next held
+wrote e p = rw e at p
+
 -- ---- each body, associated as it is written
 
 pub client-pieces : (s : Settings) (c : Client) (d : List ℕ)
@@ -159,6 +164,13 @@ covered {os} {os₁} {body} {e} p h =
     let s = lead-size in
     ap (λ (l : List ℕ). between l 8 e) (put-overwrite p (omega (arith, p .goes)) ∙ append-assoc lead body rest)
     ∙ between-middle lead body rest 8 e lead-size (omega (arith, p .goes))
+
+-- where it is finished: behind the start, with room for its end
+pub body-end : (idles : ℕ) (body : List ℕ) {os os₁ : List ℕ} {e : ℕ} → Put os 0 (lead ++ body) e os₁ → (8 ≤ e) × (e + (idles + 5) ≡ length (onLine idles body))
+body-end idles body {os} {os₁} {e} p =
+    let n : length (lead ++ body) ≡ 8 + length body = simp (length-append, lead-size) in
+    let size = line-size idles body in
+    (omega (arith, p .goes), omega (arith, p .goes))
 
 pub frame-laid : (idles : ℕ) (body : List ℕ) {os ms os₁ os′ ms′ : List ℕ} {e r : ℕ} → Put os 0 (lead ++ body) e os₁ → Put os₁ e (endOf idles os₁ e) r os′
     → Put ms 0 (frameMarks idles r) r ms′ → length (onLine idles body) ≤ length os → length (onLine idles body) ≤ length ms

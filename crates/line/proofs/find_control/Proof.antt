@@ -12,13 +12,24 @@ use Rattle.line.proofs.Search.{control-tests, search-here}
 use Rattle.line.proofs.find_control.Statement.{statement}
 use Rattle.line.proofs.find_control.Tie as tie
 
+-- the places behind its calls: the call itself, from where the end is known; that, from where the first search stopped; and that, from where the
+-- last one did
+abbrev called : tie.After-shorter → tie.Start
+called c = c .before .before .before
+
+abbrev ended : tie.After-pass-data → tie.After-shorter
+ended c = c .before .before .before .before
+
+abbrev passed : tie.After-first-mark → tie.After-pass-data
+passed c = c .before .before .before
+
 shorter-requires : tie.Need-shorter-requires
 shorter-requires c κs = search needs
 
 returns : tie.Need-returns
 unfolding findControl
 returns c =
-    let a = c .before .before .before .before .args in
+    let a = called (c .before) .args in
     search-none isControl (now (a .octets)) (now (a .marks)) (a .place) _ (c .before .shorter .ensures .2) (c .if1 .taken)
 
 shared-slice-read-if2 : tie.Need-shared-slice-read-if2
@@ -27,8 +38,9 @@ shared-slice-read-if2 c = let s = c .before .before .shorter .ensures in omega a
 returns-2 : tie.Need-returns-2
 unfolding findControl
 returns-2 c =
-    let a = c .before .before .before .before .before .before .args in
-    let s = c .before .before .before .shorter .ensures in
+    let e = c .before .before .before in
+    let a = called e .args in
+    let s = e .shorter .ensures in
     let x = symbolAt (now (a .octets)) (now (a .marks)) (a .place) in
     sym (search-here isControl (now (a .octets)) (now (a .marks)) (a .place) (omega arith) (omega arith) (control-tests x (c .if2 .taken)))
 
@@ -45,11 +57,11 @@ first-mark-requires : tie.Need-first-mark-requires
 first-mark-requires c κs = search needs
 
 -- from the place called with to where the last search stopped
-data-to : (c : tie.After-first-mark) → (let a = c .before .before .before .before .before .before .before .before .before .before .args in
-    Passed (Miss isControl (now (a .octets)) (now (a .marks))) (a .place) (c .first-mark .result) (c .before .before .before .before .before .before .before .shorter .result))
+data-to : (c : tie.After-first-mark) → (let e = ended (passed c) in let a = called e .args in
+    Passed (Miss isControl (now (a .octets)) (now (a .marks))) (a .place) (c .first-mark .result) (e .shorter .result))
 data-to c =
-    let a = c .before .before .before .before .before .before .before .before .before .before .args in
-    let d = c .before .before .before in
+    let d = passed c in
+    let a = called (ended d) .args in
     passed-as (data-passed (now (a .octets)) (now (a .marks)))
     (passed-on _ _ _ _ _ (passed-on _ _ _ _ _ (passed-on _ _ _ _ _ (d .pass-data .ensures) (c .before .before .pass-data2 .ensures)) (c .before .pass-words .ensures))
     (c .first-mark .ensures .passed))
@@ -57,8 +69,9 @@ data-to c =
 returns-3 : tie.Need-returns-3
 unfolding findControl
 returns-3 c =
-    let a = c .before .before .before .before .before .before .before .before .before .before .before .args in
-    let s = c .before .before .before .before .before .before .before .before .shorter .ensures in
+    let e = ended (passed (c .before)) in
+    let a = called e .args in
+    let s = e .shorter .ensures in
     let b = c .before .first-mark in
     search-found isControl (now (a .octets)) (now (a .marks)) (a .place) (b .result) _ (s .0) (s .1) (data-to (c .before)) (c .if3 .taken)
     (control-tests (symbolAt (now (a .octets)) (now (a .marks)) (b .result)) (b .ensures .here (c .if3 .taken)))
@@ -66,8 +79,9 @@ returns-3 c =
 returns-4 : tie.Need-returns-4
 unfolding findControl
 returns-4 c =
-    let a = c .before .before .before .before .before .before .before .before .before .before .before .args in
-    let s = c .before .before .before .before .before .before .before .before .shorter .ensures in
+    let e = ended (passed (c .before)) in
+    let a = called e .args in
+    let s = e .shorter .ensures in
     search-ended isControl (now (a .octets)) (now (a .marks)) (a .place) _ _ (s .0) (s .1) (s .2) (data-to (c .before)) (c .if3 .left)
 
 pub find-control-spec : {M : Type 1} → statement M

@@ -11,8 +11,22 @@ use Rattle.writing.proofs.Sizes.{idle-size}
 use Rattle.send.proofs.fill_idle.Statement.{statement}
 use Rattle.send.proofs.fill_idle.Tie as tie
 
-fine : (c : tie.After-enum-told) → let a = c .before .before .before .before .before .before .before .args in idleChecked (now (a .octets)) (now (a .marks)) (a .place) (a .n) ≡ Fine
-fine c = sym (c .before .before .check-idle .ensures) ∙ c .enum-told .given .1
+-- the places: the start, seen from where the check has answered; that place, seen from where it let the call go on; and, where the idle goes, that
+-- place from before and behind its writing
+abbrev start : tie.After-check-idle → tie.Start
+start c = c .before .before .before .before .before
+
+abbrev answered : tie.After-enum-told → tie.After-check-idle
+answered c = c .before .before
+
+abbrev going : tie.After-idle-at-arg2 → tie.After-enum-told
+going c = c .before .before
+
+abbrev laid : tie.After-wrote → tie.After-idle-at
+laid c = c .before .before .before .before .before
+
+fine : (c : tie.After-enum-told) → let a = start (answered c) .args in idleChecked (now (a .octets)) (now (a .marks)) (a .place) (a .n) ≡ Fine
+fine c = sym (answered c .check-idle .ensures) ∙ c .enum-told .given .1
 
 check-idle-requires : tie.Need-check-idle-requires
 check-idle-requires c κs = search needs
@@ -31,15 +45,18 @@ same-length-2 c = search needs
 
 returns : tie.Need-returns
 unfolding idleSending
-returns c = call-refused _ _ _ _ _ _ _ _ (sym (c .before .before .before .before .check-idle .ensures) ∙ c .before .before .checked .given .1) (c .refused .ensures)
+returns c =
+    let k = c .before .before in
+    call-refused _ _ _ _ _ _ _ _ (sym (k .before .before .check-idle .ensures) ∙ k .checked .given .1) (c .refused .ensures)
 
 enum-told : tie.Need-enum-told
 enum-told c = search needs
 
 idle-at-requires : tie.Need-idle-at-requires
 idle-at-requires c κs =
-    let k = passed-idle _ _ _ _ (fine (c .before .before)) in
-    let z = idle-size (c .before .before .before .before .before .before .before .before .before .args .n) in
+    let g = going c in
+    let k = passed-idle _ _ _ _ (fine g) in
+    let z = idle-size (start (answered g) .args .n) in
     let e = k .even in
     let r = k .room in
     (omega arith, omega arith)
@@ -55,7 +72,9 @@ same-length-4 c = search needs
 
 returns-2 : tie.Need-returns-2
 unfolding idleSending
-returns-2 c = call-wrote _ _ _ _ _ _ _ (fine (c .before .before .before .before .before .before .before .before)) (c .before .before .before .before .before .idle-at .ensures) (c .wrote .ensures)
+returns-2 c =
+    let w = laid c in
+    call-wrote _ _ _ _ _ _ _ (fine (going (w .before))) (w .idle-at .ensures) (c .wrote .ensures)
 
 pub fill-idle-spec : {M : Type 1} → statement M
 fill-idle-spec =

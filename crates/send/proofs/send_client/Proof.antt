@@ -13,9 +13,13 @@ use Rattle.send.proofs.Calls.{frame-refused, frame-wrote, has-terminate
 use Rattle.send.proofs.send_client.Statement.{statement}
 use Rattle.send.proofs.send_client.Tie as tie
 
--- the places: the start, seen from where the check has answered; and, where the frame goes, that place from before and behind its writing
+-- the places: the start, seen from where the buffers are known, and so from where the check has answered; and, where the frame goes, that place from
+-- before and behind its writing
+abbrev entered : tie.After-shared-slice-known → tie.Start
+entered c = c .before .before .before
+
 abbrev start : tie.After-check-client → tie.Start
-start c = c .before .before .before .before .before .before
+start c = entered (c .before .before .before)
 
 abbrev answered : tie.After-checked2 → tie.After-check-client
 answered c = c .before .before

@@ -17,14 +17,21 @@ use Rattle.totals.proofs.Tests.{known-fill}
 use Rattle.totals.proofs.fill_totals.Statement.{statement}
 use Rattle.totals.proofs.fill_totals.Tie as tie
 
+-- the places: the start, seen from where the check has answered; and that place, seen from where it let the call go on
+abbrev start : tie.After-check-fill → tie.Start
+start c = c .before .before .before .before .before
+
+abbrev answered : tie.After-enum-told → tie.After-check-fill
+answered c = c .before .before
+
 -- a call, by what its table gave
 gave : (os ms ts : List ℕ) (r : Checked) → first (fillRefusals os ms ts) ≡ r → filled os ms ts ≡ fillChecked r os ms ts
 unfolding filled
 gave os ms ts r e = ap (λ (x : Checked). fillChecked x os ms ts) e
 
-fine : (c : tie.After-enum-told) → let a = c .before .before .before .before .before .before .before .args in
+fine : (c : tie.After-enum-told) → let a = start (answered c) .args in
     first (fillRefusals (now (a .octets)) (now (a .marks)) (now (a .totals))) ≡ Fine
-fine c = sym (c .before .before .check-fill .ensures) ∙ c .enum-told .given .1
+fine c = sym (answered c .check-fill .ensures) ∙ c .enum-told .given .1
 
 check-fill-requires : tie.Need-check-fill-requires
 check-fill-requires c κs = search needs
@@ -51,13 +58,14 @@ same-length-2 c = search needs
 returns-2 : tie.Need-returns-2
 unfolding fillChecked
 returns-2 c =
-    let f = c .before .before .before .before in
-    let a = f .before .before .before .before .before .before .before .args in
+    let r = c .before .before in
+    let f = r .before .before in
+    let a = start (answered f) .args in
     let os = now (a .octets) in
     let k = known-fill _ _ _ (fine f) in
     let n = length-capture os (now (a .marks)) (k .0) in
     ap (filling Fine)
-    (c .before .before .recount .ensures
+    (r .recount .ensures
     ∙ ap (λ (m : ℕ). recounted (capture os (now (a .marks))) 0 m (now (a .totals))) (sym n)
     ∙ all-counted (capture os (now (a .marks))) (now (a .totals)) (k .1 ∙ ap blocks (sym n)))
     ∙ sym (gave _ _ _ Fine (fine f))

@@ -19,6 +19,10 @@ Inv-loop octets marks totals₀ from to end k₀ totals k =
 abbrev μ-loop : tie.MeasureT-loop
 μ-loop octets marks totals₀ from to end k₀ totals k = end - k
 
+-- the start, seen from a turn
+abbrev start : tie.At-loop Inv-loop μ-loop → tie.Start Inv-loop μ-loop
+start c = c .before .before .before .before .before
+
 sub-end : tie.Need-sub-end Inv-loop μ-loop
 sub-end c = omega arith
 
@@ -29,7 +33,7 @@ loop-holds : tie.Need-loop-holds Inv-loop μ-loop
 loop-holds c = (omega arith, omega arith, sym (begin _ _ _))
 
 block-total-requires : tie.Need-block-total-requires Inv-loop μ-loop
-block-total-requires c κs = let s = c .before .before .before .before .before .before in (s .pre .0, omega arith)
+block-total-requires c κs = let s = start (c .before) in (s .pre .0, omega arith)
 
 mul-totals : tie.Need-mul-totals Inv-loop μ-loop
 mul-totals c = search needs
@@ -37,7 +41,7 @@ mul-totals c = search needs
 slice-write-totals : tie.Need-slice-write-totals Inv-loop μ-loop
 slice-write-totals c =
     let l = c .before .before in
-    let s = l .before .before .before .before .before in
+    let s = start l in
     let a = s .args in
     let n = ap length (l .loop .inv .2) ∙ length-recounted (capture (now (a .octets)) (now (a .marks))) (a .from) (256 * l .loop .k) (now (a .totals)) in
     let m = s .pre .2 in
@@ -52,7 +56,7 @@ loop-less c = omega arith
 loop-again : tie.Need-loop-again Inv-loop μ-loop
 loop-again c =
     let l = c .before .before in
-    let s = l .before .before .before .before .before in
+    let s = start l in
     let a = s .args in
     let m = s .pre .2 in
     let k = l .loop .k in (
@@ -65,13 +69,13 @@ loop-again c =
 same-length : tie.Need-same-length Inv-loop μ-loop
 same-length c =
     let l = c .before in
-    let a = l .before .before .before .before .before .args in
+    let a = start l .args in
     ap length (l .loop .inv .2) ∙ length-recounted (capture (now (a .octets)) (now (a .marks))) (a .from) (256 * l .loop .k) (now (a .totals))
 
 returns : tie.Need-returns Inv-loop μ-loop
 returns c =
     let l = c .before in
-    let a = l .before .before .before .before .before .args in
+    let a = start l .args in
     l .loop .inv .2 ∙ end (capture (now (a .octets)) (now (a .marks))) (a .from) (a .to) (l .loop .k) (now (a .totals)) (omega arith) (omega arith)
 
 returns-2 : tie.Need-returns-2 Inv-loop μ-loop

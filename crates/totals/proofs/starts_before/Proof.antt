@@ -17,9 +17,16 @@ use borrow.Author.Needs.{needs}
 use Rattle.totals.proofs.starts_before.Statement.{statement}
 use Rattle.totals.proofs.starts_before.Tie as tie
 
-fine : (c : tie.After-enum-told) → let a = c .before .before .before .before .before .before .args in
+-- the places: the start, seen from where the check has answered; and that place, seen from where it let the call go on
+abbrev start : tie.After-check-before → tie.Start
+start c = c .before .before .before .before
+
+abbrev answered : tie.After-enum-told → tie.After-check-before
+answered c = c .before .before
+
+fine : (c : tie.After-enum-told) → let a = start (answered c) .args in
     first (beforeRefusals (now (a .octets)) (now (a .marks)) (a .place) (now (a .totals))) ≡ Fine
-fine c = sym (c .before .before .check-before .ensures) ∙ c .enum-told .given .1
+fine c = sym (answered c .check-before .ensures) ∙ c .enum-told .given .1
 
 -- a call, by what its table gave
 gave : (os ms : List ℕ) (place : ℕ) (ts : List ℕ) (r : Checked) → first (beforeRefusals os ms place ts) ≡ r

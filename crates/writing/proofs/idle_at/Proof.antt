@@ -6,6 +6,13 @@ use borrow.Author.Needs.{needs}
 use Rattle.writing.proofs.idle_at.Statement.{statement}
 use Rattle.writing.proofs.idle_at.Tie as tie
 
+-- the places: the start, seen from behind the write; and there, seen from the end
+abbrev start : tie.After-write-idle → tie.Start
+start c = c .before .before .before .before .before
+
+abbrev written : tie.After-slice-known4 → tie.After-write-idle
+written c = c .before .before .before .before
+
 sub-write-idle : tie.Need-sub-write-idle
 sub-write-idle c = search needs
 
@@ -28,7 +35,7 @@ write-idle-requires : tie.Need-write-idle-requires
 write-idle-requires c κs = search needs
 
 add-result : tie.Need-add-result
-add-result c = omega (arith, idle-size (c .before .before .before .before .before .before .before .before .before .args .n))
+add-result c = omega (arith, idle-size (start (written c) .args .n))
 
 same-length : tie.Need-same-length
 same-length c = search needs
@@ -37,7 +44,7 @@ same-length-2 : tie.Need-same-length-2
 same-length-2 c = search needs
 
 returns : tie.Need-returns
-returns c = lent-back (omega arith) (omega arith) (c .before .before .before .before .write-idle .ensures)
+returns c = lent-back (omega arith) (omega arith) (written c .write-idle .ensures)
 
 pub idle-at-spec : {M : Type 1} → statement M
 idle-at-spec =

@@ -5,9 +5,17 @@ use Rattle.line.specs.Octets.{between}
 use Rattle.fcs.specs.Fcs.{fcsOctets}
 use Rattle.fcs.proofs.Laws.{fcs-is}
 use Rattle.writing.specs.Pieces.{endOf}
+use Rattle.writing.proofs.Pieces.{wrote}
 use borrow.Author.Needs.{needs}
 use Rattle.writing.proofs.put_end.Statement.{statement}
 use Rattle.writing.proofs.put_end.Tie as tie
+
+-- the places: behind the FCS's octets, seen from where they are written; and there, seen from the next write
+abbrev coded : tie.After-put → tie.After-octets2
+coded c = c .before .before .before
+
+abbrev written : tie.After-put-gap-arg → tie.After-put
+written c = c .before .before .before
 
 sub-check : tie.Need-sub-check
 sub-check c = search needs
@@ -39,8 +47,11 @@ same-length c = search needs
 returns : tie.Need-returns
 unfolding endOf between
 returns c =
-    let check = c .before .before .before .before .before .before .before .before .before .octets2 .ensures ∙ ap fcsOctets (c .before .before .before .before .before .before .before .before .before .before .check .ensures) ∙ fcs-is _ in
-    rw check at (c .before .before .before .before .before .before .put .ensures) ⨾ c .before .before .put-gap .ensures
+    let g = c .before .before in
+    let p = written (g .before) in
+    let o = coded p in
+    let check = o .octets2 .ensures ∙ ap fcsOctets (o .before .check .ensures) ∙ fcs-is _ in
+    wrote check (p .put .ensures) ⨾ g .put-gap .ensures
 
 pub put-end-spec : {M : Type 1} → statement M
 put-end-spec =

@@ -17,6 +17,13 @@ Inv-loop octets₀ at named quanta left₀ k₀ octets left k = (k ≤ 8) × (le
 abbrev μ-loop : tie.MeasureT-loop
 μ-loop octets₀ at named quanta left₀ k₀ octets left k = 8 - k
 
+-- the places: the start, seen from a turn; and the turn, seen from where its quanta are known
+abbrev start : tie.At-loop Inv-loop μ-loop → tie.Start Inv-loop μ-loop
+start c = c .before .before
+
+abbrev turning : tie.After-quanta-sent Inv-loop μ-loop → tie.At-loop Inv-loop μ-loop
+turning c = c .before .before .before .before
+
 loop-holds : tie.Need-loop-holds Inv-loop μ-loop
 loop-holds c = (search needs, refl, quanta-begin _ _ _ _)
 
@@ -46,14 +53,16 @@ loop-less c = search needs
 
 loop-again : tie.Need-loop-again Inv-loop μ-loop
 loop-again c =
-    let l = c .before .before .before .before .before .before .before .loop in
-    let a = c .before .before .before .before .before .before .before .before .before .args in
+    let w = c .before .before in
+    let t = turning (w .before) in
+    let l = t .loop in
+    let a = start t .args in
     let k = l .k in
     let eight : length (a .t4) ≡ 8 = search needs in
     let on : a .at + 2 * (k + 1) ≡ a .at + 2 * k + 2 = omega arith in (
       search needs,
       search needs,
-      rw on (quanta-turn (l .left) k (a .t4) (record { 0 = 0 }) (omega arith) (c .before .before .before .quanta-sent .ensures) (c .before .before .put-number .ensures)) ∙ l .inv .2,
+      rw on (quanta-turn (l .left) k (a .t4) (record { 0 = 0 }) (omega arith) (w .before .quanta-sent .ensures) (w .put-number .ensures)) ∙ l .inv .2,
     )
 
 mul-result : tie.Need-mul-result Inv-loop μ-loop
@@ -68,7 +77,7 @@ same-length c = search needs
 returns : tie.Need-returns Inv-loop μ-loop
 returns c =
     let l = c .before .loop in
-    let a = c .before .before .before .args in
+    let a = start (c .before) .args in
     let eight : length (a .t4) ≡ 8 = search needs in
     record {
       goes = omega (arith, quanta-size (a .named) (a .t4));

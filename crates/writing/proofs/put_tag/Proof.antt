@@ -1,10 +1,17 @@
 -- `writing::put_tag` meets its contract: two numbers, by `_⨾_`. Assumes nothing.
 use native.Mathlib.Omega.{arith}
+use mathlib.Core.Path.{ap}
 use Rattle.splice.proofs.Laws.{_⨾_}
+use Rattle.line.specs.Octets.{highFirst}
+use Rattle.writing.proofs.Pieces.{wrote}
 use Rattle.writing.proofs.Sizes.{two}
 use borrow.Author.Needs.{needs}
 use Rattle.writing.proofs.put_tag.Statement.{statement}
 use Rattle.writing.proofs.put_tag.Tie as tie
+
+-- behind the first write, seen from the second
+abbrev written : tie.After-put-number-arg2 → tie.After-put-number
+written c = c .before .before .before
 
 kind-field-requires : tie.Need-kind-field-requires
 kind-field-requires c κs = search needs
@@ -13,13 +20,16 @@ put-number-requires : tie.Need-put-number-requires
 put-number-requires c κs = search needs
 
 put-number-requires-2 : tie.Need-put-number-requires-2
-put-number-requires-2 c κs = let next = rw two at (c .before .before .before .put-number .ensures .goes) in omega arith
+put-number-requires-2 c κs = let next = rw two at (written c .put-number .ensures .goes) in omega arith
 
 same-length : tie.Need-same-length
 same-length c = search needs
 
 returns : tie.Need-returns
-returns c = rw (c .before .before .before .before .before .before .before .kind-field .ensures) at (c .before .before .before .before .before .before .put-number .ensures) ⨾ c .before .before .put-number2 .ensures
+returns c =
+    let n = c .before .before in
+    let k = written (n .before) in
+    wrote (ap highFirst (k .before .kind-field .ensures)) (k .put-number .ensures) ⨾ n .put-number2 .ensures
 
 pub put-tag-spec : {M : Type 1} → statement M
 put-tag-spec =

@@ -18,6 +18,13 @@ Inv-loop octets₀ at count tags n k₀ octets k = (k ≤ n) × (length octets �
 abbrev μ-loop : tie.MeasureT-loop
 μ-loop octets₀ at count tags n k₀ octets k = n - k
 
+-- the places: the start, seen from a turn; and the turn, seen from behind its write
+abbrev start : tie.At-loop Inv-loop μ-loop → tie.Start Inv-loop μ-loop
+start c = c .before .before
+
+abbrev turning : tie.After-put-tag Inv-loop μ-loop → tie.At-loop Inv-loop μ-loop
+turning c = c .before .before .before .before
+
 loop-holds : tie.Need-loop-holds Inv-loop μ-loop
 loop-holds c =
     let a = c .before .args in
@@ -46,13 +53,15 @@ loop-less c = search needs
 
 loop-again : tie.Need-loop-again Inv-loop μ-loop
 loop-again c =
-    let l = c .before .before .before .before .before .before .loop in
-    let a = c .before .before .before .before .before .before .before .before .args in
+    let w = c .before .before in
+    let t = turning w in
+    let l = t .loop in
+    let a = start t .args in
     let eight : length (a .t3) ≡ 8 = search needs in
     let on : a .at + 4 * (l .k + 1) ≡ a .at + 4 * l .k + 4 = omega arith in (
       search needs,
       search needs,
-      rw on (tags-turn (a .count) (l .k) (a .t3) _ (omega arith) (omega arith) (c .before .before .put-tag .ensures)) ∙ l .inv .2,
+      rw on (tags-turn (a .count) (l .k) (a .t3) _ (omega arith) (omega arith) (w .put-tag .ensures)) ∙ l .inv .2,
     )
 
 mul-result : tie.Need-mul-result Inv-loop μ-loop
@@ -67,7 +76,7 @@ same-length c = search needs
 returns : tie.Need-returns Inv-loop μ-loop
 returns c =
     let l = c .before .loop in
-    let a = c .before .before .before .args in
+    let a = start (c .before) .args in
     let eight : length (a .t3) ≡ 8 = search needs in
     let size = tag-length (take (a .count) (a .t3)) in
     let some = length-take-le (a .count) (a .t3) (omega arith) in

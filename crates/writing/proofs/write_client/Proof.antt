@@ -4,10 +4,8 @@ use Prim.Native.Nat.{ℕ}
 use mathlib.Core.List.{List}
 use denote.Ref.{now}
 use Rattle.writing.specs.Frames.{clientBody, clientSymbols}
-use Rattle.writing.proofs.Pieces.{lead-size, frame-laid}
+use Rattle.writing.proofs.Pieces.{body-end, frame-laid}
 use Rattle.writing.proofs.Sizes.{line-size}
-use lib.ListN.{length-append}
-use Rattle.writing.specs.Pieces.{lead}
 use borrow.Author.Needs.{needs}
 use Rattle.writing.proofs.write_client.Statement.{statement}
 use Rattle.writing.proofs.write_client.Tie as tie
@@ -36,11 +34,9 @@ put-client-requires c κs =
 finish-requires : tie.Need-finish-requires
 unfolding clientSymbols
 finish-requires c κs =
-    let s = start (put c .before) in
-    let n = line-size (s .args .idles) (body s) in
-    let m = length-append lead (body s) in
-    let k = lead-size in
-    omega arith
+    let front = put c in
+    let s = start (front .before) in
+    omega (arith, body-end (s .args .idles) (body s) (front .put-client .ensures))
 
 same-length : tie.Need-same-length
 same-length c = search needs

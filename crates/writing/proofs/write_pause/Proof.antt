@@ -5,10 +5,8 @@ use mathlib.Core.Path.{_≡_}
 use mathlib.Core.List.{List}
 use lib.ListN.{length}
 use Rattle.writing.specs.Frames.{pauseBody, pauseSymbols}
-use Rattle.writing.proofs.Pieces.{lead-size, frame-laid}
-use Rattle.writing.proofs.Sizes.{line-size, pause-size}
-use lib.ListN.{length-append}
-use Rattle.writing.specs.Pieces.{lead}
+use Rattle.writing.proofs.Pieces.{body-end, frame-laid}
+use Rattle.writing.proofs.Sizes.{pause-size}
 use borrow.Author.Needs.{needs}
 use Rattle.writing.proofs.write_pause.Statement.{statement}
 use Rattle.writing.proofs.write_pause.Tie as tie
@@ -32,22 +30,14 @@ six : (s : tie.Start) → length (s .args .s .own .0) ≡ 6
 six s = search needs
 
 put-pause-requires : tie.Need-put-pause-requires
-unfolding pauseSymbols
-put-pause-requires c κs =
-    let s = start c in
-    let n = line-size (s .args .idles) (body s) in
-    let whole = pause-size (s .args .idles) (s .args .s) (s .args .q) (six s) in
-    omega arith
+put-pause-requires c κs = let s = start c in omega (arith, pause-size (s .args .idles) (s .args .s) (s .args .q) (six s))
 
 finish-requires : tie.Need-finish-requires
 unfolding pauseSymbols
 finish-requires c κs =
-    let s = start (put c .before) in
-    let n = line-size (s .args .idles) (body s) in
-    let whole = pause-size (s .args .idles) (s .args .s) (s .args .q) (six s) in
-    let m = length-append lead (body s) in
-    let k = lead-size in
-    omega arith
+    let front = put c in
+    let s = start (front .before) in
+    omega (arith, body-end (s .args .idles) (body s) (front .put-pause .ensures))
 
 same-length : tie.Need-same-length
 same-length c = search needs

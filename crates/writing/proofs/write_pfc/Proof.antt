@@ -5,10 +5,8 @@ use mathlib.Core.Path.{_≡_}
 use mathlib.Core.List.{List}
 use lib.ListN.{length}
 use Rattle.writing.specs.Frames.{pfcBody, pfcSymbols}
-use Rattle.writing.proofs.Pieces.{lead-size, frame-laid}
-use Rattle.writing.proofs.Sizes.{length-mapped, line-size, pfc-size}
-use lib.ListN.{length-append}
-use Rattle.writing.specs.Pieces.{lead}
+use Rattle.writing.proofs.Pieces.{body-end, frame-laid}
+use Rattle.writing.proofs.Sizes.{length-mapped, pfc-size}
 use borrow.Author.Needs.{needs}
 use Rattle.writing.proofs.write_pfc.Statement.{statement}
 use Rattle.writing.proofs.write_pfc.Tie as tie
@@ -35,22 +33,14 @@ eight : (s : tie.Start) → length (s .args .classes .quanta) ≡ 8
 eight s = search (length-mapped, needs)
 
 put-pfc-requires : tie.Need-put-pfc-requires
-unfolding pfcSymbols
-put-pfc-requires c κs =
-    let s = start c in
-    let n = line-size (s .args .idles) (body s) in
-    let whole = pfc-size (s .args .idles) (s .args .s) (s .args .classes) (six s) (eight s) in
-    omega arith
+put-pfc-requires c κs = let s = start c in omega (arith, pfc-size (s .args .idles) (s .args .s) (s .args .classes) (six s) (eight s))
 
 finish-requires : tie.Need-finish-requires
 unfolding pfcSymbols
 finish-requires c κs =
-    let s = start (put c .before) in
-    let n = line-size (s .args .idles) (body s) in
-    let whole = pfc-size (s .args .idles) (s .args .s) (s .args .classes) (six s) (eight s) in
-    let m = length-append lead (body s) in
-    let k = lead-size in
-    omega arith
+    let front = put c in
+    let s = start (front .before) in
+    omega (arith, body-end (s .args .idles) (body s) (front .put-pfc .ensures))
 
 same-length : tie.Need-same-length
 same-length c = search needs
