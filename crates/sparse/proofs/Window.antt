@@ -11,7 +11,7 @@ use borrow.Author.Count.{below-more}
 use lib.Bits.{bitXor, xor-comm, xor-zero-l, xor-zero-r, xor-lt, xor-block}
 use lib.Dec.{lit<, lit≤}
 use lib.ListN.{length, getD, take, drop, set, length-set, length-drop, List·getD-eq-default}
-use lib.Seq.{getD-set-same, getD-set-other, getD-take, getD-drop, ext-getD, length-take-le, drop-cons, drop-drop, drop-set-add, drop-set-lt, take-suc, take-suc-set}
+use lib.Seq.{getD-set-same, getD-set-other, getD-take, getD-drop, ext-getD, length-take-le, drop-cons, drop-set-add, take-set-le, take-suc, take-suc-set}
 use Rattle.crc.specs.Crc.{crcOver}
 use Rattle.crc.specs.Words.{crcZeros, word}
 use Rattle.crc.proofs.Xor.{xor-assoc}
@@ -35,11 +35,12 @@ bytes-take (suc n) [] b k = lit< tt
 bytes-take (suc n) (o ∷ s) b zero = b 0
 bytes-take (suc n) (o ∷ s) b (suc k) = bytes-take n s (λ j. b (suc j)) k
 
-pub bytes-set : (w : List ℕ) (i v : ℕ) → Bytes w → v < 256 → i < length w → Bytes (set w i v)
-bytes-set w i v b h l k =
-    ⊎-elim (λ p. subst (λ (x : ℕ). x < 256) (sym (getD-set-other w i k v 0 (λ q. omega arith))) (b k))
-    (λ p. ⊎-elim (λ q. subst (λ (x : ℕ). x < 256) (sym (getD-set-other w i k v 0 (λ e. omega arith))) (b k))
-    (λ q. (let e : k ≡ i = omega arith in subst (λ (j : ℕ). getD (set w i v) j 0 < 256) (sym e) (subst (λ (x : ℕ). x < 256) (sym (getD-set-same w i v 0 l)) h))) (less i k)) (less k i)
+pub bytes-set : (w : List ℕ) (i v : ℕ) → Bytes w → v < 256 → Bytes (set w i v)
+bytes-set [] i v b h k = b k
+bytes-set (o ∷ w) zero v b h zero = h
+bytes-set (o ∷ w) zero v b h (suc k) = b (suc k)
+bytes-set (o ∷ w) (suc i) v b h zero = b 0
+bytes-set (o ∷ w) (suc i) v b h (suc k) = bytes-set w i v (λ j. b (suc j)) h k
 
 came-at : (w : List ℕ) (i k : ℕ) → k < 300 → getD (came w i) k 0 ≡ getD w (i + k) 0
 came-at w i k l = getD-take 300 (drop i w) k 0 l ∙ getD-drop i w k 0
@@ -79,21 +80,19 @@ cut-more s before w at i v bs bw below room fits e cut =
 
 -- ---- octets that are moved, cleared, and those at the end
 
-pub move-more : (before w : List ℕ) (i : ℕ) → length w ≡ length before → i + 1280 < length w → Moved i before w → Moved (i + 1) before (set w i (getD w (i + 1280) 0))
+pub move-more : (before w : List ℕ) (i : ℕ) → length w ≡ length before → i + 1280 < length w → Moved i before w
+    → Moved (i + 1) before (set (set w i (getD w (i + 1280) 0)) (i + 1280) 0)
 move-more before w i long h m =
     let v = getD w (i + 1280) 0 in
-    let n : i + 1 ≡ suc i = omega arith in
-    let a : 1280 + i ≡ i + 1280 = omega arith in
+    let a : i + 1280 ≡ 1280 + i = omega arith in
     let same : v ≡ getD (drop 1280 before) i 0 =
-    sym (getD-drop i w 1280 0) ∙ ap (λ (l : List ℕ). getD l 1280 0) (m .1) ∙ getD-drop i before 1280 0
-    ∙ ap (λ (j : ℕ). getD before j 0) (sym a) ∙ sym (getD-drop 1280 before i 0) in
-    let front : take (suc i) (set w i v) ≡ take (suc i) (drop 1280 before) =
-    take-suc-set w i v (omega arith) ∙ ap₂ (λ (l : List ℕ) (x : ℕ). l ++ x ∷ []) (m .0) same
-    ∙ sym (take-suc (drop 1280 before) i 0 (simp length-drop (omega arith))) in
-    let back : drop (suc i) (set w i v) ≡ drop (suc i) before =
-    drop-set-lt (suc i) w i v (omega arith) ∙ ap (λ (j : ℕ). drop j w) (sym n) ∙ sym (drop-drop 1 i w)
-    ∙ ap (drop 1) (m .1) ∙ drop-drop 1 i before ∙ ap (λ (j : ℕ). drop j before) n in
-    rw add-one (front, back)
+    m .1 (i + 1280) (omega arith) ∙ ap (λ (j : ℕ). getD before j 0) a ∙ sym (getD-drop 1280 before i 0) in
+    let front : take (suc i) (set (set w i v) (i + 1280) 0) ≡ take (suc i) (drop 1280 before) =
+    take-set-le (suc i) (set w i v) (i + 1280) 0 (omega arith) ∙ take-suc-set w i v (omega arith)
+    ∙ ap₂ (λ (l : List ℕ) (x : ℕ). l ++ x ∷ []) (m .0) same ∙ sym (take-suc (drop 1280 before) i 0 (simp length-drop (omega arith))) in
+    let behind : (j : ℕ) → suc i + 1280 ≤ j → getD (set (set w i v) (i + 1280) 0) j 0 ≡ getD before j 0 =
+    λ j l. getD-set-other (set w i v) (i + 1280) j 0 0 (λ p. omega arith) ∙ getD-set-other w i j v 0 (λ p. omega arith) ∙ m .1 j (omega arith) in
+    rw add-one (front, behind)
 
 pub clear-more : (before w : List ℕ) (at i : ℕ) → at + i < length w → Cleared i at before w → Cleared (i + 1) at before (set w (at + i) 0)
 clear-more before w at i h o = (
@@ -108,7 +107,8 @@ outOf-kept before w s at i k l kept =
     ap₂ bitXor (ap₂ bitXor (ap₂ bitXor (ap (bitXor (getD s (at + i) 0)) (kept (i + 155) (omega arith))) (kept (i + 117) (omega arith)))
     (kept (i + 89) (omega arith))) (kept i l)
 
-pub end-more : (before w s : List ℕ) (at m i v : ℕ) → i < length w → v ≡ outOf w s at (m + i) → Ended i at m s before w → Ended (i + 1) at m s before (set w i v)
+pub end-more : (before w s : List ℕ) (at m i v : ℕ) → i < length w → v ≡ outOf w s at (m + i)
+    → Ended i at m s before w → Ended (i + 1) at m s before (set w i v)
 end-more before w s at m i v h e o = (
   below-more (λ (k : ℕ). getD (set w i v) k 0 ≡ outOf before s at (m + k)) i
       (λ k b. getD-set-other w i k v 0 (λ p. omega arith) ∙ o .0 k b)
@@ -166,9 +166,11 @@ bytes-on h b =
 
 length-on : (h : List ℕ) → length (octetsOn h) ≡ length h
 length-on h =
-    let n89 : length (xored (drop 89 h) h) ≡ length h = length-xored (drop 89 h) h (simp length-drop (omega arith)) in
-    let n117 : length (xored (drop 117 h) (xored (drop 89 h) h)) ≡ length h = length-xored (drop 117 h) (xored (drop 89 h) h) (simp length-drop (omega arith)) ∙ n89 in
-    length-xored (drop 155 h) (xored (drop 117 h) (xored (drop 89 h) h)) (simp length-drop (omega arith)) ∙ n117
+    let x89 = xored (drop 89 h) h in
+    let x117 = xored (drop 117 h) x89 in
+    let n89 : length x89 ≡ length h = length-xored (drop 89 h) h (simp length-drop (omega arith)) in
+    let n117 : length x117 ≡ length h = length-xored (drop 117 h) x89 (simp length-drop (omega arith)) ∙ n89 in
+    length-xored (drop 155 h) x117 (simp length-drop (omega arith)) ∙ n117
 
 at-on : (h : List ℕ) (j : ℕ) → getD (octetsOn h) j 0 ≡ bitXor (getD h (155 + j) 0) (bitXor (getD h (117 + j) 0) (bitXor (getD h (89 + j) 0) (getD h j 0)))
 at-on h j =
@@ -193,6 +195,7 @@ ended s w last at n fits room front bs bw clear end =
     let t = drop (at + n) s in
     let long : length h ≡ 300 = came-long w n (omega arith) in
     let left : length t ≡ 300 = simp length-drop (omega arith) in
+    let few : length (take 300 last) ≡ 300 = length-take-le 300 last front in
     let here : (j : ℕ) → j < 600 → getD w (n + j) 0 ≡ getD h j 0 =
     λ j l. ⊎-elim (λ (p : j < 300). sym (came-at w n j p))
     (λ (p : 300 ≤ j). (let e : n + j ≡ n + 300 + (j - 300) = omega arith in ap (λ (k : ℕ). getD w k 0) e) ∙ clear (j - 300) (omega arith)
@@ -212,8 +215,8 @@ ended s w last at n fits room front bs bw clear end =
     ∙ xor-comm o (bitXor a (bitXor c (bitXor d f)))
     ∙ ap₂ bitXor (sym (at-on h j)) ((let e : at + (n + j) ≡ at + n + j = omega arith in ap (λ (i : ℕ). getD s i 0) e) ∙ sym (getD-drop (at + n) s j 0)) in
     ap (crcOver 0) (ext-getD 0 (take 300 last) (xored (octetsOn h) t)
-    (length-take-le 300 last front ∙ sym (length-xored (octetsOn h) t (rw length-on (omega arith)) ∙ left))
-    (λ j l. (let k : j < 300 = subst (λ (m : ℕ). j < m) (length-take-le 300 last front) l in getD-take 300 last j 0 k ∙ same j k ∙ sym (at-xored (octetsOn h) t j))))
+    (few ∙ sym (length-xored (octetsOn h) t (rw length-on (omega arith)) ∙ left))
+    (λ j l. (let k : j < 300 = subst (λ (m : ℕ). j < m) few l in getD-take 300 last j 0 k ∙ same j k ∙ sym (at-xored (octetsOn h) t j))))
     ∙ joined h t (came-bytes w n bw) (bytes-drop (at + n) s bs) (long ∙ sym left)
 
 -- the last octets taken off, a place behind them cleared, and the end

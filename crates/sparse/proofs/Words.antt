@@ -75,7 +75,8 @@ next-word h a s i x bytes la lx fits e =
     ∙ turn 7 s i (h * 2 ^ 64 + a) bytes fits
 
 -- two numbers that leave the same behind a message leave the same under it
-pub same-end : (a b h : ℕ) (s : List ℕ) → ((k : ℕ) → getD s k 0 < 256) → crcZeros (length s) a ≡ crcZeros (length s) b → crcOver (bitXor a h) s ≡ crcOver (bitXor b h) s
+pub same-end : (a b h : ℕ) (s : List ℕ) → ((k : ℕ) → getD s k 0 < 256) → crcZeros (length s) a ≡ crcZeros (length s) b
+    → crcOver (bitXor a h) s ≡ crcOver (bitXor b h) s
 same-end a b h s bytes e =
     let n = length s in
     let apart : (x : ℕ) → crcOver (bitXor x h) s ≡ bitXor (crcZeros n x) (crcZeros n (bitXor h (word s))) =

@@ -17,7 +17,7 @@ abbrev μ-loop : tie.MeasureT-loop
 μ-loop w₀ i₀ w i = 300 - i
 
 loop-holds : tie.Need-loop-holds Inv-loop μ-loop
-loop-holds c = (search needs, refl, c .pre, (refl, refl))
+loop-holds c = (search needs, refl, c .pre, (refl, (λ j h. refl)))
 
 add-w : tie.Need-add-w Inv-loop μ-loop
 add-w c = search needs
@@ -27,6 +27,12 @@ slice-read-w c = search needs
 
 slice-write-w : tie.Need-slice-write-w Inv-loop μ-loop
 slice-write-w c = search needs
+
+add-w-2 : tie.Need-add-w-2 Inv-loop μ-loop
+add-w-2 c = search needs
+
+slice-write-w-2 : tie.Need-slice-write-w-2 Inv-loop μ-loop
+slice-write-w-2 c = simp length-set (omega arith)
 
 add-i : tie.Need-add-i Inv-loop μ-loop
 add-i c = search needs
@@ -54,4 +60,4 @@ returns c =
 
 pub move-down-spec : {M : Type 1} → statement M
 move-down-spec =
-    tie.close (tie.spec Inv-loop μ-loop loop-holds add-w slice-read-w slice-write-w add-i loop-less loop-again same-length returns)
+    tie.close (tie.spec Inv-loop μ-loop loop-holds add-w slice-read-w slice-write-w add-w-2 slice-write-w-2 add-i loop-less loop-again same-length returns)

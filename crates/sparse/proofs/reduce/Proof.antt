@@ -54,8 +54,9 @@ loop-again c =
       at .inv .3,
       at .inv .4,
       at .inv .5,
-      bytes-set (at .w) (i + 300) (v .result) (at .inv .6) below (omega arith),
-      cut-more (start .s .now) (start .w .now) (at .w) (start .at) i (v .result) (at .inv .5) (at .inv .6) below (omega arith) (omega arith) (v .ensures) (at .inv .7),
+      bytes-set (at .w) (i + 300) (v .result) (at .inv .6) below,
+      cut-more (start .s .now) (start .w .now) (at .w) (start .at) i (v .result) (at .inv .5) (at .inv .6) below (omega arith) (omega arith)
+          (v .ensures) (at .inv .7),
     )
 
 same-length : tie.Need-same-length Inv-loop μ-loop

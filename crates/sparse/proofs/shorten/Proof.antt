@@ -84,8 +84,9 @@ returns c =
     let s = first .before .before .args .s .now in
     let octets : Bytes s = λ k. omega (arith, first .shared-slice-known .given k) in
     let window : Bytes (cleared .last .0) = λ k. omega (arith, known .slice-known6 .given k) in
-    shortened s (at .w) (taken .reduce2 .last .0) (cleared .last .0) (finished .last .0) (at .at) (length s - at .at - 300) (omega arith) (omega arith) (omega arith) (omega arith) (omega arith)
-    octets window (taken .reduce2 .ensures) (cleared .ensures) (finished .ensures)
+    let last = taken .reduce2 in
+    shortened s (at .w) (last .last .0) (cleared .last .0) (finished .last .0) (at .at) (length s - at .at - 300)
+    (omega arith) (omega arith) (omega arith) (omega arith) (omega arith) octets window (last .ensures) (cleared .ensures) (finished .ensures)
     ∙ at .inv .2
 
 pub shorten-spec : {M : Type 1} → statement M
