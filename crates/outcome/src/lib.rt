@@ -102,14 +102,7 @@ fn after_fcs(s: Settings, job: u8, table: &[u8; 128], f: &[u8], tags: u8) -> Out
 
 // What becomes of a run ended by the control octet `by`: the first rule that holds. In steps, so that a run which rules 1 to 3 decide costs no look at
 // the settings, and tags are counted once for rules 4 and 6. The FCS by tables if they are lent, and so public for this repository's crates only.
-pub fn judge_by_rules(
-    t: &[u32],
-    s: Settings,
-    job: u8,
-    table: &[u8; 128],
-    run: &[u8],
-    by: u8,
-) -> Judged
+pub fn judge(t: &[u32], s: Settings, job: u8, table: &[u8; 128], run: &[u8], by: u8) -> Judged
     requires { ⌜ Lent (now t) ⌝ }
     ensures { λ r. ⌜ r ≡ judged s (ownEntries job (now (table .entry))) (now (run .entry)) by ⌝ }
 {
@@ -229,18 +222,6 @@ pub fn judge_plain(t: &[u32], run: &[u8]) -> Judged
         outcome: Outcome::HandedOut,
         check,
     }
-}
-
-// What becomes of any run: a plain frame to the own address by the quick way, all else by the rules.
-pub fn judge(t: &[u32], s: Settings, job: u8, table: &[u8; 128], run: &[u8], by: u8) -> Judged
-    requires { ⌜ Lent (now t) ⌝ }
-    ensures { λ r. ⌜ r ≡ judged s (ownEntries job (now (table .entry))) (now (run .entry)) by ⌝ }
-{
-    let want = opening(s.own);
-    if is_plain(&want, s.limit, run, by) {
-        return judge_plain(t, run);
-    }
-    judge_by_rules(t, s, job, table, run, by)
 }
 
 // ---- the status word

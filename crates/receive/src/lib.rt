@@ -274,7 +274,7 @@ fn walk_on(
             let o = judged.outcome;
             station::count(o, &mut counters);
         } else {
-            let judged = outcome::judge_by_rules(t, s, job, table, &octets[from..end], octets[end]);
+            let judged = outcome::judge(t, s, job, table, &octets[from..end], octets[end]);
             let o = judged.outcome;
             station::count(o, &mut counters);
             if flow::sets_timers(o) {

@@ -153,20 +153,20 @@ judge-plain-requires c κs = call (turning (starting (ending (c .before .before)
 count-requires : tie.Need-count-requires Inv-loop μ-loop
 count-requires c κs = search needs
 
-sub-judge-by-rules : tie.Need-sub-judge-by-rules Inv-loop μ-loop
-sub-judge-by-rules c = let e = end-inside (ending (c .before)) in omega arith
+sub-judge : tie.Need-sub-judge Inv-loop μ-loop
+sub-judge c = let e = end-inside (ending (c .before)) in omega arith
 
-part-judge-by-rules-start : tie.Need-part-judge-by-rules-start Inv-loop μ-loop
-part-judge-by-rules-start c = let e = end-inside (ending (c .before)) in omega arith
+part-judge-start : tie.Need-part-judge-start Inv-loop μ-loop
+part-judge-start c = let e = end-inside (ending (c .before)) in omega arith
 
-part-judge-by-rules-end : tie.Need-part-judge-by-rules-end Inv-loop μ-loop
-part-judge-by-rules-end c = let e = end-inside (ending (c .before)) in omega arith
+part-judge-end : tie.Need-part-judge-end Inv-loop μ-loop
+part-judge-end c = let e = end-inside (ending (c .before)) in omega arith
 
-shared-slice-read-judge-by-rules : tie.Need-shared-slice-read-judge-by-rules Inv-loop μ-loop
-shared-slice-read-judge-by-rules c = let e = end-inside (ending (c .before .before .before)) in omega arith
+shared-slice-read-judge : tie.Need-shared-slice-read-judge Inv-loop μ-loop
+shared-slice-read-judge c = let e = end-inside (ending (c .before .before .before)) in omega arith
 
-judge-by-rules-requires : tie.Need-judge-by-rules-requires Inv-loop μ-loop
-judge-by-rules-requires c κs = call (turning (starting (ending (c .before .before .before)))) .pre .0
+judge-requires : tie.Need-judge-requires Inv-loop μ-loop
+judge-requires c κs = call (turning (starting (ending (c .before .before .before)))) .pre .0
 
 count-requires-2 : tie.Need-count-requires-2 Inv-loop μ-loop
 count-requires-2 c κs = search needs
@@ -287,11 +287,11 @@ walk-on-spec =
     part-judge-plain-end
     judge-plain-requires
     count-requires
-    sub-judge-by-rules
-    part-judge-by-rules-start
-    part-judge-by-rules-end
-    shared-slice-read-judge-by-rules
-    judge-by-rules-requires
+    sub-judge
+    part-judge-start
+    part-judge-end
+    shared-slice-read-judge
+    judge-requires
     count-requires-2
     sets-timers-requires
     sub-frame-of
