@@ -29,6 +29,10 @@ _⨾_ {l} {m} {n} {a} {b} {i} {j} {k} p q =
       holds = q .holds ∙ rw (p .holds, p .goes) (sets-sets l i a b);
     }
 
+-- a write, by other words for what it wrote
+pub put-as : {l m a b : List ℕ} {i j : ℕ} → a ≡ b → Put l i a j m → Put l i b j m
+put-as e p = rw (← e) p
+
 -- what was written can be read again, as the part from its start to its end
 pub read-back : {l a m : List ℕ} {i j : ℕ} → Put l i a j m → j ≤ length l → take (j - i) (drop i m) ≡ a
 read-back {l} {a} {m} {i} {j} p h =

@@ -53,11 +53,6 @@ pub marks-size : (idles n : ℕ) → idles + 2 ≤ n → length (frameMarks idle
 unfolding frameMarks
 marks-size idles n h = simp (length-append, length-replicate) (omega arith)
 
--- ---- a write, by other words for what it wrote
-
-pub wrote : {old new other held : List ℕ} {at next : ℕ} → new ≡ other → Put old at new next held → Put old at other next held
-wrote e p = rw e at p
-
 -- ---- each body, associated as it is written
 
 pub client-pieces : (s : Settings) (c : Client) (d : List ℕ)

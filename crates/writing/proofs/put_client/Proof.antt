@@ -5,8 +5,8 @@ use mathlib.Core.Path.{_≡_, ap}
 use lib.ListN.{length}
 use denote.Ref.{now}
 use Rattle.line.specs.Octets.{highFirst}
-use Rattle.splice.proofs.Laws.{_⨾_}
-use Rattle.writing.proofs.Pieces.{head-size, wrote, client-pieces}
+use Rattle.splice.proofs.Laws.{_⨾_, put-as}
+use Rattle.writing.proofs.Pieces.{head-size, client-pieces}
 use Rattle.writing.proofs.Sizes.{length-mapped, two, padded-size, client-body-size}
 use Rattle.writing.proofs.TagLaws.{tag-length, tags-count}
 use Rattle.writing.specs.Frames.{tagsSent, padded}
@@ -86,7 +86,7 @@ returns c =
     let t = tagged (n .before) in
     let h = headed (t .before) in
     let a = start (h .before) .args in
-    let number = wrote (ap highFirst (h .before .before .field-sent .ensures)) (n .put-number .ensures) in
+    let number = put-as (ap highFirst (h .before .before .field-sent .ensures)) (n .put-number .ensures) in
     rw (client-pieces (a .s) (a .client) (now (a .d))) at (h .put-head .ensures ⨾ t .put-own-tags .ensures ⨾ number ⨾ d .put-data .ensures)
 
 pub put-client-spec : {M : Type 1} → statement M

@@ -1,11 +1,10 @@
 -- `writing::put_end` meets its contract: two writes, by `_⨾_`; the check of the part is the FCS. Assumes nothing.
 use mathlib.Core.Path.{ap, _∙_}
-use Rattle.splice.proofs.Laws.{_⨾_}
+use Rattle.splice.proofs.Laws.{_⨾_, put-as}
 use Rattle.line.specs.Octets.{between}
 use Rattle.fcs.specs.Fcs.{fcsOctets}
 use Rattle.fcs.proofs.Laws.{fcs-is}
 use Rattle.writing.specs.Pieces.{endOf}
-use Rattle.writing.proofs.Pieces.{wrote}
 use borrow.Author.Needs.{needs}
 use Rattle.writing.proofs.put_end.Statement.{statement}
 use Rattle.writing.proofs.put_end.Tie as tie
@@ -51,7 +50,7 @@ returns c =
     let p = written (g .before) in
     let o = coded p in
     let check = o .octets2 .ensures ∙ ap fcsOctets (o .before .check .ensures) ∙ fcs-is _ in
-    wrote check (p .put .ensures) ⨾ g .put-gap .ensures
+    put-as check (p .put .ensures) ⨾ g .put-gap .ensures
 
 pub put-end-spec : {M : Type 1} → statement M
 put-end-spec =

@@ -1,9 +1,8 @@
 -- `writing::put_tag` meets its contract: two numbers, by `_⨾_`. Assumes nothing.
 use native.Mathlib.Omega.{arith}
 use mathlib.Core.Path.{ap}
-use Rattle.splice.proofs.Laws.{_⨾_}
+use Rattle.splice.proofs.Laws.{_⨾_, put-as}
 use Rattle.line.specs.Octets.{highFirst}
-use Rattle.writing.proofs.Pieces.{wrote}
 use Rattle.writing.proofs.Sizes.{two}
 use borrow.Author.Needs.{needs}
 use Rattle.writing.proofs.put_tag.Statement.{statement}
@@ -29,7 +28,7 @@ returns : tie.Need-returns
 returns c =
     let n = c .before .before in
     let k = written (n .before) in
-    wrote (ap highFirst (k .before .kind-field .ensures)) (k .put-number .ensures) ⨾ n .put-number2 .ensures
+    put-as (ap highFirst (k .before .kind-field .ensures)) (k .put-number .ensures) ⨾ n .put-number2 .ensures
 
 pub put-tag-spec : {M : Type 1} → statement M
 put-tag-spec =
