@@ -1,6 +1,6 @@
 -- `fenhamper::fenhamper_screen` meets its contract. Assumes nothing.
 use borrow.Author.Needs.{needs}
-use Rattle.fenhamper.specs.Face.{stateOf}
+use Rattle.crossing.specs.Records.{stateOf}
 use Rattle.fenhamper.proofs.fenhamper_screen.Statement.{statement}
 use Rattle.fenhamper.proofs.fenhamper_screen.Tie as tie
 

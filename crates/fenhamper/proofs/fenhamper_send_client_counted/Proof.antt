@@ -9,8 +9,8 @@ use Rattle.station.specs.declared.Port.{Port}
 use Rattle.station.specs.declared.Settings.{Settings}
 use Rattle.counting.specs.Counting.{frameTotals, clientCounting}
 use Rattle.counting.proofs.Calls.{known-frame, client-leaves}
-use Rattle.fenhamper.specs.Face.{settingsOf, stateOf, portOf, clientOf}
-use Rattle.fenhamper.proofs.Crossing.{refused-crosses, made-crosses, countable-crossed}
+use Rattle.crossing.specs.Records.{settingsOf, stateOf, portOf, clientOf}
+use Rattle.fenhamper.proofs.Calls.{refused-crosses, made-crosses, countable-crossed}
 use Rattle.fenhamper.proofs.fenhamper_send_client_counted.Statement.{statement}
 use Rattle.fenhamper.proofs.fenhamper_send_client_counted.Tie as tie
 

@@ -9,8 +9,8 @@ use Rattle.station.specs.declared.Port.{Port}
 use Rattle.station.specs.declared.Settings.{Settings}
 use Rattle.counting.specs.Counting.{frameTotals, pauseCounting}
 use Rattle.counting.proofs.Calls.{known-frame, pause-leaves}
-use Rattle.fenhamper.specs.Face.{settingsOf, stateOf, portOf, quantaOf}
-use Rattle.fenhamper.proofs.Crossing.{refused-crosses, made-crosses, countable-crossed}
+use Rattle.crossing.specs.Records.{settingsOf, stateOf, portOf, quantaOf}
+use Rattle.fenhamper.proofs.Calls.{refused-crosses, made-crosses, countable-crossed}
 use Rattle.fenhamper.proofs.fenhamper_send_pause_counted.Statement.{statement}
 use Rattle.fenhamper.proofs.fenhamper_send_pause_counted.Tie as tie
 

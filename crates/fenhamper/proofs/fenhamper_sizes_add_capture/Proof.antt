@@ -1,5 +1,5 @@
 -- `fenhamper::fenhamper_sizes_add_capture` meets its contract. Assumes nothing.
-use Rattle.fenhamper.specs.Bands.{addTold}
+use Rattle.fenhamper.specs.Face.{addTold}
 use borrow.Author.Needs.{needs}
 use Rattle.fenhamper.proofs.fenhamper_sizes_add_capture.Statement.{statement}
 use Rattle.fenhamper.proofs.fenhamper_sizes_add_capture.Tie as tie
