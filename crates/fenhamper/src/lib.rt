@@ -4,6 +4,7 @@ use station::Checked;
 use station::Quanta;
 use totals::Count;
 ghost use mathlib.Core.Path.{_≡_};
+ghost use Rattle.line.specs.Table.{first};
 ghost use Rattle.fcs.specs.Fcs.{fcsOf};
 ghost use Rattle.crc.specs.Crc.{crcOver};
 ghost use Rattle.station.specs.Station.{fresh, screenOf};
@@ -21,7 +22,7 @@ ghost use Rattle.send.specs.Sending.{clientSending, pauseSending, pfcSending, i
 ghost use Rattle.totals.specs.Totals.{beforePlace, filled};
 ghost use Rattle.plain.specs.Plain.{freshPlain, step};
 ghost use Rattle.sizes.specs.Sizes.{freshSizes, adding, addTables};
-ghost use Rattle.counting.specs.Counting.{clientCounting, pauseCounting, pfcCounting, idleCounting};
+ghost use Rattle.counting.specs.Counting.{frameTotals, clientCounting, pauseCounting, pfcCounting, idleCounting};
 ghost use Rattle.crossing.specs.Records.{settingsOf, stateOf, portOf, clientOf, quantaOf, classesOf, recordNamed};
 ghost use Rattle.crossing.specs.Records.{stateNumbers, explainNumbers, partWithin};
 ghost use Rattle.crossing.specs.Given.{recordGiven, recordTold, numberGiven, numberTold};
@@ -388,6 +389,30 @@ pub extern "C" fn fenhamper_starts_before(
     }
 }
 
+// The tests up to 22 of a frame's call with totals, on what its records stand for.
+fn check_counted(
+    s: &[u8; 24],
+    port: u8,
+    state: &[u64; 24],
+    octets: &[u8],
+    marks: &[u8],
+    totals: &[u16],
+    place: usize,
+) -> Checked
+    ensures { λ r. ⌜ r ≡ first (frameTotals (settingsOf (now (s .entry))) (portOf port) (stateOf (now (state .entry)) .deficit)
+        (now (octets .entry)) (now (marks .entry)) place (now (totals .entry))) ⌝ }
+{
+    counting::check_frame(
+        crossing::settings(s),
+        crossing::port_of(port),
+        state[19],
+        octets,
+        marks,
+        totals,
+        place,
+    )
+}
+
 #[no_mangle]
 pub extern "C" fn fenhamper_send_client_counted(
     s: &[u8; 24],
@@ -405,15 +430,7 @@ pub extern "C" fn fenhamper_send_client_counted(
         ≡ countTold (now (state .entry)) (clientCounting (settingsOf (now (s .entry))) (stateOf (now (state .entry))) (portOf port)
         (now (octets .entry)) (now (marks .entry)) (now (totals .entry)) place (clientOf (now (frame .entry))) (now («data» .entry))) ⌝ }
 {
-    let checked = counting::check_frame(
-        crossing::settings(s),
-        crossing::port_of(port),
-        state[19],
-        octets,
-        marks,
-        totals,
-        place,
-    );
+    let checked = check_counted(s, port, state, octets, marks, totals, place);
     if let Checked::Refused(x) = checked {
         *answer = crossing::refused_numbers(x, place);
         return;
@@ -438,15 +455,7 @@ pub extern "C" fn fenhamper_send_pause_counted(
         ≡ countTold (now (state .entry)) (pauseCounting (settingsOf (now (s .entry))) (stateOf (now (state .entry))) (portOf port)
         (now (octets .entry)) (now (marks .entry)) (now (totals .entry)) place (quantaOf quanta)) ⌝ }
 {
-    let checked = counting::check_frame(
-        crossing::settings(s),
-        crossing::port_of(port),
-        state[19],
-        octets,
-        marks,
-        totals,
-        place,
-    );
+    let checked = check_counted(s, port, state, octets, marks, totals, place);
     if let Checked::Refused(x) = checked {
         *answer = crossing::refused_numbers(x, place);
         return;
@@ -472,15 +481,7 @@ pub extern "C" fn fenhamper_send_pfc_counted(
         ≡ countTold (now (state .entry)) (pfcCounting (settingsOf (now (s .entry))) (stateOf (now (state .entry))) (portOf port)
         (now (octets .entry)) (now (marks .entry)) (now (totals .entry)) place (classesOf named (now (quanta .entry)))) ⌝ }
 {
-    let checked = counting::check_frame(
-        crossing::settings(s),
-        crossing::port_of(port),
-        state[19],
-        octets,
-        marks,
-        totals,
-        place,
-    );
+    let checked = check_counted(s, port, state, octets, marks, totals, place);
     if let Checked::Refused(x) = checked {
         *answer = crossing::refused_numbers(x, place);
         return;
