@@ -39,7 +39,7 @@ def kind_of(path):
     text, crate = path.read_text(), path.parent.parent.name
     if text.startswith("-- Internal") or path.name == "Lib.antt":
         return "internal"
-    if crate == "fenhamper":
+    if crate in ("crossing", "fenhamper"):
         return "face"
     return "claims" if crate == "mac" or path.name == "Claims.antt" or "claims" in head(text) else "rules"
 
@@ -110,7 +110,7 @@ def table():
     rows = [
         ("**to read and believe**", "", "", ""),
         ("definitions of the rules", "`crates/*/specs`", len(rules), sum(rules.values())),
-        ("what the records of the C face stand for", "`crates/fenhamper/specs`", len(face), sum(face.values())),
+        ("what the records of the C face stand for", "`crates/crossing/specs`, `crates/fenhamper/specs`", len(face), sum(face.values())),
         ("what the claims speak of", "`crates/mac/specs`, `crates/*/specs/Claims.antt` and the like", len(claims), sum(claims.values())),
         (f"statements of the {len(said)} theorems that are claimed", "`crates/*/proofs`", len({path for path, _ in said}), sum(said.values())),
         (f"contracts of the {public} public functions", "`crates/*/src/lib.rt`", len(code), clauses),

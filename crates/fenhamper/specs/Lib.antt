@@ -1,3 +1,1 @@
-pub mod Bands
 pub mod Face
-pub mod Reader

@@ -4,7 +4,7 @@ use mathlib.Core.Path.{ap, _∙_}
 use Rattle.station.specs.declared.Settings.{Settings}
 use Rattle.table.specs.Entries.{entriesOf}
 use Rattle.reason.specs.Reasons.{explained}
-use Rattle.fenhamper.specs.Face.{explainNumbers}
+use Rattle.crossing.specs.Records.{explainNumbers}
 use borrow.Author.Needs.{needs}
 use Rattle.fenhamper.proofs.fenhamper_explain.Statement.{statement}
 use Rattle.fenhamper.proofs.fenhamper_explain.Tie as tie

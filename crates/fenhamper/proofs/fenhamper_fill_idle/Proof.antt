@@ -3,7 +3,7 @@ use denote.Ref.{now}
 use mathlib.Core.Path.{ap, _∙_}
 use Rattle.station.specs.declared.State.{State}
 use Rattle.send.specs.Sending.{idleSending}
-use Rattle.fenhamper.proofs.Crossing.{send-crosses}
+use Rattle.fenhamper.proofs.Calls.{send-crosses}
 use borrow.Author.Needs.{needs}
 use Rattle.fenhamper.proofs.fenhamper_fill_idle.Statement.{statement}
 use Rattle.fenhamper.proofs.fenhamper_fill_idle.Tie as tie

@@ -9,8 +9,8 @@ use Rattle.totals.specs.Totals.{beforeRefusals}
 use Rattle.totals.proofs.Tests.{known}
 use Rattle.counting.specs.Counting.{idleCounting}
 use Rattle.counting.proofs.Calls.{idle-leaves}
-use Rattle.fenhamper.specs.Face.{stateOf}
-use Rattle.fenhamper.proofs.Crossing.{refused-crosses, made-crosses, countable-crossed}
+use Rattle.crossing.specs.Records.{stateOf}
+use Rattle.fenhamper.proofs.Calls.{refused-crosses, made-crosses, countable-crossed}
 use Rattle.fenhamper.proofs.fenhamper_fill_idle_counted.Statement.{statement}
 use Rattle.fenhamper.proofs.fenhamper_fill_idle_counted.Tie as tie
 

@@ -1,5 +1,5 @@
 -- `fenhamper::fenhamper_fill_totals` meets its contract. Assumes nothing.
-use Rattle.fenhamper.proofs.Crossing.{fill-crosses}
+use Rattle.fenhamper.proofs.Calls.{fill-crosses}
 use borrow.Author.Needs.{needs}
 use Rattle.fenhamper.proofs.fenhamper_fill_totals.Statement.{statement}
 use Rattle.fenhamper.proofs.fenhamper_fill_totals.Tie as tie

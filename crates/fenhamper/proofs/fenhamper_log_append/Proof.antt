@@ -1,7 +1,7 @@
 -- `fenhamper::fenhamper_log_append` meets its contract. Assumes nothing.
 use mathlib.Core.Path.{ap, _∙_}
 use Rattle.log.specs.Log.{appending}
-use Rattle.fenhamper.proofs.Crossing.{log-crosses}
+use Rattle.fenhamper.proofs.Calls.{log-crosses}
 use borrow.Author.Needs.{needs}
 use Rattle.fenhamper.proofs.fenhamper_log_append.Statement.{statement}
 use Rattle.fenhamper.proofs.fenhamper_log_append.Tie as tie

@@ -1,7 +1,7 @@
 -- `fenhamper::fenhamper_log_append_reading` meets its contract. Assumes nothing.
 use mathlib.Core.Path.{ap, _∙_}
 use Rattle.log.specs.Log.{appending}
-use Rattle.fenhamper.proofs.Crossing.{log-crosses}
+use Rattle.fenhamper.proofs.Calls.{log-crosses}
 use borrow.Author.Needs.{needs}
 use Rattle.fenhamper.proofs.fenhamper_log_append_reading.Statement.{statement}
 use Rattle.fenhamper.proofs.fenhamper_log_append_reading.Tie as tie

@@ -1,5 +1,5 @@
 -- `fenhamper::fenhamper_log_compact` meets its contract. Assumes nothing.
-use Rattle.fenhamper.proofs.Crossing.{log-crosses}
+use Rattle.fenhamper.proofs.Calls.{log-crosses}
 use borrow.Author.Needs.{needs}
 use Rattle.fenhamper.proofs.fenhamper_log_compact.Statement.{statement}
 use Rattle.fenhamper.proofs.fenhamper_log_compact.Tie as tie

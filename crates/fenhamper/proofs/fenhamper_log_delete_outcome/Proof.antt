@@ -1,5 +1,5 @@
 -- `fenhamper::fenhamper_log_delete_outcome` meets its contract. Assumes nothing.
-use Rattle.fenhamper.proofs.Crossing.{deleted-crosses}
+use Rattle.fenhamper.proofs.Calls.{deleted-crosses}
 use borrow.Author.Needs.{needs}
 use Rattle.fenhamper.proofs.fenhamper_log_delete_outcome.Statement.{statement}
 use Rattle.fenhamper.proofs.fenhamper_log_delete_outcome.Tie as tie

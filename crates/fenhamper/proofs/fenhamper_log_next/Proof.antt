@@ -1,6 +1,6 @@
 -- `fenhamper::fenhamper_log_next` meets its contract. Assumes nothing.
 use mathlib.Core.Path.{refl}
-use Rattle.fenhamper.proofs.Crossing.{step-crosses}
+use Rattle.fenhamper.proofs.Calls.{step-crosses}
 use borrow.Author.Needs.{needs}
 use Rattle.fenhamper.proofs.fenhamper_log_next.Statement.{statement}
 use Rattle.fenhamper.proofs.fenhamper_log_next.Tie as tie

@@ -1,6 +1,6 @@
 -- `fenhamper::fenhamper_log_record` meets its contract. Assumes nothing.
 use mathlib.Core.Path.{ap, _∙_}
-use Rattle.fenhamper.specs.Face.{recordTold}
+use Rattle.crossing.specs.Given.{recordTold}
 use borrow.Author.Needs.{needs}
 use Rattle.fenhamper.proofs.fenhamper_log_record.Statement.{statement}
 use Rattle.fenhamper.proofs.fenhamper_log_record.Tie as tie

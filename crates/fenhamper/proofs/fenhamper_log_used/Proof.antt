@@ -1,6 +1,6 @@
 -- `fenhamper::fenhamper_log_used` meets its contract. Assumes nothing.
 use mathlib.Core.Path.{ap, _∙_}
-use Rattle.fenhamper.specs.Face.{numberTold}
+use Rattle.crossing.specs.Given.{numberTold}
 use borrow.Author.Needs.{needs}
 use Rattle.fenhamper.proofs.fenhamper_log_used.Statement.{statement}
 use Rattle.fenhamper.proofs.fenhamper_log_used.Tie as tie

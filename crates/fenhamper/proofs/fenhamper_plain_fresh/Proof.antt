@@ -1,7 +1,7 @@
 -- `fenhamper::fenhamper_plain_fresh` meets its contract. Assumes nothing.
 use mathlib.Core.Path.{ap, _∙_}
 use Rattle.plain.specs.Plain.{freshPlain}
-use Rattle.fenhamper.specs.Reader.{readerTold}
+use Rattle.crossing.specs.Reader.{readerTold}
 use borrow.Author.Needs.{needs}
 use Rattle.fenhamper.proofs.fenhamper_plain_fresh.Statement.{statement}
 use Rattle.fenhamper.proofs.fenhamper_plain_fresh.Tie as tie

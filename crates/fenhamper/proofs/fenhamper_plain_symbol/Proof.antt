@@ -5,8 +5,8 @@ use Rattle.station.specs.declared.Settings.{Settings}
 use Rattle.table.specs.Entries.{entriesOf}
 use Rattle.plain.specs.declared.Plain.{Plain}
 use Rattle.plain.specs.Plain.{step}
-use Rattle.fenhamper.specs.Reader.{plainOf}
-use Rattle.fenhamper.proofs.Crossing.{plain-crosses}
+use Rattle.crossing.specs.Reader.{plainOf}
+use Rattle.fenhamper.proofs.Calls.{plain-crosses}
 use borrow.Author.Needs.{needs}
 use Rattle.fenhamper.proofs.fenhamper_plain_symbol.Statement.{statement}
 use Rattle.fenhamper.proofs.fenhamper_plain_symbol.Tie as tie

@@ -5,7 +5,7 @@ use Rattle.station.specs.declared.State.{State}
 use Rattle.station.specs.declared.Settings.{Settings}
 use Rattle.table.specs.Entries.{entriesOf}
 use Rattle.receive.specs.Reading.{reading}
-use Rattle.fenhamper.proofs.Crossing.{read-crosses}
+use Rattle.fenhamper.proofs.Calls.{read-crosses}
 use borrow.Author.Needs.{needs}
 use Rattle.fenhamper.proofs.fenhamper_read.Statement.{statement}
 use Rattle.fenhamper.proofs.fenhamper_read.Tie as tie

@@ -1,6 +1,8 @@
 -- `fenhamper::fenhamper_screen` meets its contract. Assumes nothing.
 use borrow.Author.Needs.{needs}
-use Rattle.fenhamper.specs.Face.{stateOf}
+use mathlib.Core.Path.{ap, _∙_}
+use Rattle.station.specs.Station.{screenOf}
+use Rattle.crossing.specs.Records.{stateOf}
 use Rattle.fenhamper.proofs.fenhamper_screen.Statement.{statement}
 use Rattle.fenhamper.proofs.fenhamper_screen.Tie as tie
 
@@ -12,7 +14,7 @@ screen-requires c κs = search needs
 
 returns : tie.Need-returns
 unfolding stateOf
-returns c = cc
+returns c = c .screen .ensures ∙ ap screenOf (c .before .counters .ensures)
 
 pub fenhamper-screen-spec : {M : Type 1} → statement M
 fenhamper-screen-spec = tie.close (tie.spec counters-requires screen-requires returns)

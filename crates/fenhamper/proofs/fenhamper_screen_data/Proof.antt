@@ -1,5 +1,5 @@
 -- `fenhamper::fenhamper_screen_data` meets its contract. Assumes nothing.
-use Rattle.fenhamper.proofs.Crossing.{screen-crosses}
+use Rattle.fenhamper.proofs.Calls.{screen-crosses}
 use borrow.Author.Needs.{needs}
 use Rattle.fenhamper.proofs.fenhamper_screen_data.Statement.{statement}
 use Rattle.fenhamper.proofs.fenhamper_screen_data.Tie as tie

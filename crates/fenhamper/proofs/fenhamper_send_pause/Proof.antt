@@ -5,8 +5,8 @@ use Rattle.station.specs.declared.Port.{Port}
 use Rattle.station.specs.declared.State.{State}
 use Rattle.station.specs.declared.Settings.{Settings}
 use Rattle.send.specs.Sending.{pauseSending}
-use Rattle.fenhamper.specs.Face.{settingsOf, stateOf, quantaOf}
-use Rattle.fenhamper.proofs.Crossing.{send-crosses}
+use Rattle.crossing.specs.Records.{settingsOf, stateOf, quantaOf}
+use Rattle.fenhamper.proofs.Calls.{send-crosses}
 use borrow.Author.Needs.{needs}
 use Rattle.fenhamper.proofs.fenhamper_send_pause.Statement.{statement}
 use Rattle.fenhamper.proofs.fenhamper_send_pause.Tie as tie

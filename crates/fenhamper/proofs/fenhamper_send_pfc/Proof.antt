@@ -6,8 +6,8 @@ use Rattle.station.specs.declared.State.{State}
 use Rattle.station.specs.declared.Settings.{Settings}
 use Rattle.writing.specs.declared.Classes.{Classes}
 use Rattle.send.specs.Sending.{pfcSending}
-use Rattle.fenhamper.specs.Face.{settingsOf, stateOf}
-use Rattle.fenhamper.proofs.Crossing.{send-crosses}
+use Rattle.crossing.specs.Records.{settingsOf, stateOf}
+use Rattle.fenhamper.proofs.Calls.{send-crosses}
 use borrow.Author.Needs.{needs}
 use Rattle.fenhamper.proofs.fenhamper_send_pfc.Statement.{statement}
 use Rattle.fenhamper.proofs.fenhamper_send_pfc.Tie as tie

@@ -1,5 +1,11 @@
 -- `fenhamper::fenhamper_sizes_add_capture` meets its contract. Assumes nothing.
-use Rattle.fenhamper.specs.Bands.{addTold}
+use denote.Ref.{now}
+use mathlib.Core.Path.{ap, ap₂, _∙_}
+use Rattle.station.specs.declared.Settings.{Settings}
+use Rattle.table.specs.Entries.{entriesOf}
+use Rattle.sizes.specs.declared.SizeTable.{SizeTable}
+use Rattle.sizes.specs.Sizes.{adding}
+use Rattle.fenhamper.specs.Face.{sizesGiven, addTold}
 use borrow.Author.Needs.{needs}
 use Rattle.fenhamper.proofs.fenhamper_sizes_add_capture.Statement.{statement}
 use Rattle.fenhamper.proofs.fenhamper_sizes_add_capture.Tie as tie
@@ -21,7 +27,16 @@ checked-number-requires c κs = search needs
 
 returns : tie.Need-returns
 unfolding addTold
-returns c = cc
+returns c =
+    let told = c .before in
+    let called = told .before in
+    let set = called .before in
+    let sized = set .before in
+    let a = sized .before .before .before .before .args in
+    ap₂ sizesGiven (c .checked-number .ensures) (told .sizes-numbers .ensures)
+    ∙ ap addTold
+    (called .add-capture .ensures
+    ∙ ap₂ (λ (t : SizeTable) (s : Settings). adding t s (a .job) (entriesOf (now (a .table))) (now (a .octets)) (now (a .marks))) (sized .sizes-of .ensures) (set .settings .ensures))
 
 pub fenhamper-sizes-add-capture-spec : {M : Type 1} → statement M
 fenhamper-sizes-add-capture-spec =

@@ -1,5 +1,8 @@
 -- `fenhamper::fenhamper_sizes_add_table` meets its contract. Assumes nothing.
 use borrow.Author.Needs.{needs}
+use mathlib.Core.Path.{ap, ap₂, _∙_}
+use Rattle.sizes.specs.Sizes.{addTables}
+use Rattle.crossing.specs.Bands.{sizesNumbers}
 use Rattle.fenhamper.proofs.fenhamper_sizes_add_table.Statement.{statement}
 use Rattle.fenhamper.proofs.fenhamper_sizes_add_table.Tie as tie
 
@@ -16,7 +19,10 @@ sizes-numbers-requires : tie.Need-sizes-numbers-requires
 sizes-numbers-requires c κs = search needs
 
 returns : tie.Need-returns
-returns c = cc
+returns c =
+    let added = c .before in
+    let second = added .before in
+    c .sizes-numbers .ensures ∙ ap sizesNumbers (added .add-tables .ensures ∙ ap₂ addTables (second .before .sizes-of .ensures) (second .sizes-of2 .ensures))
 
 pub fenhamper-sizes-add-table-spec : {M : Type 1} → statement M
 fenhamper-sizes-add-table-spec =

@@ -2,7 +2,8 @@
 use Prim.Native.Nat.{ℕ}
 use mathlib.Core.Path.{sym, ap, _∙_}
 use denote.Ref.{now}
-use Rattle.fenhamper.specs.Face.{numberGiven, startsLeft, startsTold}
+use Rattle.crossing.specs.Given.{numberGiven}
+use Rattle.fenhamper.specs.Face.{startsLeft, startsTold}
 use borrow.Author.Needs.{needs}
 use Rattle.fenhamper.proofs.fenhamper_starts_before.Statement.{statement}
 use Rattle.fenhamper.proofs.fenhamper_starts_before.Tie as tie

@@ -1,7 +1,7 @@
 -- `fenhamper::fenhamper_table_add` meets its contract. Assumes nothing.
 use mathlib.Core.Path.{ap, _∙_}
 use Rattle.table.specs.Calls.{added}
-use Rattle.fenhamper.proofs.Crossing.{table-crosses}
+use Rattle.fenhamper.proofs.Calls.{table-crosses}
 use borrow.Author.Needs.{needs}
 use Rattle.fenhamper.proofs.fenhamper_table_add.Statement.{statement}
 use Rattle.fenhamper.proofs.fenhamper_table_add.Tie as tie

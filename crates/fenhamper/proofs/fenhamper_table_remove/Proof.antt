@@ -1,7 +1,7 @@
 -- `fenhamper::fenhamper_table_remove` meets its contract. Assumes nothing.
 use mathlib.Core.Path.{ap, _∙_}
 use Rattle.table.specs.Calls.{removed}
-use Rattle.fenhamper.proofs.Crossing.{table-crosses}
+use Rattle.fenhamper.proofs.Calls.{table-crosses}
 use borrow.Author.Needs.{needs}
 use Rattle.fenhamper.proofs.fenhamper_table_remove.Statement.{statement}
 use Rattle.fenhamper.proofs.fenhamper_table_remove.Tie as tie

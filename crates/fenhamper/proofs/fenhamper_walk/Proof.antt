@@ -5,7 +5,7 @@ use Rattle.station.specs.declared.State.{State}
 use Rattle.station.specs.declared.Settings.{Settings}
 use Rattle.table.specs.Entries.{entriesOf}
 use Rattle.receive.specs.Walk.{walked}
-use Rattle.fenhamper.proofs.Crossing.{walk-crosses}
+use Rattle.fenhamper.proofs.Calls.{walk-crosses}
 use borrow.Author.Needs.{needs}
 use Rattle.fenhamper.proofs.fenhamper_walk.Statement.{statement}
 use Rattle.fenhamper.proofs.fenhamper_walk.Tie as tie

@@ -5,7 +5,7 @@ use Rattle.station.specs.declared.State.{State}
 use Rattle.station.specs.declared.Settings.{Settings}
 use Rattle.table.specs.Entries.{entriesOf}
 use Rattle.logging.specs.Walks.{walkLogged}
-use Rattle.fenhamper.proofs.Crossing.{keep-crosses}
+use Rattle.fenhamper.proofs.Calls.{keep-crosses}
 use borrow.Author.Needs.{needs}
 use Rattle.fenhamper.proofs.fenhamper_walk_log.Statement.{statement}
 use Rattle.fenhamper.proofs.fenhamper_walk_log.Tie as tie

@@ -1,0 +1,4 @@
+pub mod Bands
+pub mod Given
+pub mod Reader
+pub mod Records
