@@ -10,6 +10,7 @@ use lib.ListN.{length}
 use denote.Enum.Declared.{tagOf}
 use types.Run.{OneOf}
 use lib.Dec.{ltb}
+use Rattle.line.specs.Limits.{tableEntries}
 use Rattle.line.specs.Octets.{sameOctets}
 use Rattle.line.proofs.Octets.{sameOctets-eq, false-unless}
 use Rattle.station.specs.declared.Address.{Address}
@@ -90,7 +91,7 @@ cond-le : (b : Bool) (w : ℕ) → w ≤ 31 → cond b 8 w ≤ 31
 cond-le true w h = omega arith
 cond-le false w h = omega arith
 
-module _ (s : Settings) (own : List (Option Address)) (f : List ℕ) (few : length own ≤ 16) where
+module _ (s : Settings) (own : List (Option Address)) (f : List ℕ) (few : length own ≤ tableEntries) where
   frame-way-le : frameWay s own f ≤ 31
   unfolding frameWay
   frame-way-le = cond-le (isControlFrame f && toReservedGroup f) (way s own (destination f)) (way-le s own (destination f) few)

@@ -6,8 +6,9 @@ use mathlib.Core.Bool.{Bool, true, false}
 use mathlib.Core.List.{List, [], _++_}
 use lib.ListN.{drop}
 use lib.Seq.{drop-drop}
+use Rattle.line.specs.Limits.{tagSize, mostTags}
 use Rattle.line.specs.Octets.{highFirstAt, highFirst}
-use Rattle.fields.specs.Tags.{isTagKind, mostTags, tagRun, tagCount}
+use Rattle.fields.specs.Tags.{isTagKind, tagRun, tagCount}
 use Rattle.fields.specs.Fields.{fieldPlace, dataPlace}
 use Rattle.line.proofs.Octets.{highFirst-drop, highFirst-read}
 
@@ -17,10 +18,11 @@ unfolding tagRun
 run-none f at zero h = refl
 run-none f at (suc most) h = rw (highFirst-drop f at, h, tagRun)
 
-pub run-more : (f : List ℕ) (at most : ℕ) → 0 < most → isTagKind (highFirstAt f at) ≡ true → tagRun most (drop at f) ≡ 1 + tagRun (most - 1) (drop (at + 4) f)
+pub run-more : (f : List ℕ) (at most : ℕ) → 0 < most → isTagKind (highFirstAt f at) ≡ true
+    → tagRun most (drop at f) ≡ 1 + tagRun (most - 1) (drop (at + tagSize) f)
 unfolding tagRun
 run-more f at zero z h = omega arith
-run-more f at (suc most) z h = (let e : suc most - 1 ≡ most = omega arith in rw (highFirst-drop f at, h, tagRun, drop-drop 4 at f, e))
+run-more f at (suc most) z h = (let e : suc most - 1 ≡ most = omega arith in rw (highFirst-drop f at, h, tagRun, drop-drop tagSize at f, e))
 
 pub run-over : (l : List ℕ) → tagRun 0 l ≡ 0
 unfolding tagRun
@@ -34,10 +36,10 @@ choice-le false n m h = omega arith
 tagRun-le : (most : ℕ) (l : List ℕ) → tagRun most l ≤ most
 unfolding tagRun
 tagRun-le zero l = omega arith
-tagRun-le (suc most) l = choice-le (isTagKind (highFirstAt l 0)) (tagRun most (drop 4 l)) most (tagRun-le most (drop 4 l))
+tagRun-le (suc most) l = choice-le (isTagKind (highFirstAt l 0)) (tagRun most (drop tagSize l)) most (tagRun-le most (drop tagSize l))
 
-pub tagCount-small : (f : List ℕ) → tagCount f ≤ 8
-unfolding tagCount mostTags
+pub tagCount-small : (f : List ℕ) → tagCount f ≤ mostTags
+unfolding tagCount
 tagCount-small f = omega (arith, tagRun-le mostTags (drop 12 f))
 
 pub fieldPlace-small : (f : List ℕ) → fieldPlace f ≤ 44

@@ -2,6 +2,7 @@
 use Prim.Native.Nat.{ℕ, _+_, _*_}
 use mathlib.Core.List.{List}
 use lib.ListN.{take}
+use Rattle.line.specs.Limits.{tagSize}
 use Rattle.line.specs.Octets.{highFirstAt}
 use Rattle.fields.specs.Tags.{tagCount}
 
@@ -15,7 +16,7 @@ firstField f = highFirstAt f 12
 
 -- "two octets of tag control, then the real field": where the real field stands, and what it says
 unfoldable pub fieldPlace : List ℕ → ℕ
-fieldPlace f = 12 + 4 * tagCount f
+fieldPlace f = 12 + tagSize * tagCount f
 
 unfoldable pub field : List ℕ → ℕ
 field f = highFirstAt f (fieldPlace f)

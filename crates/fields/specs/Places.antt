@@ -1,6 +1,7 @@
 -- The layout of a frame, as the code finds it in one go. `f` is a whole frame.
 use Prim.Native.Nat.{ℕ, _+_, _*_}
 use mathlib.Core.List.{List}
+use Rattle.line.specs.Limits.{tagSize}
 use Rattle.line.specs.Octets.{highFirstAt}
 use Rattle.fields.specs.declared.Layout.{Layout}
 use Rattle.fields.specs.Tags.{tagCount}
@@ -8,7 +9,7 @@ use Rattle.fields.specs.Fields.{field, dataPlace}
 
 -- "two octets of tag control, then the real field": of a frame with so many tags
 unfoldable pub laidOut : ℕ → List ℕ → Layout
-laidOut tags f = record { tags = tags; field = highFirstAt f (12 + 4 * tags); place = 12 + 4 * tags + 2 }
+laidOut tags f = record { tags = tags; field = highFirstAt f (12 + tagSize * tags); place = 12 + tagSize * tags + 2 }
 
 -- of a frame: the three definitions of Tags and Fields side by side
 unfoldable pub layoutOf : List ℕ → Layout

@@ -1,8 +1,11 @@
 // The parts of a frame: octets and numbers in it, tags, the real field, and where data begins (document 01, "Frame"). Meaning: specs/.
 // `f` is always a whole frame. An octet beyond its end counts as 0, so that every function has an answer for a frame of any size.
+use line::MOST_TAGS;
+use line::TAG_SIZE;
 ghost use mathlib.Core.Path.{_≡_};
 ghost use Prim.Native.Nat.{_+_, _*_, _≤_, _<_};
 ghost use lib.ListN.{getD, drop};
+ghost use Rattle.line.specs.Limits.{mostSymbols, tagSize};
 ghost use Rattle.line.specs.Octets.{highFirstAt};
 ghost use Rattle.fields.specs.Tags.{isTagKind, tagRun, tagCount};
 ghost use Rattle.fields.specs.Fields.{firstField};
@@ -65,14 +68,14 @@ pub fn first_field(f: &[u8]) -> u16
 
 // How many tags stand from `at` on, of `most` at most: one tag followed by a shorter run. (The bound keeps `at + 4` from wrapping, and no more.)
 fn tag_run(f: &[u8], at: usize, most: u8) -> u8
-    requires { ⌜ at + 4 * most ≤ 65536 ⌝ }
+    requires { ⌜ at + tagSize * most ≤ mostSymbols ⌝ }
     ensures { λ r. ⌜ (r ≡ tagRun most (drop at (now (f .entry)))) × (r ≤ most) ⌝ }
 {
     if most == 0 {
         return 0;
     }
     if is_tag_kind(high_first(f, at)) {
-        return 1 + tag_run(f, at + 4, most - 1);
+        return 1 + tag_run(f, at + TAG_SIZE, most - 1);
     }
     0
 }
@@ -84,14 +87,14 @@ pub fn tag_count(f: &[u8]) -> u8
     if !is_tag_kind(first_field(f)) {
         return 0;
     }
-    tag_run(f, 12, 8)
+    tag_run(f, 12, MOST_TAGS)
 }
 
 // The layout of a frame with so many tags: field and data stand behind them.
 pub fn laid_out(f: &[u8], tags: u8) -> Layout
     ensures { λ r. ⌜ r ≡ laidOut tags (now (f .entry)) ⌝ }
 {
-    let at = 12 + 4 * (tags as usize);
+    let at = 12 + TAG_SIZE * (tags as usize);
     let field = high_first(f, at);
     Layout {
         tags,

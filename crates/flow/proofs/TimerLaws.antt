@@ -9,6 +9,7 @@ use mathlib.Core.List.{List, [], _∷_}
 use lib.ListN.{length, getD, drop, replicate}
 use lib.Seq.{getD-drop, drop-drop}
 use lib.Dec.{eqb}
+use Rattle.line.specs.Limits.{quantumSlots}
 use Rattle.line.specs.Octets.{highFirstAt}
 use Rattle.station.specs.declared.Slots.{Slots}
 use Rattle.station.specs.declared.Quanta.{Quanta}
@@ -91,10 +92,10 @@ setNamed-each classes quanta ts =
 
 -- one class of a PFC frame, as the code finds its bit and its quanta
 pub named-turn : (f : List ℕ) (w k q : ℕ) (t r : Slots) → w ≡ getD f 17 0 / 2 ^ k → q ≡ highFirstAt f (18 + 2 * k)
-    → r ≡ cond (eqb (w % 2) 1) (record { 0 = 64 * q }) t → r ≡ namedAt (getD f 17 0) (drop 18 f) k t
+    → r ≡ cond (eqb (w % 2) 1) (record { 0 = quantumSlots * q }) t → r ≡ namedAt (getD f 17 0) (drop 18 f) k t
 unfolding quantaAt
 named-turn f w k q t r ew eq er =
-    er ∙ ap₂ (λ (m : ℕ) (x : ℕ). cond (eqb (m % 2) 1) (record { 0 = 64 * x }) t) ew eq
+    er ∙ ap₂ (λ (m : ℕ) (x : ℕ). cond (eqb (m % 2) 1) (record { 0 = quantumSlots * x }) t) ew eq
     ∙ ap (λ (x : Quanta). cond (eqb (getD f 17 0 / 2 ^ k % 2) 1) (slotsOf x) t) (sym (quantaAt-drop 18 f (2 * k)))
 
 -- ---- all lowered

@@ -4,6 +4,7 @@ use mathlib.Core.Bool.{Bool, true, false, cond}
 use mathlib.Core.List.{List, [], _∷_}
 use lib.ListN.{getD, drop}
 use lib.Dec.{eqb}
+use Rattle.line.specs.Limits.{quantumSlots}
 use Rattle.line.specs.Octets.{highFirstAt}
 use Rattle.station.specs.declared.Slots.{Slots}
 use Rattle.station.specs.declared.Quanta.{Quanta}
@@ -14,7 +15,7 @@ use Rattle.station.specs.Numbers.{byOutcome}
 
 -- "A quantum is 512 bit times, which is 64 slots": the one conversion
 abbrev pub slotsOf : Quanta → Slots
-slotsOf q = record { 0 = 64 * q .0 }
+slotsOf q = record { 0 = quantumSlots * q .0 }
 
 -- the quanta that stand at a place, high octet first
 unfoldable pub quantaAt : List ℕ → ℕ → Quanta

@@ -9,6 +9,7 @@ use lib.ListN.{length, getD, take, drop, length-drop}
 use lib.Seq.{getD-drop}
 use lib.Dec.{eqb}
 use borrow.Author.Tests.{eq-eqb, eqb-true}
+use Rattle.line.specs.Limits.{fcsSize}
 use Rattle.line.specs.Octets.{sameOctets, lowFirst}
 use Rattle.line.proofs.Octets.{sameOctets-refl, same-test, sameOctets-eq, sameOctets-not}
 use Rattle.line.proofs.Words.{Octets, low-drop, low-only}
@@ -45,34 +46,34 @@ same-number l n e o h =
     (λ s. rw (low-only 4 l (fcsOctets n) o (check-octets n) e refl (eqb-true w n s ∙ sym (fcs-number n h))) (sameOctets-refl (fcsOctets n)))
 
 -- the last four octets, likewise
-pub last-number : (f : List ℕ) (n : ℕ) → 4 ≤ length f → Octets f → n < 0x1_0000_0000
-    → sameOctets (lastFour f) (fcsOctets n) ≡ eqb (lowFirst f (length f - 4) 4) n
+pub last-number : (f : List ℕ) (n : ℕ) → fcsSize ≤ length f → Octets f → n < 0x1_0000_0000
+    → sameOctets (lastFour f) (fcsOctets n) ≡ eqb (lowFirst f (length f - fcsSize) 4) n
 unfolding lastFour
 last-number f n h o hn =
-    let m = length f - 4 in
+    let m = length f - fcsSize in
     same-number (drop m f) n (length-drop m f ∙ omega arith) (λ k. rw (getD-drop m f k 0) (o (m + k))) hn
     ∙ ap (λ (w : ℕ). eqb w n) (low-drop f m 0 4 ∙ ap (λ (k : ℕ). lowFirst f k 4) (add-zero m))
 
 -- their number as the code makes it
-pub last-sum : (f : List ℕ) (a b c d : ℕ) → 4 ≤ length f
-    → a ≡ getD f (length f - 4) 0 → b ≡ getD f (length f - 3) 0 → c ≡ getD f (length f - 2) 0 → d ≡ getD f (length f - 1) 0
-    → a + b * 0x100 + c * 0x1_0000 + d * 0x100_0000 ≡ lowFirst f (length f - 4) 4
+pub last-sum : (f : List ℕ) (a b c d : ℕ) → fcsSize ≤ length f
+    → a ≡ getD f (length f - fcsSize) 0 → b ≡ getD f (length f - 3) 0 → c ≡ getD f (length f - 2) 0 → d ≡ getD f (length f - 1) 0
+    → a + b * 0x100 + c * 0x1_0000 + d * 0x100_0000 ≡ lowFirst f (length f - fcsSize) 4
 unfolding lowFirst
 last-sum f a b c d h ea eb ec ed =
-    let m = length f - 4 in
+    let m = length f - fcsSize in
     let at : (i j : ℕ) → i ≡ j → getD f i 0 ≡ getD f j 0 = λ i j e. ap (λ (k : ℕ). getD f k 0) e in
     let p = at (m + 1) (length f - 3) (omega arith) in
     let q = at (m + 1 + 1) (length f - 2) (omega arith) in
     let r = at (m + 1 + 1 + 1) (length f - 1) (omega arith) in
     omega arith
 
-pub last-short : (f : List ℕ) (n : ℕ) → length f < 4 → sameOctets (lastFour f) (fcsOctets n) ≡ false
+pub last-short : (f : List ℕ) (n : ℕ) → length f < fcsSize → sameOctets (lastFour f) (fcsOctets n) ≡ false
 unfolding lastFour
 last-short f n h =
-    sameOctets-not (drop (length f - 4) f) (fcsOctets n) (λ e. omega (arith, ap length e, length-drop (length f - 4) f))
+    sameOctets-not (drop (length f - fcsSize) f) (fcsOctets n) (λ e. omega (arith, ap length e, length-drop (length f - fcsSize) f))
 
 -- the rule, of a check that was made of what it covers
-pub covered-part : (f : List ℕ) (e : ℕ) → e ≡ length f - 4 → take e f ≡ covered f
+pub covered-part : (f : List ℕ) (e : ℕ) → e ≡ length f - fcsSize → take e f ≡ covered f
 unfolding covered
 covered-part f e h = ap (λ (k : ℕ). take k f) h
 

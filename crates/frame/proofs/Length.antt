@@ -7,6 +7,7 @@ use mathlib.Core.List.{List, []}
 use lib.ListN.{length, take, length-take, length-drop}
 use lib.Dec.{eqb, ltb}
 use borrow.Author.Tests.{lt-ltb, le-ltb, le-leb, lt-leb}
+use Rattle.line.specs.Limits.{fcsSize, leastType, mostLength, leastData}
 use Rattle.line.specs.Octets.{between}
 use Rattle.line.proofs.Tables.{first-here, first-next, first-other}
 use Rattle.fields.specs.declared.Layout.{Layout}
@@ -18,32 +19,32 @@ use Rattle.frame.specs.Length.{shortest, kept, breaksLength, wrongLength
 
 -- ---- how much data there is
 
-pub data-length : (place : ℕ) (f : List ℕ) → length (dataFrom place f) ≡ length f - 4 - place
+pub data-length : (place : ℕ) (f : List ℕ) → length (dataFrom place f) ≡ length f - fcsSize - place
 unfolding dataFrom between
 data-length place f = simp (length-take, length-drop) (omega arith)
 
 -- no data where the FCS would begin before the data's place
-pub data-none : (place : ℕ) (f : List ℕ) → length f - 4 < place → dataFrom place f ≡ []
+pub data-none : (place : ℕ) (f : List ℕ) → length f - fcsSize < place → dataFrom place f ≡ []
 unfolding dataFrom between
-data-none place f h = let z : length f - 4 - place ≡ 0 = omega arith in rw z
+data-none place f h = let z : length f - fcsSize - place ≡ 0 = omega arith in rw z
 
 -- ---- the rule, row by row; its first row is `kept-type` of FrameLaws
 module _ (tags field octets : ℕ) where
-  pub kept-gap : field < 1536 → 1501 ≤ field → kept tags field octets ≡ false
+  pub kept-gap : field < leastType → mostLength < field → kept tags field octets ≡ false
   unfolding kept
   kept-gap h g = first-next true _ (lt-leb _ field (omega arith)) ∙ first-here false _ (le-leb _ field (omega arith))
 
-  pub kept-exact : field < 1501 → 46 ≤ field → kept tags field octets ≡ eqb octets field
+  pub kept-exact : field ≤ mostLength → leastData ≤ field → kept tags field octets ≡ eqb octets field
   unfolding kept
   kept-exact h g =
       first-next true _ (lt-leb _ field (omega arith)) ∙ first-next false _ (lt-leb _ field (omega arith))
       ∙ first-here (eqb octets field) _ (le-leb _ field (omega arith))
 
-  pub kept-padded : field < 46 → kept tags field octets ≡ (eqb octets 46 || eqb octets (shortest tags field))
+  pub kept-padded : field < leastData → kept tags field octets ≡ (eqb octets leastData || eqb octets (shortest tags field))
   unfolding kept
   kept-padded h =
       first-next true _ (lt-leb _ field (omega arith)) ∙ first-next false _ (lt-leb _ field (omega arith))
-      ∙ first-next (eqb octets field) _ (lt-leb _ field (omega arith)) ∙ first-other (eqb octets 46 || eqb octets (shortest tags field))
+      ∙ first-next (eqb octets field) _ (lt-leb _ field (omega arith)) ∙ first-other (eqb octets leastData || eqb octets (shortest tags field))
 
 front-count : (b : Bool) (n : ℕ) (l : List ℕ) → cond b (min n (length l)) (length l) ≡ length (cond b (take n l) l)
 front-count true n l = sym (length-take n l)
@@ -73,9 +74,9 @@ length-right false f h = refl
 -- how many octets
 pub handed-count : (checking : Bool) (n : ℕ) (d : List ℕ) → handedCount checking n (length d) ≡ length (handedOf checking n d)
 unfolding handedCount handedOf
-handed-count checking n d = front-count (checking && ltb n 46) n d
+handed-count checking n d = front-count (checking && ltb n leastData) n d
 
 -- never more than the data
 pub handed-le : (n : ℕ) (d : List ℕ) (checking : Bool) → length (handedOf checking n d) ≤ length d
 unfolding handedOf
-handed-le n d checking = front-le (checking && ltb n 46) n d
+handed-le n d checking = front-le (checking && ltb n leastData) n d

@@ -4,6 +4,7 @@ use mathlib.Core.Bool.{Bool, true, false, not, _&&_, _||_, cond}
 use mathlib.Core.List.{List}
 use lib.ListN.{length, take}
 use lib.Dec.{eqb, ltb, leb}
+use Rattle.line.specs.Limits.{tagSize, leastType, mostLength, leastData}
 use Rattle.line.specs.Table.{_⇒_, _∣_, otherwise, first}
 use Rattle.fields.specs.declared.Layout.{Layout}
 use Rattle.fields.specs.Fields.{field}
@@ -12,16 +13,16 @@ use Rattle.frame.specs.Frame.{dataFrom, frameData}
 
 -- the shortest data that a bridge leaves behind n tags: item 2's "the larger of the field and 46 - 4 × n"
 unfoldable pub shortest : ℕ → ℕ → ℕ
-shortest tags field = max field (46 - 4 * tags)
+shortest tags field = max field (leastData - tagSize * tags)
 
 -- the rule, of the number of tags, a field and the number of data octets
 unfoldable pub kept : ℕ → ℕ → ℕ → Bool
 kept tags field octets =
     first
-    (leb 1536 field ⇒ true  -- "1536 or more is a type"
-    ∣ leb 1501 field ⇒ false  -- "1501 to 1535: always wrong length"
-    ∣ leb 46 field ⇒ eqb octets field  -- "46 to 1500: data must be exactly that long"
-    ∣ otherwise (eqb octets 46 || eqb octets (shortest tags field)))  -- "under 46: data must be exactly 46, tagged or not", or, by item 2, shorter
+    (leb leastType field ⇒ true  -- "1536 or more is a type"
+    ∣ ltb mostLength field ⇒ false  -- "1501 to 1535: always wrong length"
+    ∣ leb leastData field ⇒ eqb octets field  -- "46 to 1500: data must be exactly that long"
+    ∣ otherwise (eqb octets leastData || eqb octets (shortest tags field)))  -- "under 46: data must be exactly 46, tagged or not", or, by item 2, shorter
 
 -- rule 6: "length rule broken, checking on"; "With checking off, no test is made": of a frame laid out as l says, and of a frame
 unfoldable pub breaksLength : Bool → Layout → List ℕ → Bool
@@ -33,10 +34,10 @@ wrongLength checking f = breaksLength checking (layoutOf f) f
 -- "only the first `field` octets are handed out"; "With checking off, … all data is handed out": how many of so many, of a field and the data behind
 -- it, and of a frame
 unfoldable pub handedCount : Bool → ℕ → ℕ → ℕ
-handedCount checking field octets = cond (checking && ltb field 46) (min field octets) octets
+handedCount checking field octets = cond (checking && ltb field leastData) (min field octets) octets
 
 unfoldable pub handedOf : Bool → ℕ → List ℕ → List ℕ
-handedOf checking field octets = cond (checking && ltb field 46) (take field octets) octets
+handedOf checking field octets = cond (checking && ltb field leastData) (take field octets) octets
 
 unfoldable pub clientData : Bool → List ℕ → List ℕ
 clientData checking f = handedOf checking (field f) (frameData f)

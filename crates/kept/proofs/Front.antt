@@ -8,6 +8,7 @@ use mathlib.Core.Option.{Option}
 use lib.ListN.{length, getD, take, drop}
 use lib.Seq.{getD-take, take-take, drop-drop, take-nil, drop-nil}
 use lib.Dec.{eqb, lit<, lit≤}
+use Rattle.line.specs.Limits.{tagSize, mostTags}
 use Rattle.line.specs.Octets.{highFirstAt}
 use Rattle.line.proofs.Octets.{highFirst-drop}
 use Rattle.station.specs.declared.Address.{Address}
@@ -16,7 +17,7 @@ use Rattle.station.specs.declared.Slots.{Slots}
 use Rattle.station.specs.declared.Quanta.{Quanta}
 use Rattle.station.specs.declared.Outcome.{Outcome}
 use Rattle.station.specs.Numbers.{byOutcome}
-use Rattle.fields.specs.Tags.{isTagKind, mostTags, tagRun, tagCount}
+use Rattle.fields.specs.Tags.{isTagKind, tagRun, tagCount}
 use Rattle.fields.specs.Fields.{destination, firstField, fieldPlace, field, dataPlace}
 use Rattle.fields.proofs.Tags.{fieldPlace-small}
 use Rattle.control.specs.Control.{isControlFrame, opcode, toReservedGroup, toOwn, takesPause, takesPfc, dropsControl, frameWay, wayCarried}
@@ -30,14 +31,14 @@ highFirst-front : (n : ℕ) (l : List ℕ) (at : ℕ) → at + 1 < n → highFir
 unfolding highFirstAt
 highFirst-front n l at h = rw (getD-take n l at 0 (omega arith), getD-take n l (at + 1) 0 h)
 
-front-run : (most n at : ℕ) (f : List ℕ) → at + 4 * most ≤ n → tagRun most (drop at (take n f)) ≡ tagRun most (drop at f)
+front-run : (most n at : ℕ) (f : List ℕ) → at + tagSize * most ≤ n → tagRun most (drop at (take n f)) ≡ tagRun most (drop at f)
 unfolding tagRun
 front-run zero n at f h = refl
 front-run (suc most) n at f h =
     let here : highFirstAt (drop at (take n f)) 0 ≡ highFirstAt (drop at f) 0 =
     highFirst-drop (take n f) at ∙ highFirst-front n f at (omega arith) ∙ sym (highFirst-drop f at) in
-    let next : tagRun most (drop 4 (drop at (take n f))) ≡ tagRun most (drop 4 (drop at f)) =
-    ap (tagRun most) (drop-drop 4 at (take n f)) ∙ front-run most n (at + 4) f (omega arith) ∙ sym (ap (tagRun most) (drop-drop 4 at f)) in
+    let next : tagRun most (drop tagSize (drop at (take n f))) ≡ tagRun most (drop tagSize (drop at f)) =
+    ap (tagRun most) (drop-drop tagSize at (take n f)) ∙ front-run most n (at + tagSize) f (omega arith) ∙ sym (ap (tagRun most) (drop-drop tagSize at f)) in
     ap₂ (λ (x : ℕ) (k : ℕ). elim (isTagKind x) [ true ↦ 1 + k | false ↦ 0 ]) here next
 
 -- ---- timers: each class's quanta are two octets
@@ -68,12 +69,12 @@ module _ (f : List ℕ) where
   front46 = take 46 f
 
   pub front-tags : tagCount front46 ≡ tagCount f
-  unfolding tagCount mostTags
-  front-tags = front-run 8 46 12 f (lit≤ tt)
+  unfolding tagCount
+  front-tags = front-run mostTags 46 12 f (lit≤ tt)
 
   pub front-fieldPlace : fieldPlace front46 ≡ fieldPlace f
   unfolding fieldPlace
-  front-fieldPlace = ap (λ (n : ℕ). 12 + 4 * n) front-tags
+  front-fieldPlace = ap (λ (n : ℕ). 12 + tagSize * n) front-tags
 
   pub front-field : field front46 ≡ field f
   unfolding field

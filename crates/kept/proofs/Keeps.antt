@@ -9,6 +9,7 @@ use lib.ListN.{length, take, drop, replicate, length-drop}
 use lib.Seq.{take-all, take-take, drop-drop, drop-append-add}
 use lib.Dec.{eqb, ltb, lit≤}
 use borrow.Author.Tests.{ltb-true, ltb-false, eq-eqb, ne-eqb}
+use Rattle.line.specs.Limits.{preambleSize, leadSize, leastFrame}
 use Rattle.line.specs.Line.{preamble}
 use Rattle.line.specs.Octets.{sameOctets}
 use Rattle.line.specs.Table.{first}
@@ -81,30 +82,30 @@ module _ (q : Run) (r : List ℕ) (k : Keeps q r) where
   abbrev f : List ℕ
   f = frameOf r
 
-  f-length : length f ≡ length r - 7
+  f-length : length f ≡ length r - preambleSize
   unfolding frameOf
-  f-length = length-drop 7 r
+  f-length = length-drop preambleSize r
 
   same-size : frameSize q ≡ length f
   unfolding frameSize
-  same-size = ap (λ (n : ℕ). n - 7) (k .counts) ∙ sym f-length
+  same-size = ap (λ (n : ℕ). n - preambleSize) (k .counts) ∙ sym f-length
 
   -- the first octets, of a run that has as many
   first-of : (n : ℕ) → n ≤ 53 → n ≤ length r → take n (q .first) ≡ take n r
   first-of n a b = sym (take-take n (length r) (q .first) b) ∙ ap (take n) (k .firsts) ∙ take-take n 53 r a
 
-  same-preamble : (ltb (q .count) 7 || badPreamble (q .first)) ≡ badPreamble r
+  same-preamble : (ltb (q .count) preambleSize || badPreamble (q .first)) ≡ badPreamble r
   unfolding badPreamble
   same-preamble =
-      ap₂ (λ (n m : ℕ). ltb n 7 || (ltb m 7 || not (sameOctets (take 7 (q .first)) preamble))) (k .counts) (k .room)
-      ∙ by-test (ltb (length r) 7) (λ t. rw t)
-      (λ t. ap (λ (l : List ℕ). ltb (length r) 7 || not (sameOctets l preamble)) (first-of 7 (lit≤ tt) (ltb-false (length r) 7 t)))
+      ap₂ (λ (n m : ℕ). ltb n preambleSize || (ltb m preambleSize || not (sameOctets (take preambleSize (q .first)) preamble))) (k .counts) (k .room)
+      ∙ by-test (ltb (length r) preambleSize) (λ t. rw t)
+      (λ t. ap (λ (l : List ℕ). ltb (length r) preambleSize || not (sameOctets l preamble)) (first-of 7 (lit≤ tt) (ltb-false (length r) preambleSize t)))
 
   -- of a frame that is not undersized, all 46 first octets are there
   module _ (long : undersized f ≡ false) where
-    at-least : 64 ≤ length f
+    at-least : leastFrame ≤ length f
     unfolding undersized
-    at-least = ltb-false (length f) 64 long
+    at-least = ltb-false (length f) leastFrame long
 
     same-front : frontOf q ≡ take 46 f
     unfolding frontOf frameOf
@@ -113,7 +114,7 @@ module _ (q : Run) (r : List ℕ) (k : Keeps q r) where
         let b = f-length in
         let whole : take 53 (q .first) ≡ q .first = take-all 53 (q .first) (omega (arith, k .room)) in
         let x : q .first ≡ take 53 r = sym whole ∙ first-of 53 (lit≤ tt) (omega arith) in
-        ap (drop 7) x ∙ drop-take 7 46 r
+        ap (drop preambleSize) x ∙ drop-take preambleSize 46 r
 
     same-tags : tagCount (frontOf q) ≡ tagCount f
     same-tags = ap tagCount same-front ∙ front-tags f
@@ -134,9 +135,9 @@ module _ (q : Run) (r : List ℕ) (k : Keeps q r) where
         let a = at-least in
         let b = f-length in
         let e : length r ≡ length zeros + (length r - 4) = omega arith in
-        let d : 7 + (length (drop 7 r) - 4) ≡ length r - 4 = omega (arith, length-drop 7 r) in
+        let d : 7 + (length (drop preambleSize r) - 4) ≡ length r - 4 = omega (arith, length-drop preambleSize r) in
         k .lasts ∙ ap (λ (n : ℕ). drop n (zeros ++ r)) e ∙ drop-append-add zeros r (length r - 4)
-        ∙ ap (λ (n : ℕ). drop n r) (sym d) ∙ sym (drop-drop (length (drop 7 r) - 4) 7 r)
+        ∙ ap (λ (n : ℕ). drop n r) (sym d) ∙ sym (drop-drop (length (drop preambleSize r) - 4) 7 r)
 
     same-limit : (m : ℕ) → overLimit m (tagCount (frontOf q)) (frameSize q) ≡ oversized m f
     unfolding oversized
@@ -170,14 +171,14 @@ module _ (q : Run) (r : List ℕ) (k : Keeps q r) where
         unfolding keptWord status statusOf
         long-word = rw (same-bits, same-data, same-handed (s .checking))
 
-        long-part : keptPart s o q ≡ handedPart s o (q .start + 8) f
+        long-part : keptPart s o q ≡ handedPart s o (q .start + leadSize) f
         unfolding keptPart handedPart
         long-part = rw (same-place, same-handed (s .checking))
 
         long-way : wayCarried s own o (frontOf q) ≡ wayCarried s own o f
         long-way = ap (wayCarried s own o) same-front ∙ front-carried f s own o
 
-        long-told : keptTold s own o q ≡ Counted o (status s o f) (handedPart s o (q .start + 8) f) (wayCarried s own o f)
+        long-told : keptTold s own o q ≡ Counted o (status s o f) (handedPart s o (q .start + leadSize) f) (wayCarried s own o f)
         unfolding keptTold
         long-told = rw (long-word, long-part, long-way)
 
@@ -191,15 +192,15 @@ module _ (q : Run) (r : List ℕ) (k : Keeps q r) where
     pub keeps-outcome : isGroup (s .own .0) ≡ false → keptOutcome s own q by ≡ outcome s own r by
     unfolding keptOutcome keptOutcomes frameOutcomes laterOutcomes outcome outcomes undersized
     keeps-outcome valid =
-        row Cut _ _ refl (λ h1. row BadPreamble _ _ same-preamble (λ h2. row Undersized _ _ (ap (λ (n : ℕ). ltb n 64) same-size)
+        row Cut _ _ refl (λ h1. row BadPreamble _ _ same-preamble (λ h2. row Undersized _ _ (ap (λ (n : ℕ). ltb n leastFrame) same-size)
         (λ long. row Oversized _ _ (same-limit long (s .limit)) (λ h4. row WrongFcs _ _ (same-fcs long)
         (λ h5. row WrongLength _ _ (same-rule long (s .checking))
         (λ h6. same-later long s own ∙ row Filtered _ _ (none-above (frameWay s own f) (filtered s own f) (let-in s own f valid)) (λ h7. refl)))))))
 
     pub keeps-told : let o : Outcome = outcome s own r by in
-        keptTold s own o q ≡ Counted o (status s o f) (handedPart s o (q .start + 8) f) (wayCarried s own o f)
+        keptTold s own o q ≡ Counted o (status s o f) (handedPart s o (q .start + leadSize) f) (wayCarried s own o f)
     keeps-told =
-        early (λ (o : Outcome). keptTold s own o q ≡ Counted o (status s o f) (handedPart s o (q .start + 8) f) (wayCarried s own o f)) s own r by
+        early (λ (o : Outcome). keptTold s own o q ≡ Counted o (status s o f) (handedPart s o (q .start + leadSize) f) (wayCarried s own o f)) s own r by
         (unfold keptTold keptWord keptPart status statusOf handedPart wayCarried in refl)
         (unfold keptTold keptWord keptPart status statusOf handedPart wayCarried in refl)
         (unfold keptTold keptWord keptPart status statusOf handedPart wayCarried in refl)

@@ -11,6 +11,7 @@ use lib.Dec.{ltb}
 use denote.Enum.Declared.{tagOf}
 use types.Run.{OneOf, miss}
 use borrow.Author.Tests.{leb-false, lt-leb}
+use Rattle.line.specs.Limits.{mostSymbols, preambleSize, leastData}
 use Rattle.line.specs.Table.{Table, _⇒_, _∣_, first}
 use Rattle.line.proofs.Symbols.{by-test}
 use Rattle.line.proofs.Tables.{first-here, first-next, first-other}
@@ -67,11 +68,11 @@ four-last l h = ap (λ (n : ℕ). drop (n - 4) l) h
 
 -- what `&first[7..]` of 53 octets holds, and its layout
 module _ (r : Run) (n : length (r .first) ≡ 53) where
-  pub front-is : take (53 - 7) (drop 7 (r .first)) ≡ frontOf r
+  pub front-is : take (53 - 7) (drop preambleSize (r .first)) ≡ frontOf r
   unfolding frontOf
-  front-is = take-all (53 - 7) (drop 7 (r .first)) (omega (arith, length-drop 7 (r .first)))
+  front-is = take-all (53 - 7) (drop preambleSize (r .first)) (omega (arith, length-drop preambleSize (r .first)))
 
-  pub layout-is : (l : Layout) → l ≡ layoutOf (take (53 - 7) (drop 7 (r .first))) → l ≡ layoutOf (frontOf r)
+  pub layout-is : (l : Layout) → l ≡ layoutOf (take (53 - 7) (drop preambleSize (r .first))) → l ≡ layoutOf (frontOf r)
   layout-is l e = e ∙ ap layoutOf front-is
 
 -- no more octets are handed out than there are
@@ -81,34 +82,35 @@ min-le false n all = omega arith
 
 pub handed-within : (checking : Bool) (n all : ℕ) → handedCount checking n all ≤ all
 unfolding handedCount
-handed-within checking n all = min-le (checking && ltb n 46) n all
+handed-within checking n all = min-le (checking && ltb n leastData) n all
 
 -- ---- a symbol that is not refused
 
-pub room-left : (s : Settings) (job : ℕ) (es : List Entry) (n : ℕ) → first (symbolRefusals s job es n) ≡ Fine → n < 65536
+pub room-left : (s : Settings) (job : ℕ) (es : List Entry) (n : ℕ) → first (symbolRefusals s job es n) ≡ Fine → n < mostSymbols
 unfolding symbolRefusals
 room-left s job es n h =
     let a = fine-row BadSettings _ h in
     let j = fine-row BadJob _ (a .1) in
     let t = fine-row BadTable _ (j .1) in
     let b = fine-row BadBuffers _ (t .1) in
-    omega (arith, leb-false 65536 n (b .0))
+    omega (arith, leb-false mostSymbols n (b .0))
 
 -- what it takes not to be refused
-pub symbol-fine : (s : Settings) (job : ℕ) (es : List Entry) (n : ℕ) → badSettings s ≡ false → badJob job ≡ false → badTable es ≡ false → n < 65536
+pub symbol-fine : (s : Settings) (job : ℕ) (es : List Entry) (n : ℕ) → badSettings s ≡ false → badJob job ≡ false → badTable es ≡ false → n < mostSymbols
     → first (symbolRefusals s job es n) ≡ Fine
 unfolding symbolRefusals
 symbol-fine s job es n valid known sound h =
     first-next (Refused BadSettings) _ valid
     ∙ first-next (Refused BadJob) _ known
     ∙ first-next (Refused BadTable) _ sound
-    ∙ first-next (Refused BadBuffers) _ (lt-leb 65536 n h)
+    ∙ first-next (Refused BadBuffers) _ (lt-leb mostSymbols n h)
     ∙ first-other Fine
 
 -- "Refusals: 1, 14, 20 as in reading": those of a reading of an empty capture, while a symbol more may be taken
-pub as-in-reading : (s : Settings) (job : ℕ) (es : List Entry) (n : ℕ) → n < 65536 → first (symbolRefusals s job es n) ≡ first (readRefusals s job es [] [] 0)
+pub as-in-reading : (s : Settings) (job : ℕ) (es : List Entry) (n : ℕ) → n < mostSymbols
+    → first (symbolRefusals s job es n) ≡ first (readRefusals s job es [] [] 0)
 unfolding symbolRefusals readRefusals badBuffers badPlace
 as-in-reading s job es n h =
     row (Refused BadSettings) _ _ refl (λ h1. row (Refused BadJob) _ _ refl (λ h14.
-    row (Refused BadTable) _ _ refl (λ h20. first-next (Refused BadBuffers) _ (lt-leb 65536 n h))
+    row (Refused BadTable) _ _ refl (λ h20. first-next (Refused BadBuffers) _ (lt-leb mostSymbols n h))
     ∙ sym (first-next (Refused BadBuffers) _ refl ∙ first-next (Refused BadPlace) _ refl)))

@@ -6,6 +6,7 @@ use mathlib.Core.List.{List}
 use mathlib.Core.Option.{Option}
 use lib.ListN.{drop, replicate}
 use lib.Dec.{eqb, ltb, leb}
+use Rattle.line.specs.Limits.{mostSymbols, preambleSize, leadSize, leastFrame, fcsSize}
 use Rattle.line.specs.Octets.{sameOctets}
 use Rattle.line.specs.Table.{Table, _⇒_, _∣_, otherwise, first}
 use Rattle.fcs.specs.Fcs.{fcsOctets}
@@ -37,18 +38,18 @@ use Rattle.kept.specs.declared.Told.the-variants.{Counted}
 
 -- of a run of no octets, behind a Start at place i; the register is "of all ones at the start"
 unfoldable pub begun : ℕ → Run
-begun i = record { start = i; count = 0; first = replicate 53 0; last = replicate 4 0; register = 0xFFFF_FFFF }
+begun i = record { start = i; count = 0; first = replicate 53 0; last = replicate fcsSize 0; register = 0xFFFF_FFFF }
 
 -- the frame's first 46 octets: addresses, eight tags and the real field lie inside them, and all that a control frame says
 unfoldable pub frontOf : Run → List ℕ
-frontOf r = drop 7 (r .first)
+frontOf r = drop preambleSize (r .first)
 
 -- how many octets the frame has, how many of them are data ("from after the field to before the FCS"), and how many are handed out
 unfoldable pub frameSize : Run → ℕ
-frameSize r = r .count - 7
+frameSize r = r .count - preambleSize
 
 unfoldable pub dataOctets : Run → ℕ
-dataOctets r = frameSize r - 4 - dataPlace (frontOf r)
+dataOctets r = frameSize r - fcsSize - dataPlace (frontOf r)
 
 unfoldable pub handedOctets : Bool → Run → ℕ
 handedOctets checking r = handedCount checking (field (frontOf r)) (dataOctets r)
@@ -67,7 +68,7 @@ laterOutcomes s own f =
 -- rules 3 to 11
 unfoldable pub frameOutcomes : Settings → List (Option Address) → Run → Table Outcome
 frameOutcomes s own r =
-    ltb (frameSize r) 64 ⇒ Undersized
+    ltb (frameSize r) leastFrame ⇒ Undersized
     ∣ overLimit (s .limit) (tagCount (frontOf r)) (frameSize r) ⇒ Oversized
     ∣ not (sameOctets (r .last) (fcsOctets (0xFFFF_FFFF - r .register))) ⇒ WrongFcs
     ∣ (s .checking && not (kept (tagCount (frontOf r)) (field (frontOf r)) (dataOctets r))) ⇒ WrongLength
@@ -75,7 +76,7 @@ frameOutcomes s own r =
 
 -- all of them, of a run ended by the control octet `by`
 unfoldable pub keptOutcomes : Settings → List (Option Address) → Run → ℕ → Table Outcome
-keptOutcomes s own r by = cut by ⇒ Cut ∣ (ltb (r .count) 7 || badPreamble (r .first)) ⇒ BadPreamble ∣ frameOutcomes s own r
+keptOutcomes s own r by = cut by ⇒ Cut ∣ (ltb (r .count) preambleSize || badPreamble (r .first)) ⇒ BadPreamble ∣ frameOutcomes s own r
 
 unfoldable pub keptOutcome : Settings → List (Option Address) → Run → ℕ → Outcome
 keptOutcome s own r by = first (keptOutcomes s own r by)
@@ -95,7 +96,7 @@ abbrev pub partFrom : Outcome → ℕ → ℕ → ℕ → Part
 partFrom o at place octets = byOutcome o emptyPart emptyPart emptyPart emptyPart (record { at = at + place; len = octets })
 
 unfoldable pub keptPart : Settings → Outcome → Run → Part
-keptPart s o r = partFrom o (r .start + 8) (dataPlace (frontOf r)) (handedOctets (s .checking) r)
+keptPart s o r = partFrom o (r .start + leadSize) (dataPlace (frontOf r)) (handedOctets (s .checking) r)
 
 -- all of it, with item 7's number
 unfoldable pub keptTold : Settings → List (Option Address) → Outcome → Run → Told
@@ -107,5 +108,5 @@ symbolRefusals s job es taken =
     badSettings s ⇒ Refused BadSettings
     ∣ badJob job ⇒ Refused BadJob
     ∣ badTable es ⇒ Refused BadTable
-    ∣ leb 65536 taken ⇒ Refused BadBuffers
+    ∣ leb mostSymbols taken ⇒ Refused BadBuffers
     ∣ otherwise Fine

@@ -1,5 +1,11 @@
 // What the plain reader keeps of a run (document 02, item 12), and document 01's rules, asked of that: no rule needs the run itself. Meaning: specs/.
 use fields::Layout;
+use line::FCS_SIZE;
+use line::LEAD_SIZE;
+use line::LEAST_FRAME;
+use line::MOST_SYMBOLS;
+use line::PREAMBLE_SIZE;
+use line::TAG_SIZE;
 use station::Checked;
 use station::Outcome;
 use station::Part;
@@ -10,6 +16,7 @@ ghost use mathlib.Core.Path.{_≡_};
 ghost use mathlib.Core.Bool.{not, _&&_, _||_};
 ghost use Prim.Native.Nat.{_+_, _-_, _≤_, _<_};
 ghost use lib.Dec.{ltb};
+ghost use Rattle.line.specs.Limits.{mostSymbols, preambleSize, fcsSize};
 ghost use Rattle.line.specs.Octets.{sameOctets};
 ghost use Rattle.line.specs.Table.{first};
 ghost use Rattle.fcs.specs.Fcs.{fcsOctets};
@@ -64,29 +71,33 @@ fn size(r: Run) -> usize
     ensures { λ n. ⌜ (n ≡ frameSize r) × (n < 65536) ⌝ }
 {
     let n = r.count as usize;
-    if n < 7 { 0 } else { n - 7 }
+    if n < PREAMBLE_SIZE {
+        0
+    } else {
+        n - PREAMBLE_SIZE
+    }
 }
 
 // How many of a frame's octets are data, which begins at `place`.
 fn data_length(size: usize, place: usize) -> usize
-    ensures { λ r. ⌜ (r ≡ size - 4 - place) × (r ≤ size) ⌝ }
+    ensures { λ r. ⌜ (r ≡ size - fcsSize - place) × (r ≤ size) ⌝ }
 {
-    if size < 4 {
+    if size < FCS_SIZE {
         return 0;
     }
-    if size - 4 < place {
+    if size - FCS_SIZE < place {
         return 0;
     }
-    size - 4 - place
+    size - FCS_SIZE - place
 }
 
 // ---- the outcome
 
 // Rule 2: run under 7 octets, or the first 7 wrong.
 fn wrong_preamble(r: Run) -> bool
-    ensures { λ b. ⌜ b ≡ (ltb (r .count) 7 || badPreamble (r .first)) ⌝ }
+    ensures { λ b. ⌜ b ≡ (ltb (r .count) preambleSize || badPreamble (r .first)) ⌝ }
 {
-    if r.count < 7 {
+    if (r.count as usize) < PREAMBLE_SIZE {
         return true;
     }
     let octets = r.first;
@@ -137,11 +148,11 @@ fn frame_outcome(s: Settings, job: u8, table: &[u8; 128], r: Run, f: &[u8]) -> O
     ensures { λ o. ⌜ o ≡ first (frameOutcomes s (ownEntries job (now (table .entry))) r) ⌝ }
 {
     let n = size(r);
-    if n < 64 {
+    if n < LEAST_FRAME {
         return Outcome::Undersized;
     }
     let l = fields::layout_of(f);
-    if (s.limit as usize) + 4 * (l.tags as usize) < n {
+    if (s.limit as usize) + TAG_SIZE * (l.tags as usize) < n {
         return Outcome::Oversized;
     }
     if wrong_fcs(r) {
@@ -164,14 +175,14 @@ pub fn outcome_of(s: Settings, job: u8, table: &[u8; 128], r: Run, by: u8) -> Ou
         return Outcome::BadPreamble;
     }
     let octets = r.first;
-    frame_outcome(s, job, table, r, &octets[7..])
+    frame_outcome(s, job, table, r, &octets[PREAMBLE_SIZE..])
 }
 
 // ---- what is told of it
 
 // The status word, of bits 38 to 16, the number of data octets and of those handed out.
 fn word_of(o: Outcome, bits: u64, all: usize, handed: usize) -> u64
-    requires { ⌜ (bits ≤ 0x80_0000_0000) × (all ≤ 65536) × (handed ≤ 65536) ⌝ }
+    requires { ⌜ (bits ≤ 0x80_0000_0000) × (all ≤ mostSymbols) × (handed ≤ mostSymbols) ⌝ }
     ensures { λ r. ⌜ r ≡ wordOf o bits all handed ⌝ }
 {
     match o {
@@ -208,7 +219,7 @@ fn frame_told(s: Settings, job: u8, table: &[u8; 128], r: Run, o: Outcome, f: &[
     let handed = frame::handed_count(s.checking, l.field, all);
     let bits = outcome::kind_bits(f, l.tags) + (n as u64) * 0x1_0000;
     let word = word_of(o, bits, all, handed);
-    let part = part_of(o, (r.start as usize) + 8, l.place, handed);
+    let part = part_of(o, (r.start as usize) + LEAD_SIZE, l.place, handed);
     let way = control::way_carried(s, job, table, o, f);
     Told::Counted(o, word, part, way)
 }
@@ -218,7 +229,7 @@ pub fn told_of(s: Settings, job: u8, table: &[u8; 128], r: Run, o: Outcome) -> T
     ensures { λ t. ⌜ t ≡ keptTold s (ownEntries job (now (table .entry))) o r ⌝ }
 {
     let octets = r.first;
-    frame_told(s, job, table, r, o, &octets[7..])
+    frame_told(s, job, table, r, o, &octets[PREAMBLE_SIZE..])
 }
 
 // The state after it: its counter rises, and a control frame may set timers.
@@ -229,7 +240,7 @@ pub fn state_of(o: Outcome, r: Run, state: State) -> State
     station::count(o, &mut counters);
     let octets = r.first;
     let old = state.timers;
-    let timers = flow::timers_after(o, &octets[7..], old);
+    let timers = flow::timers_after(o, &octets[PREAMBLE_SIZE..], old);
     State {
         counters,
         timers,
@@ -252,7 +263,7 @@ pub fn check_symbol(s: Settings, job: u8, table: &[u8; 128], taken: u32) -> Chec
     if table::bad_table(table) {
         return Checked::Refused(Refusal::BadTable);
     }
-    if 65536 <= taken {
+    if MOST_SYMBOLS <= taken as usize {
         return Checked::Refused(Refusal::BadBuffers);
     }
     Checked::Fine

@@ -7,6 +7,64 @@ ghost use Rattle.line.specs.Line.{capture, findStart, findControl};
 ghost use Rattle.line.specs.Octets.{lowFirst};
 ghost use Rattle.line.specs.Passed.{Passed, Stopped, Has, Lacks, startAt, NoStart, Start};
 
+// ---- The limits of documents 01 and 02: their meaning, with the documents' words, is specs/Limits.antt
+
+pub const MOST_SYMBOLS: usize = 65536;
+
+pub const PREAMBLE_SIZE: usize = 7;
+
+pub const LEAD_SIZE: usize = 8;
+
+pub const LEAST_FRAME: usize = 64;
+
+pub const TAG_SIZE: usize = 4;
+
+pub const FCS_SIZE: usize = 4;
+
+pub const LEAST_TYPE: u16 = 1536;
+
+pub const MOST_LENGTH: usize = 1500;
+
+pub const LEAST_DATA: usize = 46;
+
+pub const QUANTUM_SLOTS: u32 = 64;
+
+pub const PLAIN_IDLES: usize = 11;
+
+pub const LEAST_BODY: usize = 60;
+
+pub const AROUND_BODY: usize = 12;
+
+pub const LEAST_LIMIT: u16 = 1518;
+
+pub const MOST_LIMIT: u16 = 9618;
+
+pub const MOST_CLASS: u8 = 7;
+
+pub const AROUND_DATA: u16 = 18;
+
+pub const MOST_RECORDS: usize = 32768;
+
+pub const MOST_TAGS: u8 = 8;
+
+pub const RECORD_SIZE: usize = 16;
+
+pub const LANES: usize = 4;
+
+pub const MOST_DEFICIT: u64 = 3;
+
+pub const FULL_GAP: usize = 12;
+
+pub const BLOCK_SIZE: usize = 256;
+
+pub const MOST_TOTAL: u16 = 256;
+
+pub const TABLE_ENTRIES: usize = 16;
+
+pub const MOST_HELD: usize = 12;
+
+// ---- The search
+
 // The search's answer: a place, or that there is none.
 pub enum Found {
     At(usize),

@@ -1,5 +1,5 @@
 -- The records of an input, one after the other. Assumes nothing.
-use Prim.Native.Nat.{ℕ, suc, _+_, _%_, _≤_, _<_}
+use Prim.Native.Nat.{ℕ, suc, _+_, _*_, _%_, _≤_, _<_}
 use mathlib.Core.Path.{_≡_, refl, sym, ap, _∙_}
 use mathlib.Core.Bool.{Bool, true, false, _||_}
 use mathlib.Core.List.{List, [], _∷_}
@@ -9,6 +9,7 @@ use lib.Dec.{eqb}
 use borrow.Author.Tests.{ltb-false}
 use lib.ListN.{length, getD, drop, length-drop}
 use lib.Seq.{drop-cons}
+use Rattle.line.specs.Limits.{mostRecords}
 use Rattle.lines.specs.Lines.{recordOctets, recordMarks, badInput, captureLines, printed}
 
 module _ (l : List ℕ) (i : ℕ) where
@@ -53,9 +54,9 @@ or-false true h = cc
 or-false false h = h
 
 -- an input that is not bad: its length, and what is printed
-pub good-short : (l : List ℕ) → badInput l ≡ false → length l ≤ 65536
+pub good-short : (l : List ℕ) → badInput l ≡ false → length l ≤ 2 * mostRecords
 unfolding badInput
-good-short l h = ltb-false 65536 (length l) (or-false (eqb (length l % 2) 1) h)
+good-short l h = ltb-false (2 * mostRecords) (length l) (or-false (eqb (length l % 2) 1) h)
 
 pub good-printed : (l : List ℕ) → badInput l ≡ false → captureLines (recordOctets l) (recordMarks l) ≡ printed l
 unfolding printed

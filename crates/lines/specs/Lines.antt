@@ -1,9 +1,10 @@
 -- Document 01, "The printing program": what it prints, by what it reads.
-use Prim.Native.Nat.{ℕ, _+_, _/_, _%_}
+use Prim.Native.Nat.{ℕ, _+_, _*_, _/_, _%_}
 use mathlib.Core.Bool.{Bool, true, false, cond, not, _||_}
 use mathlib.Core.List.{List, [], _∷_, _++_}
 use lib.ListN.{length}
 use lib.Dec.{eqb, ltb}
+use Rattle.line.specs.Limits.{leastLimit, mostRecords}
 use Rattle.station.specs.declared.Settings.{Settings}
 use Rattle.station.specs.declared.Flow.the-variants.{Off}
 use Rattle.station.specs.Numbers.{outcomeNumber}
@@ -31,7 +32,7 @@ programSettings =
       broadcast = true;
       promiscuous = false;
       checking = true;
-      limit = 1518;
+      limit = leastLimit;
       flow = Off;
       passing = false;
     }
@@ -85,7 +86,7 @@ recordOctets (m ∷ o ∷ rest) = o ∷ recordOctets rest
 
 -- "at most 32,768 records. An odd or longer input prints `bad input` alone."
 unfoldable pub badInput : List ℕ → Bool
-badInput input = eqb (length input % 2) 1 || ltb 65536 (length input)
+badInput input = eqb (length input % 2) 1 || ltb (2 * mostRecords) (length input)
 
 unfoldable pub printed : List ℕ → List ℕ
 printed input =

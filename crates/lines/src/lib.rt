@@ -1,4 +1,6 @@
 // What the printing program prints (document 01, "The printing program"). Meaning: specs/.
+use line::LEAST_LIMIT;
+use line::MOST_RECORDS;
 use receive::Answer;
 use splice::put;
 use station::Address;
@@ -10,6 +12,7 @@ ghost use mathlib.Core.Bool.{false};
 ghost use mathlib.Core.List.{[], _∷_};
 ghost use Prim.Native.Nat.{_+_, _*_, _/_, _≤_};
 ghost use lib.ListN.{length};
+ghost use Rattle.line.specs.Limits.{mostRecords};
 ghost use Rattle.line.specs.Line.{overwrite};
 ghost use Rattle.station.specs.Numbers.{outcomeNumber};
 ghost use Rattle.lines.specs.Decimal.{decimal};
@@ -84,7 +87,7 @@ pub fn settings() -> Settings
         broadcast: true,
         promiscuous: false,
         checking: true,
-        limit: 1518,
+        limit: LEAST_LIMIT,
         flow: Flow::Off,
         passing: false,
     }
@@ -148,7 +151,7 @@ pub fn bad_input(input: &[u8]) -> bool
     if input.len() % 2 == 1 {
         return true;
     }
-    65536 < input.len()
+    2 * MOST_RECORDS < input.len()
 }
 
 // The octets and the marks of the records, from the start of the two buffers on.
@@ -167,10 +170,10 @@ pub fn split(input: &[u8], octets: &mut [u8], marks: &mut [u8])
 }
 
 // Room for the longest capture.
-fn room() -> [u8; 32768]
-    ensures { λ r. ⌜ length r ≡ 32768 ⌝ }
+fn room() -> [u8; MOST_RECORDS]
+    ensures { λ r. ⌜ length r ≡ mostRecords ⌝ }
 {
-    [0u8; 32768]
+    [0u8; MOST_RECORDS]
 }
 
 // The output of a whole input of at most 32,768 records.

@@ -6,6 +6,7 @@ use mathlib.Core.Bool.{Bool, true, false, not, _&&_, false≢true}
 use mathlib.Core.List.{List}
 use lib.ListN.{length, set}
 use borrow.Author.Tests.{eqb-true, eq-eqb, ne-eqb, not-false}
+use Rattle.line.specs.Limits.{recordSize}
 use Rattle.line.specs.Line.{overwrite}
 use Rattle.line.specs.Table.{first}
 use Rattle.line.proofs.Symbols.{by-test}
@@ -29,15 +30,15 @@ use Rattle.log.proofs.Searches.{used-inside}
 
 pub bad-log : (l : List ℕ) → (IsMultiple l → ⊥) → badLog l ≡ true
 unfolding badLog
-bad-log l h = ap not (ne-eqb (length l % 16) 0 h)
+bad-log l h = ap not (ne-eqb (length l % recordSize) 0 h)
 
 pub good-log : (l : List ℕ) → IsMultiple l → badLog l ≡ false
 unfolding badLog
-good-log l h = ap not (eq-eqb (length l % 16) 0 h)
+good-log l h = ap not (eq-eqb (length l % recordSize) 0 h)
 
 pub good-mod : (l : List ℕ) → badLog l ≡ false → IsMultiple l
 unfolding badLog
-good-mod l h = eqb-true (length l % 16) 0 (not-false _ h)
+good-mod l h = eqb-true (length l % recordSize) 0 (not-false _ h)
 
 pub bad-mod : (l : List ℕ) → badLog l ≡ true → IsMultiple l → ⊥
 bad-mod l h e = false≢true (sym (good-log l e) ∙ h)
@@ -45,13 +46,13 @@ bad-mod l h e = false≢true (sym (good-log l e) ∙ h)
 -- ---- room behind the last used record
 
 module _ (l : List ℕ) where
-  pub roomy-compacts : extent l ≡ length l / 16 → roomy l ≡ compacted l
+  pub roomy-compacts : extent l ≡ length l / recordSize → roomy l ≡ compacted l
   unfolding roomy
-  roomy-compacts h = rw (eq-eqb (extent l) (length l / 16) h, roomy)
+  roomy-compacts h = rw (eq-eqb (extent l) (length l / recordSize) h, roomy)
 
-  pub roomy-stays : (extent l ≡ length l / 16 → ⊥) → roomy l ≡ l
+  pub roomy-stays : (extent l ≡ length l / recordSize → ⊥) → roomy l ≡ l
   unfolding roomy
-  roomy-stays h = rw (ne-eqb (extent l) (length l / 16) h, roomy)
+  roomy-stays h = rw (ne-eqb (extent l) (length l / recordSize) h, roomy)
 
 -- ---- appending
 
@@ -75,7 +76,7 @@ module _ (l : List ℕ) (r : Record) where
   append-full h c u = ap (λ (x : Logged). appendChecked x l r) (first-next (Refused BadLog) _ h ∙ first-here (Refused LogFull) _ (full-row c u))
 
   pub append-room : badLog l ≡ false → counts r ≡ true → allUsed (slots l) ≡ false
-      → appending l r ≡ logging Fine (overwrite (roomy l) (16 * extent (roomy l)) (octetsOfRecord r))
+      → appending l r ≡ logging Fine (overwrite (roomy l) (recordSize * extent (roomy l)) (octetsOfRecord r))
   unfolding appending appendRefusals appendChecked appended
   append-room h c u =
       ap (λ (x : Logged). appendChecked x l r) (first-next (Refused BadLog) _ h ∙ first-next (Refused LogFull) _ (full-row c u) ∙ first-other Fine)
@@ -98,7 +99,7 @@ module _ (l : List ℕ) (k : ℕ) where
       ap (λ (x : Logged). recordChecked x l k) (first-next (Refused BadLog) _ h ∙ first-next (Refused NotUsed) _ (ap not u) ∙ first-other Fine)
 
 -- a record that is read stands inside the log
-pub read-inside : (l : List ℕ) (k : ℕ) (r : Record) → recordRead l k ≡ Holds r → 16 * k < length l
+pub read-inside : (l : List ℕ) (k : ℕ) (r : Record) → recordRead l k ≡ Holds r → recordSize * k < length l
 read-inside l k r h =
     by-test (badLog l) (λ b. let z : LogRead.Refused BadLog ≡ Holds r = sym (read-bad l k b) ∙ h in let z′ : _≡_ {A = ℕ} 0 1 = cc in omega arith)
     (λ b. by-test (isUsed (slotAt l k)) (λ u. used-inside l k u)
@@ -115,7 +116,7 @@ module _ (l : List ℕ) (k : ℕ) where
   unfolding deleting recordRefusals deleteChecked
   delete-unused h u = ap (λ (x : Logged). deleteChecked x l k) (first-next (Refused BadLog) _ h ∙ first-here (Refused NotUsed) _ (ap not u))
 
-  pub delete-used : badLog l ≡ false → Used l k → deleting l k ≡ logging Fine (set l (16 * k + 4) 0)
+  pub delete-used : badLog l ≡ false → Used l k → deleting l k ≡ logging Fine (set l (recordSize * k + 4) 0)
   unfolding deleting recordRefusals deleteChecked
   delete-used h u =
       ap (λ (x : Logged). deleteChecked x l k) (first-next (Refused BadLog) _ h ∙ first-next (Refused NotUsed) _ (ap not u) ∙ first-other Fine)

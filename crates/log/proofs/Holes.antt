@@ -9,6 +9,7 @@ use mathlib.Core.List.{List, [], _∷_, map}
 use lib.ListN.{length, take, drop}
 use lib.Dec.{ltb}
 use borrow.Author.Tests.{ltb-true, ltb-false}
+use Rattle.line.specs.Limits.{recordSize}
 use Rattle.line.proofs.Symbols.{by-test}
 use Rattle.log.specs.declared.Record.{Record}
 use Rattle.log.specs.Log.{recordOf, isUsed, slotAt, slotsIn, slots, allUsed, usedOnes, usedCount, remaining, upToLast, extent}
@@ -19,13 +20,13 @@ use Rattle.log.proofs.Searches.{slot-first, slot-next, used-inside, not
 use Rattle.log.proofs.Searches.{next-stop, next-turn, next-end}
 use Rattle.log.proofs.Filled.{AllCount, filled-multiple, extent-filled, count-filled, remaining-filled}
 
-pub inside : (l : List ℕ) (k : ℕ) → IsMultiple l → Used l k → k < length l / 16
+pub inside : (l : List ℕ) (k : ℕ) → IsMultiple l → Used l k → k < length l / recordSize
 inside l k good u = let h = used-inside l k u in omega arith
 
 -- ---- the next used record
 
 -- where it is
-next-from : (l : List ℕ) (m at : ℕ) → at + m < length l / 16 → Used l (at + m) → ((j : ℕ) → at ≤ j → j < at + m → Used l j → ⊥) → nextUsed l at ≡ at + m
+next-from : (l : List ℕ) (m at : ℕ) → at + m < length l / recordSize → Used l (at + m) → ((j : ℕ) → at ≤ j → j < at + m → Used l j → ⊥) → nextUsed l at ≡ at + m
 next-from l zero at h u none =
     let e : at + 0 ≡ at = omega arith in
     next-stop l at (omega arith) (ap (λ (k : ℕ). isUsed (slotAt l k)) (sym e) ∙ u) ∙ sym e
@@ -43,7 +44,7 @@ next-is l at k good h =
 
 -- there is one, or there is none from there on
 abbrev pub Found : List ℕ → ℕ → ℕ → Type 0
-Found l at e = IsNextUsed l at e ⊎ ((length l / 16 ≤ e) × ((j : ℕ) → at ≤ j → j < length l / 16 → Used l j → ⊥))
+Found l at e = IsNextUsed l at e ⊎ ((length l / recordSize ≤ e) × ((j : ℕ) → at ≤ j → j < length l / recordSize → Used l j → ⊥))
 
 -- record `at` is not used
 found-on : (l : List ℕ) (at e : ℕ) → isUsed (slotAt l at) ≡ false → Found l (at + 1) e → Found l at e
@@ -57,25 +58,25 @@ found-on l at e u f =
     but j le h v =
         ⊎-elim {C = ⊥} (λ q. false≢true (sym u ∙ ap (λ (i : ℕ). isUsed (slotAt l i)) q ∙ v)) (λ lt. h (omega arith) v) (eq-or-lt-of-le le)
 
-found-end : (l : List ℕ) (at e : ℕ) → length l / 16 ≤ at → e ≡ nextUsed l at → Found l at e
+found-end : (l : List ℕ) (at e : ℕ) → length l / recordSize ≤ at → e ≡ nextUsed l at → Found l at e
 found-end l at e h q = let z = q ∙ next-end l at h in inr (omega arith, λ j le lt _. absurd (let b : ⊥ = omega arith in b))
 
-found-from : (l : List ℕ) (m at e : ℕ) → length l / 16 ≤ at + m → e ≡ nextUsed l at → Found l at e
+found-from : (l : List ℕ) (m at e : ℕ) → length l / recordSize ≤ at + m → e ≡ nextUsed l at → Found l at e
 found-from l zero at e h q = found-end l at e (omega arith) q
 found-from l (suc m) at e h q =
-    by-test (ltb at (length l / 16))
-    (λ t. let less = ltb-true at (length l / 16) t in
+    by-test (ltb at (length l / recordSize))
+    (λ t. let less = ltb-true at (length l / recordSize) t in
     by-test (isUsed (slotAt l at))
     (λ u. let z = q ∙ next-stop l at less u in
     inl (omega arith, ap (λ (i : ℕ). isUsed (slotAt l i)) z ∙ u, λ j le lt _. absurd (let b : ⊥ = omega arith in b)))
     (λ u. found-on l at e u (found-from l m (at + 1) e (omega arith) (q ∙ next-turn l at less u))))
-    (λ t. found-end l at e (ltb-false at (length l / 16) t) q)
+    (λ t. found-end l at e (ltb-false at (length l / recordSize) t) q)
 
 pub found : (l : List ℕ) (at : ℕ) → Found l at (nextUsed l at)
-found l at = found-from l (length l / 16) at (nextUsed l at) (omega arith) refl
+found l at = found-from l (length l / recordSize) at (nextUsed l at) (omega arith) refl
 
 -- what remains from there on is what remains from the next one on
-pub skip-to : (l : List ℕ) (m at : ℕ) → at + m ≤ length l / 16 → ((j : ℕ) → at ≤ j → j < at + m → Used l j → ⊥)
+pub skip-to : (l : List ℕ) (m at : ℕ) → at + m ≤ length l / recordSize → ((j : ℕ) → at ≤ j → j < at + m → Used l j → ⊥)
     → usedOnes (drop at (slots l)) ≡ usedOnes (drop (at + m) (slots l))
 skip-to l zero at h none = ap (λ (k : ℕ). usedOnes (drop k (slots l))) (let e : at ≡ at + 0 = omega arith in e)
 skip-to l (suc m) at h none =
@@ -85,9 +86,9 @@ skip-to l (suc m) at h none =
     ∙ ap (λ (k : ℕ). usedOnes (drop k (slots l))) (let e : at + 1 + m ≡ at + suc m = omega arith in e)
 
 -- and none remains where none is used from there on
-pub rest-none : (l : List ℕ) (k : ℕ) → ((j : ℕ) → k ≤ j → j < length l / 16 → Used l j → ⊥) → usedOnes (drop k (slots l)) ≡ []
+pub rest-none : (l : List ℕ) (k : ℕ) → ((j : ℕ) → k ≤ j → j < length l / recordSize → Used l j → ⊥) → usedOnes (drop k (slots l)) ≡ []
 rest-none l k none =
-    let n = length l / 16 in
+    let n = length l / recordSize in
     by-test (ltb k n)
     (λ t. let lt = ltb-true k n t in
     skip-to l (n - k) k (omega arith) (λ j le less. none j le (omega arith))
@@ -106,11 +107,11 @@ first-behind l k whole h = (
 )
 
 -- the records up to the first unused one are those that remain
-front-cons : (n : ℕ) (l : List ℕ) → isUsed (take 16 l) ≡ true → front (slotsIn (suc n) l) ≡ take 16 l ∷ front (slotsIn n (drop 16 l))
+front-cons : (n : ℕ) (l : List ℕ) → isUsed (take recordSize l) ≡ true → front (slotsIn (suc n) l) ≡ take recordSize l ∷ front (slotsIn n (drop recordSize l))
 unfolding slotsIn front
 front-cons n l h = rw (slotsIn, front, h)
 
-front-stops : (n : ℕ) (l : List ℕ) → isUsed (take 16 l) ≡ false → front (slotsIn (suc n) l) ≡ []
+front-stops : (n : ℕ) (l : List ℕ) → isUsed (take recordSize l) ≡ false → front (slotsIn (suc n) l) ≡ []
 unfolding slotsIn front
 front-stops n l h = rw (slotsIn, front, h)
 
@@ -118,37 +119,38 @@ none-used : (n : ℕ) (l : List ℕ) → ((k : ℕ) → Used l k → ⊥) → us
 unfolding slotsIn
 none-used zero l h = used-none
 none-used (suc n) l h =
-    used-skip (take 16 l) _ (ap isUsed (sym (slot-first l)) ∙ not-used l 0 (h 0))
-    ∙ none-used n (drop 16 l) (λ k u. h (suc k) (ap isUsed (sym (slot-next l k)) ∙ u))
+    used-skip (take recordSize l) _ (ap isUsed (sym (slot-first l)) ∙ not-used l 0 (h 0))
+    ∙ none-used n (drop recordSize l) (λ k u. h (suc k) (ap isUsed (sym (slot-next l k)) ∙ u))
 
 front-used : (n : ℕ) (l : List ℕ) → NoHole l → front (slotsIn n l) ≡ usedOnes (slotsIn n l)
 unfolding slotsIn
 front-used zero l whole = let e : front [] ≡ [] = (unfold front in refl) in e ∙ sym used-none
 front-used (suc n) l whole =
-    let next : (j k : ℕ) → j < k → Used (drop 16 l) k → Used (drop 16 l) j
+    let next : (j k : ℕ) → j < k → Used (drop recordSize l) k → Used (drop recordSize l) j
     = λ j k lt u. ap isUsed (slot-next l j) ∙ whole (suc j) (suc k) (omega arith) (ap isUsed (sym (slot-next l k)) ∙ u) in
-    by-test (isUsed (take 16 l))
-    (λ u. front-cons n l u ∙ ap (λ (x : List (List ℕ)). take 16 l ∷ x) (front-used n (drop 16 l) next) ∙ sym (used-keep (take 16 l) _ u))
+    by-test (isUsed (take recordSize l))
+    (λ u. front-cons n l u ∙ ap (λ (x : List (List ℕ)). take recordSize l ∷ x) (front-used n (drop recordSize l) next)
+    ∙ sym (used-keep (take recordSize l) _ u))
     (λ u. front-stops n l u
-    ∙ sym (used-skip (take 16 l) _ u
-    ∙ none-used n (drop 16 l)
+    ∙ sym (used-skip (take recordSize l) _ u
+    ∙ none-used n (drop recordSize l)
     (λ k v. false≢true (sym u ∙ ap isUsed (sym (slot-first l)) ∙ whole 0 (suc k) (omega arith) (ap isUsed (sym (slot-next l k)) ∙ v)))))
 
 pub reads-remaining : (l : List ℕ) → NoHole l → readBack l ≡ remaining l
 unfolding readBack remaining slots
-reads-remaining l whole = ap (map recordOf) (front-used (length l / 16) l whole)
+reads-remaining l whole = ap (map recordOf) (front-used (length l / recordSize) l whole)
 
 -- there are as many up to the last used one as are used: none is unused before it
 take-slotsIn : (k n : ℕ) (l : List ℕ) → k ≤ n → take k (slotsIn n l) ≡ slotsIn k l
 unfolding slotsIn
 take-slotsIn zero n l h = refl
 take-slotsIn (suc k) zero l h = absurd (let z : ⊥ = omega arith in z)
-take-slotsIn (suc k) (suc n) l h = ap (λ (x : List (List ℕ)). take 16 l ∷ x) (take-slotsIn k n (drop 16 l) (omega arith))
+take-slotsIn (suc k) (suc n) l h = ap (λ (x : List (List ℕ)). take recordSize l ∷ x) (take-slotsIn k n (drop recordSize l) (omega arith))
 
 up-to-used : (l : List ℕ) → extent l ≡ usedCount l → allUsed (slotsIn (extent l) l) ≡ true
 unfolding extent usedCount slots
 up-to-used l e =
-    let n = length l / 16 in
+    let n = length l / recordSize in
     let ss = slotsIn n l in
     let k = upToLast ss in
     let t : take k ss ≡ slotsIn k l = take-slotsIn k n l (unfold extent slots in extent-holds l .0) in

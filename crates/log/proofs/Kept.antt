@@ -8,6 +8,7 @@ use lib.ListN.{length, getD, take, drop, set, replicate, length-append, length-s
 use lib.Seq.{take-all, take-at, drop-append-add, drop-drop, take-add, take-set-le, take-set-lt, drop-set-lt, drop-set-add, length-take-le}
 use lib.Dec.{eqb, lit<}
 use borrow.Author.Tests.{eq-eqb, ne-eqb}
+use Rattle.line.specs.Limits.{recordSize}
 use Rattle.line.specs.Line.{overwrite}
 use Rattle.line.proofs.Symbols.{by-test}
 use Rattle.line.proofs.Overwrite.{length-overwrite}
@@ -26,7 +27,7 @@ use Rattle.log.proofs.Filled.{whole-used, whole-slots, length-joined, j
 -- ---- one record of a compaction
 
 module _ (l : List ℕ) (k j : ℕ) where
-  pub moved-used : Used l k → (movedLog l k j ≡ overwrite l (16 * j) (slotAt l k)) × (movedCount l k j ≡ j + 1)
+  pub moved-used : Used l k → (movedLog l k j ≡ overwrite l (recordSize * j) (slotAt l k)) × (movedCount l k j ≡ j + 1)
   unfolding movedLog movedCount
   moved-used u = (rw (u, movedLog), rw (u, movedCount))
 
@@ -35,44 +36,44 @@ module _ (l : List ℕ) (k j : ℕ) where
   moved-unused u = (rw (u, movedLog), rw (u, movedCount))
 
   -- in its place already
-  pub moved-nowhere : Used l k → j ≡ k → 16 * k + 16 ≤ length l → (movedLog l k j ≡ l) × (movedCount l k j ≡ j + 1)
+  pub moved-nowhere : Used l k → j ≡ k → recordSize * k + recordSize ≤ length l → (movedLog l k j ≡ l) × (movedCount l k j ≡ j + 1)
   moved-nowhere u e h =
       let m = moved-used u in
-      (m .0 ∙ ap (λ (i : ℕ). overwrite l (16 * i) (slotAt l k)) e ∙ over-same l k h, m .1)
+      (m .0 ∙ ap (λ (i : ℕ). overwrite l (recordSize * i) (slotAt l k)) e ∙ over-same l k h, m .1)
 
 -- ---- all of them: what is kept already, and what is still to be kept
 
 unfoldable pub keptFrom : List ℕ → ℕ → ℕ → ℕ → List ℕ
-keptFrom l n k j = take (16 * j) l ++ joined (usedOnes (slotsIn (n - k) (drop (16 * k) l)))
+keptFrom l n k j = take (recordSize * j) l ++ joined (usedOnes (slotsIn (n - k) (drop (recordSize * k) l)))
 
-pub kept-start : (l : List ℕ) → keptFrom l (length l / 16) 0 0 ≡ joined (usedOnes (slots l))
+pub kept-start : (l : List ℕ) → keptFrom l (length l / recordSize) 0 0 ≡ joined (usedOnes (slots l))
 unfolding keptFrom slots
-kept-start l = ap (λ (n : ℕ). joined (usedOnes (slotsIn n l))) (let e : length l / 16 - 0 ≡ length l / 16 = omega arith in e)
+kept-start l = ap (λ (n : ℕ). joined (usedOnes (slotsIn n l))) (let e : length l / recordSize - 0 ≡ length l / recordSize = omega arith in e)
 
 pub record Kept (l l′ : List ℕ) (n k j j′ : ℕ) : Type 0 where
   pub low : j′ ≤ k + 1
   pub same : length l′ ≡ length l
   pub kept : keptFrom l′ n (k + 1) j′ ≡ keptFrom l n k j
 
-module _ (l : List ℕ) (n k j : ℕ) (h : k < n) (g : j ≤ k) (i : 16 * n ≤ length l) where
+module _ (l : List ℕ) (n k j : ℕ) (h : k < n) (g : j ≤ k) (i : recordSize * n ≤ length l) where
   abbrev s : List ℕ
   s = slotAt l k
 
   abbrev rest : List (List ℕ)
-  rest = slotsIn (n - (k + 1)) (drop (16 * (k + 1)) l)
+  rest = slotsIn (n - (k + 1)) (drop (recordSize * (k + 1)) l)
 
-  turn-used : Used l k → Kept l (overwrite l (16 * j) s) n k j (j + 1)
+  turn-used : Used l k → Kept l (overwrite l (recordSize * j) s) n k j (j + 1)
   unfolding keptFrom joined
   turn-used u =
       let w = length-slot l k (omega arith) in
       record {
         low = omega arith;
-        same = length-overwrite l (16 * j) s (omega arith);
+        same = length-overwrite l (recordSize * j) s (omega arith);
         kept = ap₂ (λ (x y : List ℕ). x ++ joined (usedOnes (slotsIn (n - (k + 1)) y)))
-            (take-over l (16 * j) s (16 * (j + 1)) (omega arith) (omega arith))
-            (drop-over l (16 * j) s (16 * (k + 1)) (omega arith) (omega arith))
-            ∙ append-assoc (take (16 * j) l) s (joined (usedOnes rest))
-            ∙ ap (λ (x : List (List ℕ)). take (16 * j) l ++ joined x) (sym (ap usedOnes (slots-on n k l h) ∙ used-keep s rest u));
+            (take-over l (recordSize * j) s (recordSize * (j + 1)) (omega arith) (omega arith))
+            (drop-over l (recordSize * j) s (recordSize * (k + 1)) (omega arith) (omega arith))
+            ∙ append-assoc (take (recordSize * j) l) s (joined (usedOnes rest))
+            ∙ ap (λ (x : List (List ℕ)). take (recordSize * j) l ++ joined x) (sym (ap usedOnes (slots-on n k l h) ∙ used-keep s rest u));
       }
 
   turn-unused : isUsed s ≡ false → Kept l l n k j j
@@ -81,7 +82,7 @@ module _ (l : List ℕ) (n k j : ℕ) (h : k < n) (g : j ≤ k) (i : 16 * n ≤ 
       record {
         low = omega arith;
         same = refl;
-        kept = ap (λ (x : List (List ℕ)). take (16 * j) l ++ joined x) (sym (ap usedOnes (slots-on n k l h) ∙ used-skip s rest u));
+        kept = ap (λ (x : List (List ℕ)). take (recordSize * j) l ++ joined x) (sym (ap usedOnes (slots-on n k l h) ∙ used-skip s rest u));
       }
 
   -- a turn of the loop
@@ -92,26 +93,28 @@ module _ (l : List ℕ) (n k j : ℕ) (h : k < n) (g : j ≤ k) (i : 16 * n ≤ 
       (λ u. let m = moved-unused l k j u in rw (e ∙ m .0, f ∙ m .1) (turn-unused u))
 
 -- the end: zero octets are written behind what is kept
-pub kept-end : (l₀ l l′ : List ℕ) (n j r : ℕ) → IsMultiple l₀ → length l ≡ length l₀ → 16 * j ≤ length l → keptFrom l n n j ≡ joined (usedOnes (slots l₀))
-    → Put l (16 * j) (replicate (length l - 16 * j) 0) r l′
+pub kept-end : (l₀ l l′ : List ℕ) (n j r : ℕ) → IsMultiple l₀ → length l ≡ length l₀ → recordSize * j ≤ length l
+    → keptFrom l n n j ≡ joined (usedOnes (slots l₀))
+    → Put l (recordSize * j) (replicate (length l - recordSize * j) 0) r l′
     → (l′ ≡ compacted l₀) × (j ≡ usedCount l₀)
 unfolding keptFrom slotsIn usedOnes joined usedCount compacted atFront overwrite
 kept-end l₀ l l′ n j r good same room kept p =
     let us = usedOnes (slots l₀) in
-    let front : take (16 * j) l ≡ joined us
-    = sym (append-nil (take (16 * j) l))
-    ∙ ap (λ (m : ℕ). take (16 * j) l ++ joined (usedOnes (slotsIn m (drop (16 * n) l)))) (let e : 0 ≡ n - n = omega arith in e)
+    let front : take (recordSize * j) l ≡ joined us
+    = sym (append-nil (take (recordSize * j) l))
+    ∙ ap (λ (m : ℕ). take (recordSize * j) l ++ joined (usedOnes (slotsIn m (drop (recordSize * n) l)))) (let e : 0 ≡ n - n = omega arith in e)
     ∙ kept in
-    let many : length (joined us) ≡ 16 * j = ap length (sym front) ∙ length-take-le (16 * j) l room in
-    let z = length-replicate {A = ℕ} (length l - 16 * j) 0 in
-    let all : drop (16 * j + length (replicate {A = ℕ} (length l - 16 * j) 0)) l ≡ []
-    = drop-of-length-le l {i = 16 * j + length (replicate {A = ℕ} (length l - 16 * j) 0)} (omega arith) in
+    let many : length (joined us) ≡ recordSize * j = ap length (sym front) ∙ length-take-le (recordSize * j) l room in
+    let z = length-replicate {A = ℕ} (length l - recordSize * j) 0 in
+    let all : drop (recordSize * j + length (replicate {A = ℕ} (length l - recordSize * j) 0)) l ≡ []
+    = drop-of-length-le l {i = recordSize * j + length (replicate {A = ℕ} (length l - recordSize * j) 0)} (omega arith) in
     let w = length-joined us (whole-used (slots l₀) (whole-slots l₀ good)) in
     let m : j ≡ length us = omega arith in (
       put-overwrite p (omega arith)
-          ∙ ap₂ (λ (x y : List ℕ). x ++ replicate (length l - 16 * j) 0 ++ y) front all
-          ∙ append-nil (joined us ++ replicate (length l - 16 * j) 0)
-          ∙ ap (λ (i : ℕ). joined us ++ replicate i 0) (let e : length l - 16 * j ≡ 16 * (length l₀ / 16 - length us) = omega arith in e),
+          ∙ ap₂ (λ (x y : List ℕ). x ++ replicate (length l - recordSize * j) 0 ++ y) front all
+          ∙ append-nil (joined us ++ replicate (length l - recordSize * j) 0)
+          ∙ ap (λ (i : ℕ). joined us ++ replicate i 0)
+          (let e : length l - recordSize * j ≡ recordSize * (length l₀ / recordSize - length us) = omega arith in e),
       m,
     )
 
@@ -150,67 +153,68 @@ zero-other s = by-test (eqb (getD s 4 0) 0) (λ t. rw t) (λ t. rw t)
 
 -- what stands before record k, and what is still to be looked at
 unfoldable pub leftFrom : ℕ → List ℕ → ℕ → ℕ → List ℕ
-leftFrom o l n k = take (16 * k) l ++ joined (deletedAll o (slotsIn (n - k) (drop (16 * k) l)))
+leftFrom o l n k = take (recordSize * k) l ++ joined (deletedAll o (slotsIn (n - k) (drop (recordSize * k) l)))
 
 unfoldable pub countFrom : ℕ → List ℕ → ℕ → ℕ → ℕ
-countFrom o l n k = countOf o (slotsIn (n - k) (drop (16 * k) l))
+countFrom o l n k = countOf o (slotsIn (n - k) (drop (recordSize * k) l))
 
 module _ (o : ℕ) (l : List ℕ) where
-  pub left-start : leftFrom o l (length l / 16) 0 ≡ joined (deletedAll o (slots l))
+  pub left-start : leftFrom o l (length l / recordSize) 0 ≡ joined (deletedAll o (slots l))
   unfolding leftFrom slots
-  left-start = ap (λ (n : ℕ). joined (deletedAll o (slotsIn n l))) (let e : length l / 16 - 0 ≡ length l / 16 = omega arith in e)
+  left-start = ap (λ (n : ℕ). joined (deletedAll o (slotsIn n l))) (let e : length l / recordSize - 0 ≡ length l / recordSize = omega arith in e)
 
-  pub count-start : countFrom o l (length l / 16) 0 ≡ countOf o (slots l)
+  pub count-start : countFrom o l (length l / recordSize) 0 ≡ countOf o (slots l)
   unfolding countFrom slots
-  count-start = ap (λ (n : ℕ). countOf o (slotsIn n l)) (let e : length l / 16 - 0 ≡ length l / 16 = omega arith in e)
+  count-start = ap (λ (n : ℕ). countOf o (slotsIn n l)) (let e : length l / recordSize - 0 ≡ length l / recordSize = omega arith in e)
 
   module _ (n k : ℕ) (h : k < n) where
     abbrev here : List ℕ
     here = slotAt l k
 
     abbrev behind : List (List ℕ)
-    behind = slotsIn (n - (k + 1)) (drop (16 * (k + 1)) l)
+    behind = slotsIn (n - (k + 1)) (drop (recordSize * (k + 1)) l)
 
     -- a record of another outcome
     pub left-other : hasOutcome o here ≡ false → (leftFrom o l n (k + 1) ≡ leftFrom o l n k) × (countFrom o l n (k + 1) ≡ countFrom o l n k)
     unfolding leftFrom countFrom joined slotAt
     left-other d = (
       ap (λ (x : List ℕ). x ++ joined (deletedAll o behind))
-          (ap (λ (i : ℕ). take i l) (let e : 16 * (k + 1) ≡ 16 * k + 16 = omega arith in e) ∙ take-add (16 * k) 16 l)
-          ∙ append-assoc (take (16 * k) l) here (joined (deletedAll o behind))
-          ∙ ap (λ (x : List (List ℕ)). take (16 * k) l ++ joined x) (sym (ap (deletedAll o) (slots-on n k l h) ∙ deleted-no o here behind d)),
+          (ap (λ (i : ℕ). take i l) (let e : recordSize * (k + 1) ≡ recordSize * k + recordSize = omega arith in e) ∙ take-add (recordSize * k) recordSize l)
+          ∙ append-assoc (take (recordSize * k) l) here (joined (deletedAll o behind))
+          ∙ ap (λ (x : List (List ℕ)). take (recordSize * k) l ++ joined x) (sym (ap (deletedAll o) (slots-on n k l h) ∙ deleted-no o here behind d)),
       sym (ap (countOf o) (slots-on n k l h) ∙ count-no o here behind d),
     )
 
     -- one that is deleted
     pub left-deleted : hasOutcome o here ≡ true
-        → let m : List ℕ = set l (16 * k + 4) 0 in
+        → let m : List ℕ = set l (recordSize * k + 4) 0 in
         (leftFrom o m n (k + 1) ≡ leftFrom o l n k) × (suc (countFrom o m n (k + 1)) ≡ countFrom o l n k)
     unfolding leftFrom countFrom joined slotAt
     left-deleted d =
-        let m : List ℕ = set l (16 * k + 4) 0 in
-        let b : drop (16 * (k + 1)) m ≡ drop (16 * (k + 1)) l = drop-set-lt (16 * (k + 1)) l (16 * k + 4) 0 (omega arith) in
-        let a : take (16 * (k + 1)) m ≡ take (16 * k) l ++ set (take 16 (drop (16 * k) l)) 4 0
-        = ap (λ (i : ℕ). take i m) (let e : 16 * (k + 1) ≡ 16 * k + 16 = omega arith in e)
-        ∙ take-add (16 * k) 16 m
-        ∙ ap₂ (λ (x y : List ℕ). x ++ take 16 y) (take-set-le (16 * k) l (16 * k + 4) 0 (omega arith)) (drop-set-add (16 * k) l 4 0)
-        ∙ ap (λ (x : List ℕ). take (16 * k) l ++ x) (take-set-lt 16 (drop (16 * k) l) 4 0 (lit< tt)) in (
+        let m : List ℕ = set l (recordSize * k + 4) 0 in
+        let b : drop (recordSize * (k + 1)) m ≡ drop (recordSize * (k + 1)) l = drop-set-lt (recordSize * (k + 1)) l (recordSize * k + 4) 0 (omega arith) in
+        let a : take (recordSize * (k + 1)) m ≡ take (recordSize * k) l ++ set (take recordSize (drop (recordSize * k) l)) 4 0
+        = ap (λ (i : ℕ). take i m) (let e : recordSize * (k + 1) ≡ recordSize * k + recordSize = omega arith in e)
+        ∙ take-add (recordSize * k) recordSize m
+        ∙ ap₂ (λ (x y : List ℕ). x ++ take recordSize y) (take-set-le (recordSize * k) l (recordSize * k + 4) 0 (omega arith))
+        (drop-set-add (recordSize * k) l 4 0)
+        ∙ ap (λ (x : List ℕ). take (recordSize * k) l ++ x) (take-set-lt recordSize (drop (recordSize * k) l) 4 0 (lit< tt)) in (
           ap₂ (λ (x y : List ℕ). x ++ joined (deletedAll o (slotsIn (n - (k + 1)) y))) a b
-              ∙ append-assoc (take (16 * k) l) (set here 4 0) (joined (deletedAll o behind))
-              ∙ ap (λ (x : List (List ℕ)). take (16 * k) l ++ joined x) (sym (ap (deletedAll o) (slots-on n k l h) ∙ deleted-yes o here behind d)),
+              ∙ append-assoc (take (recordSize * k) l) (set here 4 0) (joined (deletedAll o behind))
+              ∙ ap (λ (x : List (List ℕ)). take (recordSize * k) l ++ joined x) (sym (ap (deletedAll o) (slots-on n k l h) ∙ deleted-yes o here behind d)),
           ap (λ (y : List ℕ). suc (countOf o (slotsIn (n - (k + 1)) y))) b ∙ sym (ap (countOf o) (slots-on n k l h) ∙ count-yes o here behind d),
         )
 
-  pub left-end : (n : ℕ) → length l ≤ 16 * n → leftFrom o l n n ≡ l
+  pub left-end : (n : ℕ) → length l ≤ recordSize * n → leftFrom o l n n ≡ l
   unfolding leftFrom slotsIn deletedAll joined
   left-end n h =
-      ap (λ (m : ℕ). take (16 * n) l ++ joined (deletedAll o (slotsIn m (drop (16 * n) l)))) (let e : n - n ≡ 0 = omega arith in e)
-      ∙ append-nil (take (16 * n) l)
-      ∙ take-all (16 * n) l h
+      ap (λ (m : ℕ). take (recordSize * n) l ++ joined (deletedAll o (slotsIn m (drop (recordSize * n) l)))) (let e : n - n ≡ 0 = omega arith in e)
+      ∙ append-nil (take (recordSize * n) l)
+      ∙ take-all (recordSize * n) l h
 
   pub count-end : (n : ℕ) → countFrom o l n n ≡ 0
   unfolding countFrom slotsIn countOf
-  count-end n = ap (λ (m : ℕ). countOf o (slotsIn m (drop (16 * n) l))) (let e : n - n ≡ 0 = omega arith in e)
+  count-end n = ap (λ (m : ℕ). countOf o (slotsIn m (drop (recordSize * n) l))) (let e : n - n ≡ 0 = omega arith in e)
 
 -- outcome 0: none is deleted
 zero-kept : (ss : List (List ℕ)) → (countOf 0 ss ≡ 0) × (deletedAll 0 ss ≡ ss)

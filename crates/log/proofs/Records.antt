@@ -9,6 +9,7 @@ use lib.ListN.{length, getD, take, drop, set, length-append, drop-of-length-le}
 use lib.Seq.{sets, getD-at, append-snoc, drop-cons, take-add, take-all}
 use lib.Dec.{eqb, lit<}
 use borrow.Author.Tests.{eqb-true, eq-eqb, ne-eqb, not-false}
+use Rattle.line.specs.Limits.{recordSize}
 use Rattle.line.specs.Line.{overwrite}
 use Rattle.line.specs.Octets.{lowFirst}
 use Rattle.log.specs.declared.Record.{Record}
@@ -59,12 +60,12 @@ low-back h (suc n) x t at e lt =
 
 -- ---- the octets of a record
 
-pub length-record : (r : Record) → length (octetsOfRecord r) ≡ 16
+pub length-record : (r : Record) → length (octetsOfRecord r) ≡ recordSize
 unfolding octetsOfRecord
 length-record r = simp (length-append, length-lowOctets)
 
 -- a record over 16 octets is all that stands there
-pub record-over : (s : List ℕ) (r : Record) → length s ≡ 16 → overwrite s 0 (octetsOfRecord r) ≡ octetsOfRecord r
+pub record-over : (s : List ℕ) (r : Record) → length s ≡ recordSize → overwrite s 0 (octetsOfRecord r) ≡ octetsOfRecord r
 unfolding overwrite
 record-over s r n =
     let o = octetsOfRecord r in
@@ -122,11 +123,11 @@ more : (s : List ℕ) → OfOctets s → (at n : ℕ) (h : List ℕ) → at + n 
 more s o at n h le e = ap₂ _++_ e (low-again s at n o le) ∙ sym (take-add at n s)
 
 -- "Records are read as they stand": written again, a record that is read gives the same 16 octets
-pub record-stands : (s : List ℕ) → length s ≡ 16 → OfOctets s → octetsOfRecord (recordOf s) ≡ s
+pub record-stands : (s : List ℕ) → length s ≡ recordSize → OfOctets s → octetsOfRecord (recordOf s) ≡ s
 unfolding recordOf octetsOfRecord
 record-stands s n o =
     more s o 8 8 _ (omega arith) (more s o 6 2 _ (omega arith) (more s o 5 1 _ (omega arith) (more s o 4 1 _ (omega arith) (low-again s 0 4 o (omega arith)))))
-    ∙ take-all 16 s (omega arith)
+    ∙ take-all recordSize s (omega arith)
 
 -- and its fields have their widths
 pub record-fits : (s : List ℕ) → OfOctets s → Fits (recordOf s)

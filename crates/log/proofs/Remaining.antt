@@ -13,6 +13,7 @@ use lib.ListN.{length, getD, take, drop, set, length-append, length-map, length-
 use lib.Seq.{take-all, getD-drop, getD-set-same, set-split, take-set-lt, take-set-le, drop-set-lt, drop-set-add}
 use lib.Dec.{eqb, ltb, lit<}
 use borrow.Author.Tests.{eq-eqb, eqb-true, ltb-true, ltb-false}
+use Rattle.line.specs.Limits.{recordSize}
 use Rattle.line.specs.Octets.{lowFirst}
 use Rattle.line.proofs.Symbols.{by-test}
 use Rattle.log.specs.declared.Record.{Record}
@@ -53,7 +54,7 @@ module _ (l : List ℕ) (good : IsMultiple l) where
 
   twice : compacted (compacted l) ≡ compacted l
   unfolding compacted
-  twice = ap₂ (λ (k : ℕ) (ss : List (List ℕ)). atFront (k / 16) ss) (unfold compacted in length-compacted l good) (unfold compacted in compact-keeps)
+  twice = ap₂ (λ (k : ℕ) (ss : List (List ℕ)). atFront (k / recordSize) ss) (unfold compacted in length-compacted l good) (unfold compacted in compact-keeps)
 
   -- none is unused before a used one
   pub compact-no-hole : NoHole (compacted l)
@@ -89,7 +90,7 @@ unfolding slotsIn AllOctets
 octets-in zero l o = tt
 octets-in (suc n) l o = (
   subst OfOctets (slot-first l) (slot-octets l 0 o),
-  octets-in n (drop 16 l) (λ i. subst (λ (k : ℕ). k < 256) (sym (getD-drop 16 l i 0)) (o (16 + i))),
+  octets-in n (drop recordSize l) (λ i. subst (λ (k : ℕ). k < 256) (sym (getD-drop recordSize l i 0)) (o (recordSize + i))),
 )
 
 octets-used : (ss : List (List ℕ)) → AllOctets ss → AllOctets (usedOnes ss)
@@ -117,7 +118,7 @@ records-count (s ∷ ss) w o u =
     (λ t. (sym (used-counts (recordOf s) (record-fits s (o .0))) ∙ ap isUsed (record-stands s (w .0) (o .0)) ∙ t, records-count ss (w .1) (o .1) (rw t at u)))
     (λ t. absurd (false≢true (rw t at u)))
 
-module _ (l : List ℕ) (n : ℕ) (size : length l ≡ 16 * n) (octets : OfOctets l) where
+module _ (l : List ℕ) (n : ℕ) (size : length l ≡ recordSize * n) (octets : OfOctets l) where
   good : IsMultiple l
   good = omega arith
 
@@ -129,14 +130,14 @@ module _ (l : List ℕ) (n : ℕ) (size : length l ≡ 16 * n) (octets : OfOctet
 
   all : AllOctets us
   unfolding slots
-  all = octets-used (slotsIn (length l / 16) l) (octets-in (length l / 16) l octets)
+  all = octets-used (slotsIn (length l / recordSize) l) (octets-in (length l / recordSize) l octets)
 
   -- "moves the remaining ones to the front … and fills the rest with zero octets"
   pub compact-front : compacting l .log ≡ filled n (remaining l)
   unfolding compacted filled remaining
   compact-front =
       ap logOf (compact-good l (good-log l good))
-      ∙ ap₂ atFront (let e : length l / 16 ≡ n = omega arith in e) (sym (records-again us whole all))
+      ∙ ap₂ atFront (let e : length l / recordSize ≡ n = omega arith in e) (sym (records-again us whole all))
 
   -- "written into a zero log of that length they give the compacted one"
   pub written-again : appendAll (zeroLog n) (remaining l) ≡ compacting l .log
@@ -144,7 +145,8 @@ module _ (l : List ℕ) (n : ℕ) (size : length l ≡ 16 * n) (octets : OfOctet
   written-again =
       let rs = map recordOf us in
       let count = records-count us whole all (kept-all (slots l)) in
-      let small : length rs ≤ n = (let a = length-map us recordOf in let b : length us ≤ length l / 16 = (unfold usedCount in count-le l) in omega arith) in
+      let small : length rs ≤ n
+      = (let a = length-map us recordOf in let b : length us ≤ length l / recordSize = (unfold usedCount in count-le l) in omega arith) in
       log-holds n rs (records-fit us all)
       ∙ ap (λ (x : List Record). filled n (take n x)) (count-kept rs count)
       ∙ ap (filled n) (take-all n rs small)
@@ -174,9 +176,9 @@ unused-appended l r good f has room =
     let us = usedOnes (slots l) in
     let a = ap length (used-appended l good r has f room) ∙ length-append us (octetsOfRecord r ∷ []) in
     let b = length-appended l good r has room in
-    let c : length us ≤ length l / 16 = (unfold usedCount in count-le l) in
-    let d : length us ≡ length l / 16 → ⊥ = λ e. false≢true (sym room ∙ (unfold usedCount in full-count l good e)) in
-    let g : length us < length l / 16 = lt-of-not-le (λ h. d (omega arith)) in
+    let c : length us ≤ length l / recordSize = (unfold usedCount in count-le l) in
+    let d : length us ≡ length l / recordSize → ⊥ = λ e. false≢true (sym room ∙ (unfold usedCount in full-count l good e)) in
+    let g : length us < length l / recordSize = lt-of-not-le (λ h. d (omega arith)) in
     omega arith
 
 pub unused-none : (l : List ℕ) → allUsed (slots l) ≡ true → unusedCount l ≡ 0
@@ -185,19 +187,20 @@ unused-none l u = let e = ap length (all-kept (slots l) u) ∙ length-slots l in
 
 -- ---- one record deleted
 
-slots-set : (n k : ℕ) (l : List ℕ) → k < n → slotsIn n (set l (16 * k + 4) 0) ≡ set (slotsIn n l) k (set (slotAt l k) 4 0)
+slots-set : (n k : ℕ) (l : List ℕ) → k < n → slotsIn n (set l (recordSize * k + 4) 0) ≡ set (slotsIn n l) k (set (slotAt l k) 4 0)
 unfolding slotsIn
 slots-set zero k l h = absurd (let z : ⊥ = omega arith in z)
 slots-set (suc n) zero l h =
-    ap₂ (λ (x y : List ℕ). x ∷ slotsIn n y) (take-set-lt 16 l 4 0 (lit< tt) ∙ ap (λ (s : List ℕ). set s 4 0) (sym (slot-first l)))
-    (drop-set-lt 16 l 4 0 (lit< tt))
+    ap₂ (λ (x y : List ℕ). x ∷ slotsIn n y) (take-set-lt recordSize l 4 0 (lit< tt) ∙ ap (λ (s : List ℕ). set s 4 0) (sym (slot-first l)))
+    (drop-set-lt recordSize l 4 0 (lit< tt))
 slots-set (suc n) (suc k) l h =
-    let t : take 16 (set l (16 * suc k + 4) 0) ≡ take 16 l = take-set-le 16 l (16 * suc k + 4) 0 (omega arith) in
-    let d : drop 16 (set l (16 * suc k + 4) 0) ≡ set (drop 16 l) (16 * k + 4) 0
-    = ap (λ (j : ℕ). drop 16 (set l j 0)) (let e : 16 * suc k + 4 ≡ 16 + (16 * k + 4) = omega arith in e) ∙ drop-set-add 16 l (16 * k + 4) 0 in
+    let t : take recordSize (set l (recordSize * suc k + 4) 0) ≡ take recordSize l = take-set-le recordSize l (recordSize * suc k + 4) 0 (omega arith) in
+    let d : drop recordSize (set l (recordSize * suc k + 4) 0) ≡ set (drop recordSize l) (recordSize * k + 4) 0
+    = ap (λ (j : ℕ). drop recordSize (set l j 0)) (let e : recordSize * suc k + 4 ≡ recordSize + (recordSize * k + 4) = omega arith in e)
+    ∙ drop-set-add recordSize l (recordSize * k + 4) 0 in
     ap₂ (λ (x y : List ℕ). x ∷ slotsIn n y) t d
-    ∙ ap (λ (x : List (List ℕ)). take 16 l ∷ x)
-    (slots-set n k (drop 16 l) (omega arith) ∙ ap (λ (s : List ℕ). set (slotsIn n (drop 16 l)) k (set s 4 0)) (slot-next l k))
+    ∙ ap (λ (x : List (List ℕ)). take recordSize l ∷ x)
+    (slots-set n k (drop recordSize l) (omega arith) ∙ ap (λ (s : List ℕ). set (slotsIn n (drop recordSize l)) k (set s 4 0)) (slot-next l k))
 
 -- its octets do not count as used
 set-octet : (s : List ℕ) → getD (set s 4 0) 4 0 ≡ 0
@@ -216,11 +219,11 @@ module _ (l : List ℕ) (k : ℕ) (good : IsMultiple l) (used : Used l k) where
   slots-deleted : slots (deleting l k .log) ≡ take k ss ++ (set (slotAt l k) 4 0 ∷ drop (k + 1) ss)
   unfolding slots
   slots-deleted =
-      let n = length l / 16 in
+      let n = length l / recordSize in
       let i = inside l k good used in
       let m : length (slotsIn n l) ≡ n = (unfold slots in length-slots l) in
-      ap (λ (x : Logging). slotsIn (length (x .log) / 16) (x .log)) (delete-used l k (good-log l good) used)
-      ∙ ap (λ (j : ℕ). slotsIn (j / 16) (set l (16 * k + 4) 0)) (length-set l (16 * k + 4) 0)
+      ap (λ (x : Logging). slotsIn (length (x .log) / recordSize) (x .log)) (delete-used l k (good-log l good) used)
+      ∙ ap (λ (j : ℕ). slotsIn (j / recordSize) (set l (recordSize * k + 4) 0)) (length-set l (recordSize * k + 4) 0)
       ∙ slots-set n k l i
       ∙ set-split (slotsIn n l) k (set (slotAt l k) 4 0) (omega arith)
       ∙ ap (λ (j : ℕ). take k (slotsIn n l) ++ (set (slotAt l k) 4 0 ∷ drop j (slotsIn n l))) (let e : suc k ≡ k + 1 = omega arith in e)
@@ -280,10 +283,10 @@ delete-refuses l k =
       unused = λ _ t. absurd (false≢true (sym u ∙ t));
     }))
   where
-    octet-gone : (l : List ℕ) (k : ℕ) → Used l k → getD (set l (16 * k + 4) 0) (16 * k + 4) 0 ≡ 0
+    octet-gone : (l : List ℕ) (k : ℕ) → Used l k → getD (set l (recordSize * k + 4) 0) (recordSize * k + 4) 0 ≡ 0
     octet-gone l k u =
-        by-test (ltb (16 * k + 4) (length l)) (λ t. getD-set-same l (16 * k + 4) 0 0 (ltb-true (16 * k + 4) (length l) t))
-        (λ t. List·getD-eq-default (set l (16 * k + 4) 0) 0 {n = 16 * k + 4} (simp length-set (ltb-false (16 * k + 4) (length l) t)))
+        by-test (ltb (recordSize * k + 4) (length l)) (λ t. getD-set-same l (recordSize * k + 4) 0 0 (ltb-true (recordSize * k + 4) (length l) t))
+        (λ t. List·getD-eq-default (set l (recordSize * k + 4) 0) 0 {n = recordSize * k + 4} (simp length-set (ltb-false (recordSize * k + 4) (length l) t)))
 
 -- ---- the records of an outcome deleted
 

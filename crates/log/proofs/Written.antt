@@ -6,6 +6,7 @@ use mathlib.Core.Bool.{true}
 use mathlib.Core.List.{List, [], _∷_, _++_, append-assoc, append-nil}
 use lib.ListN.{length, take, drop, length-append, length-drop, take-append-drop}
 use lib.Seq.{take-at, drop-at, drop-append-add, drop-drop, take-append-le, take-take, take-add, length-take-le}
+use Rattle.line.specs.Limits.{recordSize}
 use Rattle.line.specs.Line.{overwrite}
 use Rattle.line.proofs.Overwrite.{length-overwrite}
 use Rattle.log.specs.Log.{isUsed, slotAt, slotsIn, slots, usedOnes, upToLast, extent}
@@ -51,46 +52,49 @@ drop-before l d k s h =
     (ap (λ (i : ℕ). drop i l) (let g : d + k + length s ≡ d + (k + length s) = omega arith in g) ∙ sym (drop-drop (k + length s) d l))
 
 -- what stands there already
-pub over-same : (l : List ℕ) (k : ℕ) → 16 * k + 16 ≤ length l → overwrite l (16 * k) (slotAt l k) ≡ l
+pub over-same : (l : List ℕ) (k : ℕ) → recordSize * k + recordSize ≤ length l → overwrite l (recordSize * k) (slotAt l k) ≡ l
 unfolding overwrite slotAt
 over-same l k h =
-    let n : length (take 16 (drop (16 * k) l)) ≡ 16 = (unfold slotAt in length-slot l k h) in
-    ap₂ (λ (x : List ℕ) (i : ℕ). x ++ drop (16 * k + i) l) (sym (take-add (16 * k) 16 l)) n ∙ take-append-drop (16 * k + 16) l
+    let n : length (take recordSize (drop (recordSize * k) l)) ≡ recordSize = (unfold slotAt in length-slot l k h) in
+    ap₂ (λ (x : List ℕ) (i : ℕ). x ++ drop (recordSize * k + i) l) (sym (take-add (recordSize * k) recordSize l)) n
+    ∙ take-append-drop (recordSize * k + recordSize) l
 
 -- ---- a record of the log
 
-slots-over : (n k : ℕ) (l s : List ℕ) → k < n → 16 * n ≤ length l → length s ≡ 16
-    → slotsIn n (overwrite l (16 * k) s) ≡ take k (slotsIn n l) ++ (s ∷ drop (suc k) (slotsIn n l))
+slots-over : (n k : ℕ) (l s : List ℕ) → k < n → recordSize * n ≤ length l → length s ≡ recordSize
+    → slotsIn n (overwrite l (recordSize * k) s) ≡ take k (slotsIn n l) ++ (s ∷ drop (suc k) (slotsIn n l))
 unfolding slotsIn
 slots-over zero k l s h i e = absurd (let z : ⊥ = omega arith in z)
 slots-over (suc n) zero l s h i e =
-    ap₂ (λ (x y : List ℕ). x ∷ slotsIn n y) (take-over l 0 s 16 (omega arith) (omega arith)) (drop-over l 0 s 16 (omega arith) (omega arith))
+    ap₂ (λ (x y : List ℕ). x ∷ slotsIn n y) (take-over l 0 s recordSize (omega arith) (omega arith)) (drop-over l 0 s recordSize (omega arith) (omega arith))
 slots-over (suc n) (suc k) l s h i e =
-    let t : take 16 (overwrite l (16 * suc k) s) ≡ take 16 l = take-before l (16 * suc k) s 16 (omega arith) (omega arith) in
-    let d : drop 16 (overwrite l (16 * suc k) s) ≡ overwrite (drop 16 l) (16 * k) s
-    = ap (λ (j : ℕ). drop 16 (overwrite l j s)) (let g : 16 * suc k ≡ 16 + 16 * k = omega arith in g) ∙ drop-before l 16 (16 * k) s (omega arith) in
+    let t : take recordSize (overwrite l (recordSize * suc k) s) ≡ take recordSize l
+    = take-before l (recordSize * suc k) s recordSize (omega arith) (omega arith) in
+    let d : drop recordSize (overwrite l (recordSize * suc k) s) ≡ overwrite (drop recordSize l) (recordSize * k) s
+    = ap (λ (j : ℕ). drop recordSize (overwrite l j s)) (let g : recordSize * suc k ≡ recordSize + recordSize * k = omega arith in g)
+    ∙ drop-before l recordSize (recordSize * k) s (omega arith) in
     ap₂ (λ (x y : List ℕ). x ∷ slotsIn n y) t d
-    ∙ ap (λ (x : List (List ℕ)). take 16 l ∷ x) (slots-over n k (drop 16 l) s (omega arith) (let m = length-drop 16 l in omega arith) e)
+    ∙ ap (λ (x : List (List ℕ)). take recordSize l ∷ x) (slots-over n k (drop recordSize l) s (omega arith) (let m = length-drop recordSize l in omega arith) e)
 
-module _ (l : List ℕ) (k : ℕ) (s : List ℕ) (n : length s ≡ 16) (inside : 16 * k + 16 ≤ length l) where
+module _ (l : List ℕ) (k : ℕ) (s : List ℕ) (n : length s ≡ recordSize) (inside : recordSize * k + recordSize ≤ length l) where
   abbrev after : List ℕ
-  after = overwrite l (16 * k) s
+  after = overwrite l (recordSize * k) s
 
   pub length-written : length after ≡ length l
-  length-written = length-overwrite l (16 * k) s (omega arith)
+  length-written = length-overwrite l (recordSize * k) s (omega arith)
 
   -- it stands there, and all behind it stays
   slot-written : slotAt after k ≡ s
   unfolding overwrite slotAt
   slot-written =
-      let t = length-take-le (16 * k) l (omega arith) in
-      ap (λ (m : List ℕ). take 16 (drop (16 * k) m)) (append-assoc (take (16 * k) l) s (drop (16 * k + length s) l))
-      ∙ ap (take 16) (drop-at (take (16 * k) l) (s ++ drop (16 * k + length s) l) (16 * k) t)
-      ∙ take-at s (drop (16 * k + length s) l) 16 n
+      let t = length-take-le (recordSize * k) l (omega arith) in
+      ap (λ (m : List ℕ). take recordSize (drop (recordSize * k) m)) (append-assoc (take (recordSize * k) l) s (drop (recordSize * k + length s) l))
+      ∙ ap (take recordSize) (drop-at (take (recordSize * k) l) (s ++ drop (recordSize * k + length s) l) (recordSize * k) t)
+      ∙ take-at s (drop (recordSize * k + length s) l) recordSize n
 
   slot-behind : (j : ℕ) → k < j → slotAt after j ≡ slotAt l j
   unfolding slotAt
-  slot-behind j h = ap (take 16) (drop-over l (16 * k) s (16 * j) (omega arith) (omega arith))
+  slot-behind j h = ap (take recordSize) (drop-over l (recordSize * k) s (recordSize * j) (omega arith) (omega arith))
 
   -- a used record behind the last used one is the last used one
   pub extent-written : isUsed s ≡ true → k ≡ extent l → extent after ≡ k + 1
@@ -106,9 +110,9 @@ module _ (l : List ℕ) (k : ℕ) (s : List ℕ) (n : length s ≡ 16) (inside :
   pub used-written : isUsed s ≡ true → k ≡ extent l → usedOnes (slots after) ≡ usedOnes (slots l) ++ (s ∷ [])
   unfolding slots extent
   used-written u e =
-      let m = length l / 16 in
+      let m = length l / recordSize in
       let ss = slotsIn m l in
-      ap (λ (i : ℕ). usedOnes (slotsIn (i / 16) after)) length-written
+      ap (λ (i : ℕ). usedOnes (slotsIn (i / recordSize) after)) length-written
       ∙ ap usedOnes (slots-over m k l s (omega arith) (omega arith) n)
       ∙ used-append (take k ss) (s ∷ drop (suc k) ss)
       ∙ ap₂ _++_ (ap (λ (i : ℕ). usedOnes (take i ss)) e ∙ used-up-to ss)

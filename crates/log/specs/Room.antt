@@ -4,12 +4,13 @@ use mathlib.Core.Bool.{Bool, true, false, _&&_}
 use mathlib.Core.List.{List, [], _∷_}
 use lib.ListN.{getD, set}
 use lib.Dec.{eqb}
+use Rattle.line.specs.Limits.{recordSize}
 use Rattle.line.specs.Table.{first}
 use Rattle.log.specs.declared.Logged.{Logged}
 use Rattle.log.specs.declared.Logged.the-variants.{Fine, Refused}
 use Rattle.log.specs.declared.LogNumber.{LogNumber}
 use Rattle.log.specs.declared.LogNumber.the-variants.{Number}
-use Rattle.log.specs.Log.{recordSize, isUsed, slots, joined, compacted, recordRefusals, logRefusals, Logging, logging}
+use Rattle.log.specs.Log.{isUsed, slots, joined, compacted, recordRefusals, logRefusals, Logging, logging}
 
 -- ---- One record: "A deleted record's outcome octet becomes 0"
 

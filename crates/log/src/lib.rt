@@ -1,8 +1,10 @@
 // The reading log (document 02, items 4 and 11): records of 16 octets in a lent buffer. Meaning: specs/.
+use line::RECORD_SIZE;
 ghost use mathlib.Core.Path.{_≡_};
 ghost use Prim.Native.Nat.{_+_, _*_, _%_, _≤_, _<_, _^_};
 ghost use mathlib.Core.List.{_++_};
 ghost use lib.ListN.{length};
+ghost use Rattle.line.specs.Limits.{recordSize};
 ghost use Rattle.line.specs.Line.{overwrite};
 ghost use Rattle.line.specs.Octets.{lowFirst};
 ghost use Rattle.splice.specs.Written.{Put};
@@ -117,17 +119,17 @@ fn put_front(log: &mut [u8], at: usize, r: Record) -> usize
 
 // A record over record k of the log, whatever stands there: five stores. For this repository's crates only, since it asks that the log has record k.
 pub fn write_record(log: &mut [u8], k: usize, r: Record)
-    requires { ⌜ 16 * k + 16 ≤ length (now log) ⌝ }
-    ensures { λ _. ⌜ now (log .exit) ≡ overwrite (now (log .entry)) (16 * k) (octetsOfRecord r) ⌝ }
+    requires { ⌜ recordSize * k + recordSize ≤ length (now log) ⌝ }
+    ensures { λ _. ⌜ now (log .exit) ≡ overwrite (now (log .entry)) (recordSize * k) (octetsOfRecord r) ⌝ }
 {
-    let a = put_front(log, 16 * k, r);
+    let a = put_front(log, RECORD_SIZE * k, r);
     let b = put_low(log, a, 2, r.handed as u64);
     put_low(log, b, 8, r.status);
 }
 
 // The record that stands in 16 octets. For this repository's crates only, since it asks that there are 16.
 pub fn record_of(s: &[u8]) -> Record
-    requires { ⌜ length (now s) ≡ 16 ⌝ }
+    requires { ⌜ length (now s) ≡ recordSize ⌝ }
     ensures { λ r. ⌜ r ≡ recordOf (now (s .entry)) ⌝ }
 {
     Record {
@@ -145,10 +147,10 @@ pub fn record_of(s: &[u8]) -> Record
 pub fn extent_of(log: &[u8]) -> usize
     ensures { λ r. ⌜ r ≡ extent (now (log .entry)) ⌝ }
 {
-    let mut k = log.len() / 16;
+    let mut k = log.len() / RECORD_SIZE;
     while 0 < k {
         let last = k - 1;
-        if log[16 * last + 4] != 0 {
+        if log[RECORD_SIZE * last + 4] != 0 {
             return k;
         }
         k = last;
@@ -160,14 +162,14 @@ pub fn extent_of(log: &[u8]) -> usize
 pub fn used_records(log: &[u8]) -> LogNumber
     ensures { λ r. ⌜ r ≡ usedRecords (now (log .entry)) ⌝ }
 {
-    if log.len() % 16 != 0 {
+    if log.len() % RECORD_SIZE != 0 {
         return LogNumber::Refused(LogRefusal::BadLog);
     }
-    let records = log.len() / 16;
+    let records = log.len() / RECORD_SIZE;
     let mut i: usize = 0;
     let mut used: usize = 0;
     while i < records {
-        if log[16 * i + 4] != 0 {
+        if log[RECORD_SIZE * i + 4] != 0 {
             used += 1;
         }
         i += 1;
@@ -179,17 +181,17 @@ pub fn used_records(log: &[u8]) -> LogNumber
 
 // Moves record k to place j if it is used; the place behind what is kept. A record that stands there already is not written.
 fn keep_record(log: &mut [u8], k: usize, j: usize) -> usize
-    requires { ⌜ (j ≤ k) × (16 * k + 16 ≤ length (now log)) ⌝ }
+    requires { ⌜ (j ≤ k) × (recordSize * k + recordSize ≤ length (now log)) ⌝ }
     ensures { λ r. ⌜ (now (log .exit) ≡ movedLog (now (log .entry)) k j) × (r ≡ movedCount (now (log .entry)) k j) ⌝ }
 {
-    let from = 16 * k;
+    let from = RECORD_SIZE * k;
     if log[from + 4] == 0 {
         return j;
     }
     if j == k {
         return j + 1;
     }
-    let end = from + 16;
+    let end = from + RECORD_SIZE;
     let r = record_of(&log[from..end]);
     write_record(log, j, r);
     j + 1
@@ -197,17 +199,17 @@ fn keep_record(log: &mut [u8], k: usize, j: usize) -> usize
 
 // Moves the used records to the front and fills the rest with zero octets, in one pass; how many are used.
 fn compact_front(log: &mut [u8]) -> usize
-    requires { ⌜ length (now log) % 16 ≡ 0 ⌝ }
+    requires { ⌜ length (now log) % recordSize ≡ 0 ⌝ }
     ensures { λ r. ⌜ (now (log .exit) ≡ compacted (now (log .entry))) × (r ≡ usedCount (now (log .entry))) ⌝ }
 {
-    let records = log.len() / 16;
+    let records = log.len() / RECORD_SIZE;
     let mut k: usize = 0;
     let mut j: usize = 0;
     while k < records {
         j = keep_record(log, k, j);
         k += 1;
     }
-    let at = 16 * j;
+    let at = RECORD_SIZE * j;
     let rest = log.len() - at;
     splice::fill(log, at, rest, 0);
     j
@@ -216,10 +218,10 @@ fn compact_front(log: &mut [u8]) -> usize
 // Sees to room behind the last used record, where there are k records up to that one; how many there are then. For this repository's crates only, since
 // it asks for k: a caller who appends record after record searches once.
 pub fn room(log: &mut [u8], k: usize) -> usize
-    requires { ⌜ (length (now log) % 16 ≡ 0) × (k ≡ extent (now log)) ⌝ }
+    requires { ⌜ (length (now log) % recordSize ≡ 0) × (k ≡ extent (now log)) ⌝ }
     ensures { λ r. ⌜ (now (log .exit) ≡ roomy (now (log .entry))) × (r ≡ extent (roomy (now (log .entry)))) ⌝ }
 {
-    if k == log.len() / 16 {
+    if k == log.len() / RECORD_SIZE {
         return compact_front(log);
     }
     k
@@ -229,7 +231,7 @@ pub fn room(log: &mut [u8], k: usize) -> usize
 pub fn compact(log: &mut [u8]) -> Logged
     ensures { λ a. ⌜ logging a (now (log .exit)) ≡ compacting (now (log .entry)) ⌝ }
 {
-    if log.len() % 16 != 0 {
+    if log.len() % RECORD_SIZE != 0 {
         return Logged::Refused(LogRefusal::BadLog);
     }
     compact_front(log);
@@ -242,7 +244,7 @@ pub fn compact(log: &mut [u8]) -> Logged
 pub fn append(log: &mut [u8], r: Record) -> Logged
     ensures { λ a. ⌜ logging a (now (log .exit)) ≡ appending (now (log .entry)) r ⌝ }
 {
-    if log.len() % 16 != 0 {
+    if log.len() % RECORD_SIZE != 0 {
         return Logged::Refused(LogRefusal::BadLog);
     }
     if r.outcome == 0 {
@@ -250,7 +252,7 @@ pub fn append(log: &mut [u8], r: Record) -> Logged
     }
     let last = extent_of(log);
     let k = room(log, last);
-    let count = log.len() / 16;
+    let count = log.len() / RECORD_SIZE;
     if k == count {
         return Logged::Refused(LogRefusal::LogFull);
     }
@@ -262,13 +264,13 @@ pub fn append(log: &mut [u8], r: Record) -> Logged
 pub fn delete(log: &mut [u8], k: usize) -> Logged
     ensures { λ a. ⌜ logging a (now (log .exit)) ≡ deleting (now (log .entry)) k ⌝ }
 {
-    if log.len() % 16 != 0 {
+    if log.len() % RECORD_SIZE != 0 {
         return Logged::Refused(LogRefusal::BadLog);
     }
-    if log.len() / 16 <= k {
+    if log.len() / RECORD_SIZE <= k {
         return Logged::Refused(LogRefusal::NotUsed);
     }
-    let at = 16 * k + 4;
+    let at = RECORD_SIZE * k + 4;
     if log[at] == 0 {
         return Logged::Refused(LogRefusal::NotUsed);
     }
@@ -280,17 +282,17 @@ pub fn delete(log: &mut [u8], k: usize) -> Logged
 pub fn delete_outcome(log: &mut [u8], outcome: u8) -> LogNumber
     ensures { λ a. ⌜ numbered a (now (log .exit)) ≡ deletingAll (now (log .entry)) outcome ⌝ }
 {
-    if log.len() % 16 != 0 {
+    if log.len() % RECORD_SIZE != 0 {
         return LogNumber::Refused(LogRefusal::BadLog);
     }
     if outcome == 0 {
         return LogNumber::Number(0);
     }
-    let records = log.len() / 16;
+    let records = log.len() / RECORD_SIZE;
     let mut i: usize = 0;
     let mut deleted: usize = 0;
     while i < records {
-        let at = 16 * i + 4;
+        let at = RECORD_SIZE * i + 4;
         if log[at] == outcome {
             log[at] = 0;
             deleted += 1;
@@ -306,14 +308,14 @@ pub fn delete_outcome(log: &mut [u8], outcome: u8) -> LogNumber
 pub fn read_record(log: &[u8], k: usize) -> LogRead
     ensures { λ r. ⌜ r ≡ recordRead (now (log .entry)) k ⌝ }
 {
-    if log.len() % 16 != 0 {
+    if log.len() % RECORD_SIZE != 0 {
         return LogRead::Refused(LogRefusal::BadLog);
     }
-    if log.len() / 16 <= k {
+    if log.len() / RECORD_SIZE <= k {
         return LogRead::Refused(LogRefusal::NotUsed);
     }
-    let a = 16 * k;
-    let b = a + 16;
+    let a = RECORD_SIZE * k;
+    let b = a + RECORD_SIZE;
     let s = &log[a..b];
     if s[4] == 0 {
         return LogRead::Refused(LogRefusal::NotUsed);
@@ -327,10 +329,10 @@ pub fn read_record(log: &[u8], k: usize) -> LogRead
 fn next_used(log: &[u8], at: usize) -> usize
     ensures { λ r. ⌜ r ≡ nextUsed (now (log .entry)) at ⌝ }
 {
-    let records = log.len() / 16;
+    let records = log.len() / RECORD_SIZE;
     let mut k = at;
     while k < records {
-        if log[16 * k + 4] != 0 {
+        if log[RECORD_SIZE * k + 4] != 0 {
             return k;
         }
         k += 1;

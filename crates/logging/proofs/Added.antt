@@ -7,6 +7,7 @@ use mathlib.Core.Logic.{_↔_}
 use mathlib.Core.List.{List, [], _∷_, _++_, append-assoc, append-nil}
 use lib.ListN.{length, take}
 use lib.Seq.{take-nil}
+use Rattle.line.specs.Limits.{tableEntries}
 use Rattle.line.proofs.Symbols.{by-test}
 use Rattle.station.specs.declared.Settings.{Settings}
 use Rattle.station.specs.declared.State.{State}
@@ -79,7 +80,7 @@ adds-on n l m k x rs more one a =
 
 -- ---- reading after reading
 
-module _ (s : Settings) (job : ℕ) (es : List Entry) (few : length es ≤ 16) (os ms : List ℕ) where
+module _ (s : Settings) (job : ℕ) (es : List Entry) (few : length es ≤ tableEntries) (os ms : List ℕ) where
   abbrev Added : ℕ → State → ℕ → Type 0
   Added most st p =
       (n : ℕ) (l : List ℕ) → IsMultiple l → Adds l n (keepFrom most s job es st os ms p n l) (recordsOf (readingsFrom most s job es st os ms p))
@@ -139,7 +140,7 @@ module _ (s : Settings) (job : ℕ) (es : List Entry) (few : length es ≤ 16) (
 
 -- from any place on and with any log whose length is a multiple of 16, and a table of 16 entries: the records of the walk's counted readings are added,
 -- in their order, to those that remain
-pub walk-adds : (s : Settings) (job : ℕ) (es : List Entry) → length es ≤ 16 → (st : State) (os ms : List ℕ) (p : ℕ) (l : List ℕ) → IsMultiple l
+pub walk-adds : (s : Settings) (job : ℕ) (es : List Entry) → length es ≤ tableEntries → (st : State) (os ms : List ℕ) (p : ℕ) (l : List ℕ) → IsMultiple l
     → Adds l 0 (walkLogged s job es st os ms p l) (recordsOf (readingsFrom (length os + 1) s job es st os ms p))
 walk-adds s job es few st os ms p l good =
     rw (from-first s job es st os ms p l good) (adds-from s job es few os ms (length os + 1) st p 0 l good)

@@ -5,6 +5,7 @@ use mathlib.Core.Path.{_≡_, refl, sym, ap, ap₂, _∙_, subst}
 use mathlib.Core.Bool.{Bool, true, false, false≢true}
 use mathlib.Core.List.{List, [], _∷_, _++_, map, append-assoc, append-nil}
 use lib.ListN.{length, length-append}
+use Rattle.line.specs.Limits.{recordSize, tableEntries}
 use Rattle.line.specs.Line.{overwrite}
 use Rattle.line.specs.Table.{first}
 use Rattle.station.specs.declared.Settings.{Settings}
@@ -84,7 +85,7 @@ module _ (most : ℕ) (s : Settings) (job : ℕ) (es : List Entry) (st : State) 
   readings-on h = ap then h
 
 -- a reading that counts a Start is not refused, so its record has its widths, with a table of 16 entries
-pub counted-fits : (s : Settings) (job : ℕ) (es : List Entry) → length es ≤ 16 → (st : State) (os ms : List ℕ) (p : ℕ)
+pub counted-fits : (s : Settings) (job : ℕ) (es : List Entry) → length es ≤ tableEntries → (st : State) (os ms : List ℕ) (p : ℕ)
     → isCounted (reading s job es st os ms p .answer) ≡ true
     → Fits (recordOfReading (reading s job es st os ms p))
 counted-fits s job es few st os ms p h = by-checked (first (readRefusals s job es os ms p)) refl
@@ -162,7 +163,7 @@ module _ (room : ℕ) where
         → stopped (endOf x) (r .state) (r .next) n (filled room us) ≡ shown n st p us (readingsFrom (suc most) s job es st os ms p)
     kept-last n us x h e = sym (ap (shown n st p us) (readings-stop most s job es st os ms p h) ∙ shown-last n st p us r x e h)
 
-    kept-turn : length es ≤ 16 → Kept most s job es os ms (r .state) (r .next) → (a : Answer) → r .answer ≡ a → Kept (suc most) s job es os ms st p
+    kept-turn : length es ≤ tableEntries → Kept most s job es os ms (r .state) (r .next) → (a : Answer) → r .answer ≡ a → Kept (suc most) s job es os ms st p
     unfolding AllFit AllCount
     kept-turn few ih (Answer.Refused x) e n us f c h =
         turn-refused s job es st os ms p n (filled room us) (suc most) (omega arith) r refl x e
@@ -188,13 +189,13 @@ module _ (room : ℕ) where
         turn-kept s job es st os ms p n (filled room us) (suc most) (omega arith) r refl o w q v e multiple (length us)
         (sym (ap extent stays ∙ last)) (omega arith)
         ∙ ap₂ (λ (m : ℕ) (l : List ℕ). keepFrom m s job es (r .state) os ms (r .next) (n + 1) l) (let z : suc most - 1 ≡ most = omega arith in z)
-        (ap (λ (l : List ℕ). overwrite l (16 * length us) (octetsOfRecord x)) stays ∙ write-filled room us x (omega arith))
+        (ap (λ (l : List ℕ). overwrite l (recordSize * length us) (octetsOfRecord x)) stays ∙ write-filled room us x (omega arith))
         ∙ ih (n + 1) (us ++ (x ∷ [])) (fit-append us (x ∷ []) f (counted-fits s job es few st os ms p yes, tt))
         (count-append us (x ∷ []) c (counts-so x (counted-some r o w q v e), tt)) (omega arith)
         ∙ sym (ap (shown n st p us) on ∙ shown-on n st p us r rest o w q v e)
 
   -- with room for all records, the walk that keeps its readings comes to what the readings come to
-  kept-from : (most : ℕ) (s : Settings) (job : ℕ) (es : List Entry) → length es ≤ 16 → (os ms : List ℕ) (st : State) (p : ℕ)
+  kept-from : (most : ℕ) (s : Settings) (job : ℕ) (es : List Entry) → length es ≤ tableEntries → (os ms : List ℕ) (st : State) (p : ℕ)
       → Kept most s job es os ms st p
   kept-from zero s job es few os ms st p = λ n us f c h. kept-none s job es st os ms p n us
   kept-from (suc most) s job es few os ms st p =
@@ -228,7 +229,7 @@ module _ (most : ℕ) (s : Settings) (job : ℕ) (es : List Entry) (st : State) 
   unfolding AllFit
   fit-last h = subst AllFit (sym (ap recordsOf (readings-stop most s job es st os ms p h) ∙ records-last read h)) tt
 
-  fit-turn : length es ≤ 16 → FitFrom most (read .state) (read .next) → (a : Answer) → read .answer ≡ a → FitFrom (suc most) st p
+  fit-turn : length es ≤ tableEntries → FitFrom most (read .state) (read .next) → (a : Answer) → read .answer ≡ a → FitFrom (suc most) st p
   unfolding AllFit
   fit-turn few ih (Answer.Refused x) e = fit-last (ap isCounted e)
   fit-turn few ih Answer.Nothing e = fit-last (ap isCounted e)
@@ -238,7 +239,7 @@ module _ (most : ℕ) (s : Settings) (job : ℕ) (es : List Entry) (st : State) 
       subst AllFit (sym (ap recordsOf (readings-on most s job es st os ms p yes) ∙ records-counted read _ o w q v e))
       (counted-fits s job es few st os ms p yes, ih)
 
-records-fit : (most : ℕ) (s : Settings) (job : ℕ) (es : List Entry) → length es ≤ 16 → (st : State) (os ms : List ℕ) (p : ℕ)
+records-fit : (most : ℕ) (s : Settings) (job : ℕ) (es : List Entry) → length es ≤ tableEntries → (st : State) (os ms : List ℕ) (p : ℕ)
     → AllFit (recordsOf (readingsFrom most s job es st os ms p))
 unfolding AllFit readingsFrom
 records-fit zero s job es few st os ms p = subst AllFit (sym records-none) tt
@@ -247,7 +248,7 @@ records-fit (suc most) s job es few st os ms p =
     fit-turn most s job es st os ms p few (records-fit most s job es few (r .state) os ms (r .next)) (r .answer) refl
 
 -- "the readings of a run kept", where there is room for them; the table has its 16 entries
-pub walk-keeps : (s : Settings) (job : ℕ) (es : List Entry) → length es ≤ 16 → (st : State) (os ms : List ℕ) (room : ℕ)
+pub walk-keeps : (s : Settings) (job : ℕ) (es : List Entry) → length es ≤ tableEntries → (st : State) (os ms : List ℕ) (room : ℕ)
     → length (recordsOf (walk s job es st os ms)) ≤ room → KeepsWalk s job es st os ms room
 unfolding walk walked
 walk-keeps s job es few st os ms room h =

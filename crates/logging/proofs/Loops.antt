@@ -11,6 +11,7 @@ use denote.Enum.Declared.{tagOf}
 use types.Run.{OneOf}
 use Rattle.line.specs.declared.Found.{Found}
 use Rattle.line.specs.declared.Found.the-variants.{At}
+use Rattle.line.specs.Limits.{recordSize, tableEntries}
 use Rattle.line.specs.Line.{capture, findStart, findControl, overwrite}
 use Rattle.line.specs.Octets.{between}
 use Rattle.line.specs.Table.{first}
@@ -141,23 +142,23 @@ module _ (s : Settings) (job : ℕ) (es : List Entry) (os ms : List ℕ) (p : �
       same = refl
 
       module _ (n : ℕ) (l : List ℕ) (left : ℕ) (more : 0 < left) (good : IsMultiple l) where
-        pub loop-full : extent (roomy l) ≡ length l / 16 → keepFrom left s job es st os ms p n l ≡ stopped Full st p n l
+        pub loop-full : extent (roomy l) ≡ length l / recordSize → keepFrom left s job es st os ms p n l ≡ stopped Full st p n l
         unfolding readRun
         loop-full h = turn-full s job es st os ms p n l left more read is becomes _ _ _ refl good h
 
-        pub loop-kept : (k : ℕ) → k ≡ extent (roomy l) → k < length l / 16
+        pub loop-kept : (k : ℕ) → k ≡ extent (roomy l) → k < length l / recordSize
             → keepFrom left s job es st os ms p n l
-            ≡ keepFrom (left - 1) s job es (stateAfter becomes (frameOf run) st) os ms e (n + 1) (overwrite (roomy l) (16 * k) (octetsOfRecord kept))
+            ≡ keepFrom (left - 1) s job es (stateAfter becomes (frameOf run) st) os ms e (n + 1) (overwrite (roomy l) (recordSize * k) (octetsOfRecord kept))
         unfolding readRun
         loop-kept k h lt =
             turn-kept s job es st os ms p n l left more read is becomes _ _ _ refl good k h lt
             ∙ ap₂ (λ (next : ℕ) (x : Record).
-            keepFrom (left - 1) s job es (stateAfter becomes (frameOf run) st) os ms next (n + 1) (overwrite (roomy l) (16 * k) (octetsOfRecord x)))
+            keepFrom (left - 1) s job es (stateAfter becomes (frameOf run) st) os ms next (n + 1) (overwrite (roomy l) (recordSize * k) (octetsOfRecord x)))
             next-is same
 
     -- behind the last used record its record is the last used one
-    pub loop-next : length es ≤ 16 → (l : List ℕ) (k : ℕ) → 16 * k + 16 ≤ length l → k ≡ extent l
-        → extent (overwrite l (16 * k) (octetsOfRecord kept)) ≡ k + 1
+    pub loop-next : length es ≤ tableEntries → (l : List ℕ) (k : ℕ) → recordSize * k + recordSize ≤ length l → k ≡ extent l
+        → extent (overwrite l (recordSize * k) (octetsOfRecord kept)) ≡ k + 1
     loop-next few l k h g =
         let st : State = record { counters = []; timers = []; deficit = 0 } in
         let fits : Fits kept = subst Fits (sym (ap recordOfReading (is st)) ∙ same st) (reading-fits s job es st os ms p fine few) in

@@ -10,6 +10,7 @@ use lib.ListN.{length, getD, length-take, length-drop}
 use lib.Dec.{eqb, leb, lit<}
 use Rattle.line.specs.declared.Found.{Found}
 use Rattle.line.specs.declared.Found.the-variants.{At}
+use Rattle.line.specs.Limits.{mostSymbols, tableEntries}
 use Rattle.line.specs.Line.{capture, findStart, findControl}
 use Rattle.line.specs.Octets.{between, sameOctets}
 use Rattle.line.specs.Table.{first}
@@ -118,10 +119,10 @@ part-small s HandedOut at f h = let k = handed-small (s .checking) f in omega ar
 
 -- what is known of a reading r at place p, of a job with these entries: sizes, and that one which counts a Start moves on and stays inside
 pub record Sound (own : List (Option Address)) (os : List ℕ) (p : ℕ) (r : Reading) : Type 0 where
-  pub place : r .start ≤ 65536
+  pub place : r .start ≤ mostSymbols
   pub handed : answerPart (r .answer) .len ≤ 65535
   pub status : answerStatus (r .answer) < 2 ^ 64
-  pub way : length own ≤ 16 → answerWay (r .answer) < 2 ^ 8
+  pub way : length own ≤ tableEntries → answerWay (r .answer) < 2 ^ 8
   pub refused : answerRefusal (r .answer) ≡ 0
   pub on : isCounted (r .answer) ≡ true → (p < r .next) × (r .next < length os)
 
@@ -130,7 +131,7 @@ unfolding between
 run-length os i e h = simp (length-take, length-drop) (omega arith)
 
 run-sound : (s : Settings) (own : List (Option Address)) (st : State) (os : List ℕ) (p i : ℕ) (run : List ℕ) (o : Outcome) → p ≤ i
-    → i + 1 + length run < length os → length os ≤ 65536 → Sound own os p (readRun s own st i run o)
+    → i + 1 + length run < length os → length os ≤ mostSymbols → Sound own os p (readRun s own st i run o)
 unfolding readRun
 run-sound s own st os p i run o low high small =
     let f : length (frameOf run) ≤ 65535 = (let w = frame-le run in omega arith) in
@@ -188,7 +189,7 @@ module _ (s : Settings) (job : ℕ) (es : List Entry) (st : State) (os ms : List
       record { place = mod-eq-of-lt place; handed = mod-eq-of-lt handed }
 
   -- its record's fields have their widths, with a table of 16 entries
-  pub reading-fits : length es ≤ 16 → Fits (recordOfReading (reading s job es st os ms p))
+  pub reading-fits : length es ≤ tableEntries → Fits (recordOfReading (reading s job es st os ms p))
   unfolding recordOfReading
   reading-fits few =
       let r = reading s job es st os ms p in

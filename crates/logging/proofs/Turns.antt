@@ -4,6 +4,7 @@ use native.Mathlib.Omega.{arith}
 use mathlib.Core.Path.{_≡_, refl, sym, ap, _∙_, subst}
 use mathlib.Core.List.{List}
 use lib.ListN.{length}
+use Rattle.line.specs.Limits.{recordSize}
 use Rattle.line.specs.Line.{overwrite}
 use Rattle.line.specs.Table.{first}
 use Rattle.station.specs.declared.Settings.{Settings}
@@ -116,15 +117,15 @@ module _ (s : Settings) (job : ℕ) (es : List Entry) (st : State) (os ms : List
           by-logged (Logged.Refused x) e = subst (λ (g : Logged). P (branch g)) (sym e) (full x e)
 
       -- there is no room behind the last used record, or a record is written there
-      pub turn-full : IsMultiple l → extent (roomy l) ≡ length l / 16 → keepFrom left s job es st os ms p n l ≡ stopped Full st p n l
+      pub turn-full : IsMultiple l → extent (roomy l) ≡ length l / recordSize → keepFrom left s job es st os ms p n l ≡ stopped Full st p n l
       turn-full good h =
           counted
           ∙ ap (given r)
           (append-full l (recordOfReading r) (good-log l good) (counts-so (recordOfReading r) (counted-some r o w q v e)) (room-full l good h .1))
 
-      pub turn-kept : IsMultiple l → (k : ℕ) → k ≡ extent (roomy l) → k < length l / 16
+      pub turn-kept : IsMultiple l → (k : ℕ) → k ≡ extent (roomy l) → k < length l / recordSize
           → keepFrom left s job es st os ms p n l
-          ≡ keepFrom (left - 1) s job es (r .state) os ms (r .next) (n + 1) (overwrite (roomy l) (16 * k) (octetsOfRecord (recordOfReading r)))
+          ≡ keepFrom (left - 1) s job es (r .state) os ms (r .next) (n + 1) (overwrite (roomy l) (recordSize * k) (octetsOfRecord (recordOfReading r)))
       turn-kept good k h lt = counted ∙ ap (given r) (append-roomy l good (recordOfReading r) (counted-some r o w q v e) k h lt)
 
 -- ---- the whole walk

@@ -1,6 +1,7 @@
 // Readings kept in a log (document 02, items 4 and 11), of a job and by the address table (item 10). Meaning: specs/.
 use fields::Layout;
 use line::Found;
+use line::RECORD_SIZE;
 use log::LogRefusal;
 use log::Logged;
 use log::Record;
@@ -19,6 +20,7 @@ ghost use mathlib.Core.Path.{_≡_};
 ghost use mathlib.Core.Bool.{true, false};
 ghost use Prim.Native.Nat.{_≤_};
 ghost use lib.ListN.{length};
+ghost use Rattle.line.specs.Limits.{mostSymbols};
 ghost use Rattle.line.specs.Table.{first};
 ghost use Rattle.fcs.specs.Lent.{Lent};
 ghost use Rattle.station.specs.declared.Outcome.the-variants.{HandedOut};
@@ -129,7 +131,7 @@ fn handed_record(
     f: &[u8],
     l: Layout,
 ) -> Record
-    requires { ⌜ (length (now f) ≤ 65536) × (l ≡ layoutOf (now f)) ⌝ }
+    requires { ⌜ (length (now f) ≤ mostSymbols) × (l ≡ layoutOf (now f)) ⌝ }
     ensures { λ r. ⌜ r ≡ recordOfFrame s (ownEntries job (now (table .entry))) start (now (f .entry)) HandedOut ⌝ }
 {
     let handed = frame::handed_length(s.checking, l.field, frame::frame_data(f, l.place));
@@ -145,7 +147,7 @@ fn handed_record(
 
 // The same, of the frame alone. Most frames have no tag: with none named, much of the record is made of constants.
 fn handed_out(s: Settings, job: u8, table: &[u8; 128], start: usize, f: &[u8]) -> Record
-    requires { ⌜ length (now f) ≤ 65536 ⌝ }
+    requires { ⌜ length (now f) ≤ mostSymbols ⌝ }
     ensures { λ r. ⌜ r ≡ recordOfFrame s (ownEntries job (now (table .entry))) start (now (f .entry)) HandedOut ⌝ }
 {
     let tags = fields::tag_count(f);
@@ -164,7 +166,7 @@ fn record_of_frame(
     f: &[u8],
     o: Outcome,
 ) -> Record
-    requires { ⌜ length (now f) ≤ 65536 ⌝ }
+    requires { ⌜ length (now f) ≤ mostSymbols ⌝ }
     ensures { λ r. ⌜ r ≡ recordOfFrame s (ownEntries job (now (table .entry))) start (now (f .entry)) o ⌝ }
 {
     match o {
@@ -186,7 +188,7 @@ fn record_of_run(
     run: &[u8],
     o: Outcome,
 ) -> Record
-    requires { ⌜ length (now run) ≤ 65536 ⌝ }
+    requires { ⌜ length (now run) ≤ mostSymbols ⌝ }
     ensures { λ r. ⌜ r ≡ recordOfFrame s (ownEntries job (now (table .entry))) start (frameOf (now (run .entry))) o ⌝ }
 {
     if !tells(o) {
@@ -213,7 +215,7 @@ fn check_keep(
     if let Checked::Refused(x) = checked {
         return KeepChecked::Refused(KeepRefusal::ByReading(x));
     }
-    if log.len() % 16 != 0 {
+    if log.len() % RECORD_SIZE != 0 {
         return KeepChecked::Refused(KeepRefusal::ByLog(LogRefusal::BadLog));
     }
     KeepChecked::Fine
@@ -237,7 +239,7 @@ fn keep_on(
     ensures { λ r. ⌜ keeping r (now (log .exit))
         ≡ walkLogged s job (entriesOf (now (table .entry))) state (now (octets .entry)) (now (marks .entry)) place (now (log .entry)) ⌝ }
 {
-    let records = log.len() / 16;
+    let records = log.len() / RECORD_SIZE;
     let mut counters = state.counters;
     let mut timers = state.timers;
     let mut n: usize = 0;

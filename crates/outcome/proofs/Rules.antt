@@ -8,6 +8,7 @@ use mathlib.Core.Option.{Option}
 use lib.ListN.{length, getD, take, drop, drop-of-length-le}
 use lib.Dec.{eqb, ltb}
 use borrow.Author.Tests.{lt-ltb, le-ltb, eq-eqb, ne-eqb}
+use Rattle.line.specs.Limits.{preambleSize}
 use Rattle.line.specs.Line.{preamble, terminate}
 use Rattle.line.specs.Octets.{sameOctets}
 use Rattle.line.specs.Table.{Table, otherwise, _∣_, _⇒_, first}
@@ -42,28 +43,28 @@ not-cut by h = ap not (eq-eqb by terminate h)
 
 -- ---- rule 2
 
-pub preamble-short : (r : List ℕ) → length r < 7 → badPreamble r ≡ true
+pub preamble-short : (r : List ℕ) → length r < preambleSize → badPreamble r ≡ true
 unfolding badPreamble
-preamble-short r h = rw (lt-ltb (length r) 7 h)
+preamble-short r h = rw (lt-ltb (length r) preambleSize h)
 
-module _ (r right : List ℕ) (e : right ≡ preamble) (long : 7 ≤ length r) where
-  pub preamble-differs : (k : ℕ) → k < 7 → (getD r k 0 ≡ getD right k 0 → ⊥) → badPreamble r ≡ true
+module _ (r right : List ℕ) (e : right ≡ preamble) (long : preambleSize ≤ length r) where
+  pub preamble-differs : (k : ℕ) → k < preambleSize → (getD r k 0 ≡ getD right k 0 → ⊥) → badPreamble r ≡ true
   unfolding badPreamble
   preamble-differs k h d =
-      ap₂ (λ (a b : Bool). a || not b) (le-ltb (length r) 7 long)
-      (front-differs 7 r preamble k h (λ q. d (q ∙ ap (λ (l : List ℕ). getD l k 0) (sym e))))
+      ap₂ (λ (a b : Bool). a || not b) (le-ltb (length r) preambleSize long)
+      (front-differs preambleSize r preamble k h (λ q. d (q ∙ ap (λ (l : List ℕ). getD l k 0) (sym e))))
 
-  pub preamble-right : ((k : ℕ) → k < 7 → getD r k 0 ≡ getD right k 0) → badPreamble r ≡ false
+  pub preamble-right : ((k : ℕ) → k < preambleSize → getD r k 0 ≡ getD right k 0) → badPreamble r ≡ false
   unfolding badPreamble
   preamble-right s =
-      ap₂ (λ (a b : Bool). a || not b) (le-ltb (length r) 7 long)
-      (front-same 7 r preamble long (unfold preamble in refl) (λ k h. s k h ∙ ap (λ (l : List ℕ). getD l k 0) e))
+      ap₂ (λ (a b : Bool). a || not b) (le-ltb (length r) preambleSize long)
+      (front-same preambleSize r preamble long (unfold preamble in refl) (λ k h. s k h ∙ ap (λ (l : List ℕ). getD l k 0) e))
 
 -- ---- the frame of a run
 
-pub frame-none : (r : List ℕ) → length r < 7 → frameOf r ≡ []
+pub frame-none : (r : List ℕ) → length r < preambleSize → frameOf r ≡ []
 unfolding frameOf
-frame-none r h = drop-of-length-le r {i = 7} (omega arith)
+frame-none r h = drop-of-length-le r {i = preambleSize} (omega arith)
 
 -- ---- a table whose first n rows do not hold, and its next row, whose test the code answered by r
 

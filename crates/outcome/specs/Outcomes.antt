@@ -5,6 +5,7 @@ use mathlib.Core.List.{List}
 use mathlib.Core.Option.{Option}
 use lib.ListN.{length, take, drop}
 use lib.Dec.{eqb, ltb, leb}
+use Rattle.line.specs.Limits.{preambleSize}
 use Rattle.line.specs.Line.{terminate, preamble}
 use Rattle.line.specs.Octets.{sameOctets}
 use Rattle.line.specs.Table.{Table, _⇒_, _∣_, otherwise, first}
@@ -25,11 +26,11 @@ cut by = not (eqb by terminate)
 
 -- rule 2: "run under 7 octets, or the first 7 wrong"
 unfoldable pub badPreamble : List ℕ → Bool
-badPreamble run = ltb (length run) 7 || not (sameOctets (take 7 run) preamble)
+badPreamble run = ltb (length run) preambleSize || not (sameOctets (take preambleSize run) preamble)
 
 -- "the frame from destination to FCS", of a run
 unfoldable pub frameOf : List ℕ → List ℕ
-frameOf run = drop 7 run
+frameOf run = drop preambleSize run
 
 -- the table, for a run ended by the control octet `by`, whose frame is `f`
 unfoldable pub outcomes : Settings → List (Option Address) → List ℕ → ℕ → List ℕ → Table Outcome

@@ -1,5 +1,6 @@
 // What becomes of one run: the table of outcomes and the status word (document 01, "Reading one Start", "Status word"). Meaning: specs/.
 use fields::Layout;
+use line::PREAMBLE_SIZE;
 use station::Address;
 use station::Outcome;
 use station::Settings;
@@ -7,6 +8,7 @@ ghost use mathlib.Core.Path.{_≡_};
 ghost use mathlib.Core.Bool.{true, not, cond, _&&_};
 ghost use Prim.Native.Nat.{_≤_};
 ghost use lib.ListN.{length, take};
+ghost use Rattle.line.specs.Limits.{mostSymbols};
 ghost use Rattle.line.specs.Table.{first};
 ghost use Rattle.fcs.specs.Lent.{Lent};
 ghost use Rattle.station.specs.Station.{isGroup};
@@ -37,12 +39,12 @@ pub struct Judged {
 pub fn bad_preamble(run: &[u8]) -> bool
     ensures { λ r. ⌜ r ≡ badPreamble (now (run .entry)) ⌝ }
 {
-    if run.len() < 7 {
+    if run.len() < PREAMBLE_SIZE {
         return true;
     }
     let right = [0x55u8, 0x55, 0x55, 0x55, 0x55, 0x55, 0xD5];
     let mut k: usize = 0;
-    while k < 7 {
+    while k < PREAMBLE_SIZE {
         if run[k] != right[k] {
             return true;
         }
@@ -55,10 +57,10 @@ pub fn bad_preamble(run: &[u8]) -> bool
 pub fn frame_of(run: &[u8]) -> &[u8]
     ensures { λ r. ⌜ now r ≡ frameOf (now (run .entry)) ⌝ }
 {
-    if run.len() < 7 {
+    if run.len() < PREAMBLE_SIZE {
         return &run[..0];
     }
-    &run[7..]
+    &run[PREAMBLE_SIZE..]
 }
 
 // Rules 1 to 3, in their order.
@@ -267,7 +269,7 @@ pub fn kind_bits(f: &[u8], tags: u8) -> u64
 
 // What the frame alone decides, its number of tags given: bits 38 to 16.
 fn frame_bits(f: &[u8], tags: u8) -> u64
-    requires { ⌜ length (now f) ≤ 65536 ⌝ }
+    requires { ⌜ length (now f) ≤ mostSymbols ⌝ }
     ensures { λ r. ⌜ (r ≡ frameBits tags (now (f .entry))) × (r ≤ 0x80_0000_0000) ⌝ }
 {
     kind_bits(f, tags) + (f.len() as u64) * 0x1_0000
@@ -275,8 +277,8 @@ fn frame_bits(f: &[u8], tags: u8) -> u64
 
 // The number of data octets, of a frame whose data begins at `place`.
 fn data_length(f: &[u8], place: usize) -> u64
-    requires { ⌜ length (now f) ≤ 65536 ⌝ }
-    ensures { λ r. ⌜ (r ≡ length (dataFrom place (now (f .entry)))) × (r ≤ 65536) ⌝ }
+    requires { ⌜ length (now f) ≤ mostSymbols ⌝ }
+    ensures { λ r. ⌜ (r ≡ length (dataFrom place (now (f .entry)))) × (r ≤ mostSymbols) ⌝ }
 {
     let data = frame::frame_data(f, place);
     data.len() as u64
@@ -285,7 +287,7 @@ fn data_length(f: &[u8], place: usize) -> u64
 // The status word of a frame laid out as `l` says, of which `handed` octets are handed out: 0 for outcomes 1 to 7. The bounds keep its sums from
 // wrapping; so it is public for this repository's crates only.
 pub fn status(o: Outcome, f: &[u8], l: Layout, handed: usize) -> u64
-    requires { ⌜ (length (now f) ≤ 65536) × (handed ≤ 65536) ⌝ }
+    requires { ⌜ (length (now f) ≤ mostSymbols) × (handed ≤ mostSymbols) ⌝ }
     ensures { λ r. ⌜ r ≡ statusOf o (now (f .entry)) (l .tags) (length (dataFrom (l .place) (now (f .entry)))) handed ⌝ }
 {
     match o {

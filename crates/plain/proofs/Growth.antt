@@ -9,6 +9,7 @@ use lib.ListN.{length, getD, take, drop, set, length-append, length-drop, length
 use lib.Seq.{take-all, take-suc, take-suc-set, take-append-le, drop-append-le, drop-drop, getD-drop, getD-append-add}
 use lib.Dec.{ltb, leb}
 use borrow.Author.Tests.{ltb-true, ltb-false, leb-true, leb-false}
+use Rattle.line.specs.Limits.{preambleSize, fcsSize}
 use Rattle.line.proofs.Symbols.{by-test}
 use Rattle.crc.specs.Crc.{crcOver, crcOctet}
 use Rattle.crc.proofs.Linear.{over-append}
@@ -55,13 +56,13 @@ module _ (r : List ℕ) (o : ℕ) where
       ∙ ap₂ (λ (n : ℕ) (l : List ℕ). drop n l) (sym k) (append-assoc zeros r (o ∷ []))
 
   -- the octet that leaves the last four
-  leaves : 11 ≤ length r → getD (drop (length r) (zeros ++ r)) 0 0 ≡ getD (frameOf r) (length r - 11) 0
+  leaves : preambleSize + fcsSize ≤ length r → getD (drop (length r) (zeros ++ r)) 0 0 ≡ getD (frameOf r) (length r - (preambleSize + fcsSize)) 0
   unfolding frameOf
   leaves h =
       let e : length r + 0 ≡ length zeros + (length r - 4) = omega arith in
-      let d : 7 + (length r - 11) ≡ length r - 4 = omega arith in
+      let d : 7 + (length r - (preambleSize + fcsSize)) ≡ length r - 4 = omega arith in
       getD-drop (length r) (zeros ++ r) 0 0 ∙ ap (λ (n : ℕ). getD (zeros ++ r) n 0) e ∙ getD-append-add zeros r (length r - 4) 0
-      ∙ ap (λ (n : ℕ). getD r n 0) (sym d) ∙ sym (getD-drop 7 r (length r - 11) 0)
+      ∙ ap (λ (n : ℕ). getD r n 0) (sym d) ∙ sym (getD-drop 7 r (length r - (preambleSize + fcsSize)) 0)
 
   frame-length : length (frameOf r) ≡ length r - 7
   unfolding frameOf
@@ -77,31 +78,33 @@ module _ (r : List ℕ) (o : ℕ) where
       let y : length (frameOf r) - 4 ≡ 0 = omega arith in
       rw (x, y)
 
-  covered-more : 11 ≤ length r → covered (frameOf r′) ≡ covered (frameOf r) ++ (getD (frameOf r) (length r - 11) 0 ∷ [])
+  covered-more : preambleSize + fcsSize ≤ length r
+      → covered (frameOf r′) ≡ covered (frameOf r) ++ (getD (frameOf r) (length r - (preambleSize + fcsSize)) 0 ∷ [])
   unfolding covered
   covered-more h =
       let k = more-length in
       let a = frame-length in
       let b : length (frameOf r′) ≡ length r′ - 7 = (unfold frameOf in length-drop 7 r′) in
-      let x : length (frameOf r′) - 4 ≡ suc (length r - 11) = omega arith in
-      let y : length (frameOf r) - 4 ≡ length r - 11 = omega arith in
+      let x : length (frameOf r′) - 4 ≡ suc (length r - (preambleSize + fcsSize)) = omega arith in
+      let y : length (frameOf r) - 4 ≡ length r - (preambleSize + fcsSize) = omega arith in
       let z : frameOf r′ ≡ frameOf r ++ (o ∷ []) = (unfold frameOf in drop-append-le 7 r (o ∷ []) (omega arith)) in
-      ap (λ (n : ℕ). take n (frameOf r′)) x ∙ ap (take (suc (length r - 11))) z
-      ∙ take-append-le (suc (length r - 11)) (frameOf r) (o ∷ []) (omega arith)
-      ∙ take-suc (frameOf r) (length r - 11) 0 (omega arith)
-      ∙ ap (λ (n : ℕ). take n (frameOf r) ++ (getD (frameOf r) (length r - 11) 0 ∷ [])) (sym y)
+      ap (λ (n : ℕ). take n (frameOf r′)) x ∙ ap (take (suc (length r - (preambleSize + fcsSize)))) z
+      ∙ take-append-le (suc (length r - (preambleSize + fcsSize))) (frameOf r) (o ∷ []) (omega arith)
+      ∙ take-suc (frameOf r) (length r - (preambleSize + fcsSize)) 0 (omega arith)
+      ∙ ap (λ (n : ℕ). take n (frameOf r) ++ (getD (frameOf r) (length r - (preambleSize + fcsSize)) 0 ∷ [])) (sym y)
 
   -- the register over what a run's FCS covers
   abbrev sum : List ℕ → ℕ
   sum l = crcOver 0xFFFF_FFFF (covered (frameOf l))
 
-  more-sum : cond (leb 11 (length r)) (crcOctet (sum r) (getD (drop (length r) (zeros ++ r)) 0 0)) (sum r) ≡ sum r′
+  more-sum : cond (leb (preambleSize + fcsSize) (length r)) (crcOctet (sum r) (getD (drop (length r) (zeros ++ r)) 0 0)) (sum r) ≡ sum r′
   more-sum =
-      by-test (leb 11 (length r))
-      (λ t. let h = leb-true 11 (length r) t in
+      by-test (leb (preambleSize + fcsSize) (length r))
+      (λ t. let h = leb-true (preambleSize + fcsSize) (length r) t in
       rw (t, leaves h)
-      (sym (ap (crcOver 0xFFFF_FFFF) (covered-more h) ∙ over-append 0xFFFF_FFFF (covered (frameOf r)) (getD (frameOf r) (length r - 11) 0 ∷ []))))
-      (λ t. let h = leb-false 11 (length r) t in rw t (sym (ap (crcOver 0xFFFF_FFFF) (covered-early (omega arith)))))
+      (sym (ap (crcOver 0xFFFF_FFFF) (covered-more h)
+      ∙ over-append 0xFFFF_FFFF (covered (frameOf r)) (getD (frameOf r) (length r - (preambleSize + fcsSize)) 0 ∷ []))))
+      (λ t. let h = leb-false (preambleSize + fcsSize) (length r) t in rw t (sym (ap (crcOver 0xFFFF_FFFF) (covered-early (omega arith)))))
 
 length-kept : (b : Bool) (l : List ℕ) (k o : ℕ) → length (cond b (set l k o) l) ≡ length l
 length-kept true l k o = length-set l k o

@@ -10,6 +10,7 @@ use mathlib.Core.List.{List, [], _∷_, _++_, append-assoc, append-nil}
 use mathlib.Core.Option.{Option}
 use lib.ListN.{length, length-append}
 use lib.Dec.{eqb}
+use Rattle.line.specs.Limits.{mostSymbols}
 use Rattle.line.specs.Line.{Symbol, capture, isData, isControl, isStart, start, run, ending, ended, endedBy, afterStart, metStarts}
 use Rattle.line.specs.Table.{first}
 use Rattle.line.proofs.Symbols.{by-test, data-not-start, met-start, met-other, run-data, run-control, ending-data, ending-control}
@@ -114,20 +115,20 @@ module _ (s : Settings) (job : ℕ) (es : List Entry) where
 
   module _ (valid : badSettings s ≡ false) (known : badJob job ≡ false) (sound : badTable es ≡ false) where
     -- a symbol that is not refused
-    steps : (p : Plain) (x : Symbol) → p .place < 65536 → step s job es p x ≡ stepChecked Fine s own p x
+    steps : (p : Plain) (x : Symbol) → p .place < mostSymbols → step s job es p x ≡ stepChecked Fine s own p x
     unfolding step
     steps p x h = ap (λ (k : Checked). stepChecked k s own p x) (symbol-fine s job es (p .place) valid known sound h)
 
-    step-data : (p : Plain) (x : Symbol) → p .place < 65536 → isData x ≡ true → step s job es p x ≡ afterData p (x .octet)
+    step-data : (p : Plain) (x : Symbol) → p .place < mostSymbols → isData x ≡ true → step s job es p x ≡ afterData p (x .octet)
     unfolding stepChecked
     step-data p x h d = steps p x h ∙ rw d
 
-    step-control : (p : Plain) (x : Symbol) → p .place < 65536 → isData x ≡ false → step s job es p x ≡ afterControl s own p (x .octet)
+    step-control : (p : Plain) (x : Symbol) → p .place < mostSymbols → isData x ≡ false → step s job es p x ≡ afterControl s own p (x .octet)
     unfolding stepChecked
     step-control p x h d = steps p x h ∙ rw d
 
     -- n symbols in all
-    module _ (n : ℕ) (few : n ≤ 65536) where
+    module _ (n : ℕ) (few : n ≤ mostSymbols) where
       -- what holds of the symbols that are left, outside a run and in one
       record Both (xs : List Symbol) : Type 0 where
         out : (at : ℕ) (q : Run) (st : State) → at + length xs ≡ n → length (st .timers) ≡ 8

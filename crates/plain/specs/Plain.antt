@@ -6,6 +6,7 @@ use mathlib.Core.List.{List, [], _∷_, _++_}
 use mathlib.Core.Option.{Option}
 use lib.ListN.{getD, drop, set}
 use lib.Dec.{eqb, ltb, leb}
+use Rattle.line.specs.Limits.{preambleSize, fcsSize}
 use Rattle.line.specs.Line.{Symbol, isData, start}
 use Rattle.line.specs.Table.{first}
 use Rattle.crc.specs.Crc.{crcOctet}
@@ -39,7 +40,7 @@ grown r o =
       count = (r .count + 1) % 2 ^ 16;
       first = cond (ltb (r .count) 53) (set (r .first) (r .count) o) (r .first);
       last = drop 1 (r .last) ++ (o ∷ []);
-      register = cond (leb 11 (r .count)) (crcOctet (r .register) (getD (r .last) 0 0)) (r .register);
+      register = cond (leb (preambleSize + fcsSize) (r .count)) (crcOctet (r .register) (getD (r .last) 0 0)) (r .register);
     }
 
 -- ---- "takes one symbol at a time … and answers at each ending control symbol"

@@ -2,6 +2,8 @@
 // the last four and a running FCS, and it answers at the control symbol that ends the run. Meaning: specs/.
 use kept::Run;
 use kept::Told;
+use line::FCS_SIZE;
+use line::PREAMBLE_SIZE;
 use station::Checked;
 use station::Settings;
 use station::State;
@@ -49,7 +51,7 @@ fn grown(mut r: Run, o: u8) -> Run
     if at < 53 {
         r.first[at] = o;
     }
-    if 11 <= at {
+    if PREAMBLE_SIZE + FCS_SIZE <= at {
         let leaves = [last[0]; 1];
         r.register = fcs::update(r.register, &leaves);
     }

@@ -11,6 +11,7 @@ use lib.Dec.{eqb, ltb}
 use borrow.Author.Tests.{eqb-true, eqb-false, eq-eqb, ltb-true, ltb-false, not-true}
 use Rattle.line.specs.declared.Found.{Found}
 use Rattle.line.specs.declared.Found.the-variants.{At}
+use Rattle.line.specs.Limits.{preambleSize, leadSize, leastFrame, tagSize, fcsSize}
 use Rattle.line.specs.Line.{Symbol, capture, findStart, preamble, isData, run, ending, AfterStart, unended, ended, endedBy, afterStart}
 use Rattle.line.specs.Octets.{sameOctets}
 use Rattle.line.specs.Table.{Table, otherwise, _∣_, first}
@@ -50,9 +51,9 @@ use Rattle.reason.proofs.Laws.{preamble-short, preamble-long}
 
 preamble-number : (at : ℕ) (run : List ℕ) → reasonNumber (preambleReason at run) ≡ 2
 preamble-number at run =
-    by-test (ltb (length run) 7)
-    (λ t. ap reasonNumber (preamble-short at run (ltb-true (length run) 7 t)))
-    (λ t. ap reasonNumber (preamble-long at run (ltb-false (length run) 7 t)))
+    by-test (ltb (length run) preambleSize)
+    (λ t. ap reasonNumber (preamble-short at run (ltb-true (length run) preambleSize t)))
+    (λ t. ap reasonNumber (preamble-long at run (ltb-false (length run) preambleSize t)))
 
 pub reason-for-each : (s : Settings) (i : ℕ) (run : List ℕ) (by : ℕ) (o : Outcome) → reasonNumber (reasonFor s i run by o) ≡ outcomeNumber o
 unfolding reasonFor longReason fcsReason lengthReason handedReason
@@ -92,7 +93,7 @@ first-wrong (x ∷ xs) (y ∷ ys) h d =
     below k e f zero l = e
     below k e f (suc j) l = f j (omega arith)
 
-preamble-seven : length preamble ≡ 7
+preamble-seven : length preamble ≡ preambleSize
 unfolding preamble
 preamble-seven = refl
 
@@ -154,23 +155,23 @@ module _ (s : Settings) (own : List (Option Address)) (i : ℕ) (run : List ℕ)
   unfolding Fact reasonFor
   cut-fact h = (refl, refl, λ q. false≢true (sym (not-cut by q) ∙ h))
 
-  short-fact : length run < 7 → Fact s own i run by (ShortRun (length run))
+  short-fact : length run < preambleSize → Fact s own i run by (ShortRun (length run))
   unfolding Fact
   short-fact l = (refl, l)
 
   preamble-fact : badPreamble run ≡ true → Fact s own i run by (preambleReason (i + 1) run)
   preamble-fact h =
-      by-test (ltb (length run) 7)
-      (λ t. let l = ltb-true (length run) 7 t in rw (preamble-short (i + 1) run l) (short-fact l))
-      (λ t. let l = ltb-false (length run) 7 t in
+      by-test (ltb (length run) preambleSize)
+      (λ t. let l = ltb-true (length run) preambleSize t in rw (preamble-short (i + 1) run l) (short-fact l))
+      (λ t. let l = ltb-false (length run) preambleSize t in
       let w : Wrong run preamble (rightOnes run preamble) = first-wrong run preamble (let q = preamble-seven in omega arith) (wrong-seven t) in
       let e : i + 1 + rightOnes run preamble - (i + 1) ≡ rightOnes run preamble = omega arith in
       rw (preamble-long (i + 1) run l) (at-place l e w))
     where
-      wrong-seven : ltb (length run) 7 ≡ false → sameOctets (take (length preamble) run) preamble ≡ false
+      wrong-seven : ltb (length run) preambleSize ≡ false → sameOctets (take (length preamble) run) preamble ≡ false
       wrong-seven t = unfold preamble badPreamble in (not-true _ (rw t at h))
 
-      at-place : 7 ≤ length run → i + 1 + rightOnes run preamble - (i + 1) ≡ rightOnes run preamble → Wrong run preamble (rightOnes run preamble)
+      at-place : preambleSize ≤ length run → i + 1 + rightOnes run preamble - (i + 1) ≡ rightOnes run preamble → Wrong run preamble (rightOnes run preamble)
           → Fact s own i run by (WrongOctet (i + 1 + rightOnes run preamble))
       at-place l e w =
           unfold Fact Wrong preamble in
@@ -178,17 +179,17 @@ module _ (s : Settings) (own : List (Option Address)) (i : ℕ) (run : List ℕ)
 
   size-fact : undersized f ≡ true → Fact s own i run by (reasonFor s i run by Undersized)
   unfolding Fact reasonFor undersized
-  size-fact h = (refl, refl, ltb-true (length f) 64 h)
+  size-fact h = (refl, refl, ltb-true (length f) leastFrame h)
 
   limit-fact : oversized (s .limit) f ≡ true → Fact s own i run by (reasonFor s i run by Oversized)
   unfolding Fact reasonFor longReason oversized overLimit
-  limit-fact h = (refl, refl, ltb-true (s .limit + 4 * tagCount f) (length f) h)
+  limit-fact h = (refl, refl, ltb-true (s .limit + tagSize * tagCount f) (length f) h)
 
-  long : undersized f ≡ false → 64 ≤ length f
+  long : undersized f ≡ false → leastFrame ≤ length f
   unfolding undersized
-  long h = ltb-false (length f) 64 h
+  long h = ltb-false (length f) leastFrame h
 
-  values-differ : Octets f → 4 ≤ length f → wrongFcs f ≡ true → received f ≡ fcsOf (covered f) → ⊥
+  values-differ : Octets f → fcsSize ≤ length f → wrongFcs f ≡ true → received f ≡ fcsOf (covered f) → ⊥
   unfolding received
   values-differ o h w e =
       let n = fcsOf (covered f) in
@@ -200,7 +201,7 @@ module _ (s : Settings) (own : List (Option Address)) (i : ℕ) (run : List ℕ)
   fcs-fact o u h = (refl, refl, values-differ (octets-of o) (let l = long u in omega arith) h)
     where
       octets-of : Octets run → Octets f
-      octets-of w k = unfold frameOf in rw (getD-drop 7 run k 0) (w (7 + k))
+      octets-of w k = unfold frameOf in rw (getD-drop preambleSize run k 0) (w (preambleSize + k))
 
   length-fact : wrongLength (s .checking) f ≡ true → Fact s own i run by (reasonFor s i run by WrongLength)
   unfolding Fact reasonFor lengthReason wrongLength breaksLength layoutOf frameData
@@ -284,11 +285,11 @@ module _ (s : Settings) (own : List (Option Address)) (i : ℕ) (run : List ℕ)
 
 preamble-part : (at : ℕ) (run : List ℕ) → partIn (preambleReason at run) ≡ emptyPart
 preamble-part at run =
-    by-test (ltb (length run) 7)
-    (λ t. ap partIn (preamble-short at run (ltb-true (length run) 7 t)))
-    (λ t. ap partIn (preamble-long at run (ltb-false (length run) 7 t)))
+    by-test (ltb (length run) preambleSize)
+    (λ t. ap partIn (preamble-short at run (ltb-true (length run) preambleSize t)))
+    (λ t. ap partIn (preamble-long at run (ltb-false (length run) preambleSize t)))
 
-part-for-each : (s : Settings) (i : ℕ) (run : List ℕ) (by : ℕ) (o : Outcome) → partIn (reasonFor s i run by o) ≡ handedPart s o (i + 8) (frameOf run)
+part-for-each : (s : Settings) (i : ℕ) (run : List ℕ) (by : ℕ) (o : Outcome) → partIn (reasonFor s i run by o) ≡ handedPart s o (i + leadSize) (frameOf run)
 unfolding reasonFor longReason fcsReason lengthReason handedReason handedPart
 part-for-each s i run by Cut = refl
 part-for-each s i run by BadPreamble = preamble-part (i + 1) run

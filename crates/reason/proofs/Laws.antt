@@ -10,6 +10,7 @@ use lib.Seq.{drop-cons}
 use borrow.Author.Tests.{eq-eqb, ne-eqb, lt-ltb, le-ltb}
 use Rattle.line.specs.declared.Found.{Found}
 use Rattle.line.specs.declared.Found.the-variants.{At}
+use Rattle.line.specs.Limits.{preambleSize}
 use Rattle.line.specs.Line.{capture, findStart, findControl, preamble}
 use Rattle.line.specs.Octets.{between}
 use Rattle.line.specs.Octets.{lowFirst}
@@ -61,13 +62,13 @@ unfolding rightFrom
 right-end xs ys k h =
     ap (λ (l : List ℕ). k + rightOnes (drop k xs) l) (drop-of-length-le ys {i = k} h) ∙ ap (λ (n : ℕ). k + n) (ones-none (drop k xs)) ∙ omega arith
 
-pub preamble-short : (at : ℕ) (run : List ℕ) → length run < 7 → preambleReason at run ≡ ShortRun (length run)
+pub preamble-short : (at : ℕ) (run : List ℕ) → length run < preambleSize → preambleReason at run ≡ ShortRun (length run)
 unfolding preambleReason
-preamble-short at run h = rw (lt-ltb (length run) 7 h, preambleReason)
+preamble-short at run h = rw (lt-ltb (length run) preambleSize h, preambleReason)
 
-pub preamble-long : (at : ℕ) (run : List ℕ) → 7 ≤ length run → preambleReason at run ≡ WrongOctet (at + rightOnes run preamble)
+pub preamble-long : (at : ℕ) (run : List ℕ) → preambleSize ≤ length run → preambleReason at run ≡ WrongOctet (at + rightOnes run preamble)
 unfolding preambleReason
-preamble-long at run h = rw (le-ltb (length run) 7 h, preambleReason)
+preamble-long at run h = rw (le-ltb (length run) preambleSize h, preambleReason)
 
 -- ---- four octets, low octet first
 

@@ -5,6 +5,7 @@ use mathlib.Core.Bool.{Bool, true, false}
 use mathlib.Core.List.{List, [], _∷_}
 use mathlib.Core.Option.{Option}
 use lib.ListN.{length, getD, take, drop, replicate}
+use Rattle.line.specs.Limits.{preambleSize, leadSize, leastFrame, tagSize}
 use Rattle.line.specs.Line.{capture, terminate, preamble, ended, afterStart}
 use Rattle.line.specs.Table.{Table, otherwise, _∣_}
 use Rattle.fcs.specs.Fcs.{fcsOf}
@@ -37,17 +38,17 @@ octetsIn d = d .0 ∷ d .1 ∷ d .2 ∷ d .3 ∷ d .4 ∷ d .5 ∷ []
 
 -- "the first wrong place": k is the first at which a run is not as the preamble
 pub record FirstWrong (run : List ℕ) (k : ℕ) : Type 0 where
-  pub inside : k < 7
+  pub inside : k < preambleSize
   pub wrong : getD run k 0 ≡ getD preamble k 0 → ⊥
   pub before : (j : ℕ) → j < k → getD run j 0 ≡ getD preamble j 0
 
 -- what a reason says of a Start at place i, whose run is ended by the control octet `by`: the evidence is that of the run, and it meets the rule
 unfoldable pub Fact : Settings → List (Option Address) → ℕ → List ℕ → ℕ → Reason → Type 0
 Fact s own i run by (CutAt p o) = (p ≡ i + 1 + length run) × (o ≡ by) × (o ≡ terminate → ⊥)
-Fact s own i run by (ShortRun n) = (n ≡ length run) × (n < 7)
-Fact s own i run by (WrongOctet p) = (7 ≤ length run) × (i + 1 ≤ p) × FirstWrong run (p - (i + 1))
-Fact s own i run by (TooShort n m) = (n ≡ length (frameOf run)) × (m ≡ 64) × (n < m)
-Fact s own i run by (TooLong n m) = (n ≡ length (frameOf run)) × (m ≡ s .limit + 4 * tagCount (frameOf run)) × (m < n)
+Fact s own i run by (ShortRun n) = (n ≡ length run) × (n < preambleSize)
+Fact s own i run by (WrongOctet p) = (preambleSize ≤ length run) × (i + 1 ≤ p) × FirstWrong run (p - (i + 1))
+Fact s own i run by (TooShort n m) = (n ≡ length (frameOf run)) × (m ≡ leastFrame) × (n < m)
+Fact s own i run by (TooLong n m) = (n ≡ length (frameOf run)) × (m ≡ s .limit + tagSize * tagCount (frameOf run)) × (m < n)
 Fact s own i run by (FcsDiffers a b) = (a ≡ received (frameOf run)) × (b ≡ fcsOf (covered (frameOf run))) × (a ≡ b → ⊥)
 Fact s own i run by (LengthBroken n m) =
     (n ≡ field (frameOf run)) × (m ≡ length (frameData (frameOf run))) × (s .checking ≡ true) × (kept (tagCount (frameOf run)) n m ≡ false)
@@ -55,7 +56,7 @@ Fact s own i run by (NotForUs d) = (octetsIn d ≡ destination (frameOf run)) ×
 Fact s own i run by (TookPause n) = (n ≡ opcode (frameOf run)) × (takesPause s (frameOf run) ≡ true)
 Fact s own i run by (TookPfc n) = (n ≡ opcode (frameOf run)) × (takesPfc s (frameOf run) ≡ true)
 Fact s own i run by (DroppedControl n) = (n ≡ opcode (frameOf run)) × (dropsControl s (frameOf run) ≡ true)
-Fact s own i run by (Handed p n) = (p ≡ i + 8 + dataPlace (frameOf run)) × (n ≡ handedLength (s .checking) (frameOf run))
+Fact s own i run by (Handed p n) = (p ≡ i + leadSize + dataPlace (frameOf run)) × (n ≡ handedLength (s .checking) (frameOf run))
 
 -- ---- "and no earlier rule held"
 

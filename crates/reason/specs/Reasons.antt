@@ -7,6 +7,7 @@ use lib.ListN.{length, getD, drop}
 use lib.Dec.{eqb, ltb}
 use Rattle.line.specs.declared.Found.{Found}
 use Rattle.line.specs.declared.Found.the-variants.{At}
+use Rattle.line.specs.Limits.{preambleSize, leadSize, leastFrame, tagSize, fcsSize}
 use Rattle.line.specs.Line.{Symbol, capture, findStart, AfterStart, unended, ended, afterStart, preamble}
 use Rattle.line.specs.Octets.{lowFirst}
 use Rattle.line.specs.Table.{first}
@@ -43,15 +44,15 @@ rightOnes (x ∷ xs) (y ∷ ys) = elim (eqb x y) [ true ↦ 1 + rightOnes xs ys 
 
 -- "for bad preamble, the run's length if under 7, else the first wrong place": of a run whose first octet stands at place `at`
 unfoldable pub preambleReason : ℕ → List ℕ → Reason
-preambleReason at run = elim (ltb (length run) 7) [ true ↦ ShortRun (length run) | false ↦ WrongOctet (at + rightOnes run preamble) ]
+preambleReason at run = elim (ltb (length run) preambleSize) [ true ↦ ShortRun (length run) | false ↦ WrongOctet (at + rightOnes run preamble) ]
 
 -- the FCS that stands in a frame: its last four octets as a number, "low octet first"
 unfoldable pub received : List ℕ → ℕ
-received f = lowFirst f (length f - 4) 4
+received f = lowFirst f (length f - fcsSize) fcsSize
 
 -- "for sizes, length and limit": oversized
 unfoldable pub longReason : ℕ → List ℕ → Reason
-longReason m f = TooLong (length f) (m + 4 * tagCount f)
+longReason m f = TooLong (length f) (m + tagSize * tagCount f)
 
 -- "for FCS, both values": the one that stands there, and the one computed
 unfoldable pub fcsReason : List ℕ → Reason
@@ -74,7 +75,7 @@ sixOf f = record { 0 = getD f 0 0; 1 = getD f 1 0; 2 = getD f 2 0; 3 = getD f 3 
 unfoldable pub reasonFor : Settings → ℕ → List ℕ → ℕ → Outcome → Reason
 reasonFor s i run by Cut = CutAt (i + 1 + length run) by
 reasonFor s i run by BadPreamble = preambleReason (i + 1) run
-reasonFor s i run by Undersized = TooShort (length (frameOf run)) 64
+reasonFor s i run by Undersized = TooShort (length (frameOf run)) leastFrame
 reasonFor s i run by Oversized = longReason (s .limit) (frameOf run)
 reasonFor s i run by WrongFcs = fcsReason (frameOf run)
 reasonFor s i run by WrongLength = lengthReason (frameOf run)
@@ -82,7 +83,7 @@ reasonFor s i run by Filtered = NotForUs (sixOf (frameOf run))
 reasonFor s i run by PauseTaken = TookPause (opcode (frameOf run))
 reasonFor s i run by PfcTaken = TookPfc (opcode (frameOf run))
 reasonFor s i run by ControlDropped = DroppedControl (opcode (frameOf run))
-reasonFor s i run by HandedOut = handedReason (s .checking) (i + 8) (frameOf run)
+reasonFor s i run by HandedOut = handedReason (s .checking) (i + leadSize) (frameOf run)
 
 -- "a tool names the outcome's reason"
 unfoldable pub reasonOf : Settings → List (Option Address) → ℕ → List ℕ → ℕ → Reason

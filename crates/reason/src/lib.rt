@@ -1,5 +1,9 @@
 // Why a Start has its outcome (document 02, item 8), in a reading of a job (item 10). Meaning: specs/.
 use line::Found;
+use line::LEAD_SIZE;
+use line::LEAST_FRAME;
+use line::PREAMBLE_SIZE;
+use line::TAG_SIZE;
 use outcome::Judged;
 use station::Checked;
 use station::Outcome;
@@ -8,6 +12,7 @@ use station::Settings;
 ghost use mathlib.Core.Path.{_≡_};
 ghost use Prim.Native.Nat.{_≤_, _<_};
 ghost use lib.ListN.{length};
+ghost use Rattle.line.specs.Limits.{mostSymbols, preambleSize, fcsSize};
 ghost use Rattle.line.specs.Line.{preamble};
 ghost use Rattle.line.specs.Octets.{lowFirst};
 ghost use Rattle.fcs.specs.Fcs.{fcsOf};
@@ -65,12 +70,12 @@ pub struct Explained {
 
 // How many octets of a run stand right before the first that is not as in the preamble.
 fn right_ones(run: &[u8]) -> usize
-    requires { ⌜ 7 ≤ length (now run) ⌝ }
-    ensures { λ r. ⌜ (r ≡ rightOnes (now (run .entry)) preamble) × (r ≤ 7) ⌝ }
+    requires { ⌜ preambleSize ≤ length (now run) ⌝ }
+    ensures { λ r. ⌜ (r ≡ rightOnes (now (run .entry)) preamble) × (r ≤ preambleSize) ⌝ }
 {
     let right = [0x55u8, 0x55, 0x55, 0x55, 0x55, 0x55, 0xD5];
     let mut k: usize = 0;
-    while k < 7 {
+    while k < PREAMBLE_SIZE {
         if run[k] != right[k] {
             return k;
         }
@@ -84,7 +89,7 @@ fn of_preamble(at: usize, run: &[u8]) -> Reason
     requires { ⌜ at ≤ 131072 ⌝ }
     ensures { λ r. ⌜ r ≡ preambleReason at (now (run .entry)) ⌝ }
 {
-    if run.len() < 7 {
+    if run.len() < PREAMBLE_SIZE {
         return Reason::ShortRun(run.len());
     }
     Reason::WrongOctet(at + right_ones(run))
@@ -95,7 +100,7 @@ fn of_long(limit: u16, f: &[u8]) -> Reason
     ensures { λ r. ⌜ r ≡ longReason limit (now (f .entry)) ⌝ }
 {
     let tags = fields::tag_count(f);
-    Reason::TooLong(f.len(), (limit as usize) + 4 * (tags as usize))
+    Reason::TooLong(f.len(), (limit as usize) + TAG_SIZE * (tags as usize))
 }
 
 // An octet as a number of 32 bits.
@@ -108,7 +113,7 @@ fn wide32(x: u8) -> u32
 // The four octets from `e` on as a number, low octet first; beyond the end they count as 0.
 fn four_octets(f: &[u8], e: usize) -> u32
     requires { ⌜ e ≤ length (now f) ⌝ }
-    ensures { λ r. ⌜ r ≡ lowFirst (now (f .entry)) e 4 ⌝ }
+    ensures { λ r. ⌜ r ≡ lowFirst (now (f .entry)) e fcsSize ⌝ }
 {
     let a = wide32(fields::octet(f, e));
     let b = wide32(fields::octet(f, e + 1));
@@ -162,7 +167,7 @@ fn of_handed(checking: bool, at: usize, f: &[u8]) -> Reason
 
 // The reason of a Start at place `start`, whose run, ended by the control octet `by`, was judged so.
 fn reason_of(s: Settings, start: usize, run: &[u8], by: u8, j: Judged) -> Reason
-    requires { ⌜ (start ≤ 65536) × (length (now run) ≤ 65536) × (j .check ≡ checkMade (j .outcome) (frameOf (now run))) ⌝ }
+    requires { ⌜ (start ≤ mostSymbols) × (length (now run) ≤ mostSymbols) × (j .check ≡ checkMade (j .outcome) (frameOf (now run))) ⌝ }
     ensures { λ r. ⌜ r ≡ reasonFor s start (now (run .entry)) by (j .outcome) ⌝ }
 {
     let o = j.outcome;
@@ -170,7 +175,7 @@ fn reason_of(s: Settings, start: usize, run: &[u8], by: u8, j: Judged) -> Reason
     match o {
         Outcome::Cut => Reason::CutAt(start + 1 + run.len(), by),
         Outcome::BadPreamble => of_preamble(start + 1, run),
-        Outcome::Undersized => Reason::TooShort(f.len(), 64),
+        Outcome::Undersized => Reason::TooShort(f.len(), LEAST_FRAME),
         Outcome::Oversized => of_long(s.limit, f),
         Outcome::WrongFcs => of_fcs(f, j.check),
         Outcome::WrongLength => of_length(f),
@@ -178,7 +183,7 @@ fn reason_of(s: Settings, start: usize, run: &[u8], by: u8, j: Judged) -> Reason
         Outcome::PauseTaken => Reason::TookPause(control::opcode(f)),
         Outcome::PfcTaken => Reason::TookPfc(control::opcode(f)),
         Outcome::ControlDropped => Reason::DroppedControl(control::opcode(f)),
-        Outcome::HandedOut => of_handed(s.checking, start + 8, f),
+        Outcome::HandedOut => of_handed(s.checking, start + LEAD_SIZE, f),
     }
 }
 

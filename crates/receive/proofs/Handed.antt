@@ -9,6 +9,7 @@ use lib.ListN.{length, take, drop, length-take, length-drop, take-append-drop, d
 use lib.Seq.{take-append-seam, drop-drop, take-nil}
 use lib.Dec.{ltb, leb}
 use borrow.Author.Tests.{leb-true, leb-false, le-leb, lt-leb}
+use Rattle.line.specs.Limits.{preambleSize, leadSize, fcsSize, leastData}
 use Rattle.line.specs.Line.{Symbol, capture, isData, run}
 use Rattle.line.specs.Octets.{between}
 use Rattle.line.proofs.Symbols.{by-test, run-data, run-control}
@@ -55,7 +56,7 @@ run-front (o ∷ os) (m ∷ ms) =
 
 client-front : (ck : Bool) (f : List ℕ) → Front (clientData ck f) (frameData f)
 unfolding clientData handedOf
-client-front ck f = go (ck && ltb (field f) 46)
+client-front ck f = go (ck && ltb (field f) leastData)
   where
     go : (b : Bool) → Front (cond b (take (field f) (frameData f)) (frameData f)) (frameData f)
     go true = front-take (field f) (frameData f)
@@ -63,23 +64,24 @@ client-front ck f = go (ck && ltb (field f) 46)
 
 payload-front : (f : List ℕ) → Front (frameData f) (drop (dataPlace f) f)
 unfolding frameData dataFrom between
-payload-front f = front-take (length f - 4 - dataPlace f) (drop (dataPlace f) f)
+payload-front f = front-take (length f - fcsSize - dataPlace f) (drop (dataPlace f) f)
 
 -- a Start at place i of the capture, `f` the frame of its run
 handed-is-client-data : (ck : Bool) (os ms : List ℕ) (i : ℕ)
-    → let f : List ℕ = frameOf (run (drop (i + 1) (capture os ms))) in take (handedLength ck f) (drop (i + 8 + dataPlace f) os) ≡ clientData ck f
+    → let f : List ℕ = frameOf (run (drop (i + 1) (capture os ms))) in take (handedLength ck f) (drop (i + leadSize + dataPlace f) os) ≡ clientData ck f
 unfolding frameOf handedLength
 handed-is-client-data ck os ms i =
     let r : List ℕ = run (drop (i + 1) (capture os ms)) in
-    let f : List ℕ = drop 7 r in
+    let f : List ℕ = drop preambleSize r in
     let a : ℕ = dataPlace f in
     let fr : Front r (drop (i + 1) os) = subst (λ (l : List Symbol). Front (run l) (drop (i + 1) os)) (sym (drop-capture (i + 1) os ms)) (run-front (drop (i + 1) os) (drop (i + 1) ms)) in
-    let all : Front (clientData ck f) (drop a (drop 7 (drop (i + 1) os))) =
-    front-trans (clientData ck f) (frameData f) (drop a (drop 7 (drop (i + 1) os))) (client-front ck f)
-    (front-trans (frameData f) (drop a f) (drop a (drop 7 (drop (i + 1) os))) (payload-front f) (front-drop a f (drop 7 (drop (i + 1) os)) (front-drop 7 r (drop (i + 1) os) fr))) in
-    let eight : i + 1 + 7 + a ≡ i + 8 + a = omega arith in
-    let place : drop a (drop 7 (drop (i + 1) os)) ≡ drop (i + 8 + a) os =
-    ap (drop a) (drop-drop 7 (i + 1) os) ∙ drop-drop a (i + 1 + 7) os ∙ ap (λ (n : ℕ). drop n os) eight in
+    let all : Front (clientData ck f) (drop a (drop preambleSize (drop (i + 1) os))) =
+    front-trans (clientData ck f) (frameData f) (drop a (drop preambleSize (drop (i + 1) os))) (client-front ck f)
+    (front-trans (frameData f) (drop a f) (drop a (drop preambleSize (drop (i + 1) os))) (payload-front f)
+    (front-drop a f (drop preambleSize (drop (i + 1) os)) (front-drop preambleSize r (drop (i + 1) os) fr))) in
+    let eight : i + 1 + preambleSize + a ≡ i + leadSize + a = omega arith in
+    let place : drop a (drop preambleSize (drop (i + 1) os)) ≡ drop (i + leadSize + a) os =
+    ap (drop a) (drop-drop preambleSize (i + 1) os) ∙ drop-drop a (i + 1 + preambleSize) os ∙ ap (λ (n : ℕ). drop n os) eight in
     ap (take (length (clientData ck f))) (sym place ∙ all .1) ∙ take-append-seam (clientData ck f) (all .0)
 
 -- a part that is no longer than what stands from its place on
@@ -100,11 +102,12 @@ unfolding partOf
 part-long os p h g = rw (le-leb (p .at) (length os) h, lt-leb (p .len) (length os - p .at) g)
 
 pub handed-part : (ck : Bool) (os ms : List ℕ) (i : ℕ)
-    → let f : List ℕ = frameOf (run (drop (i + 1) (capture os ms))) in partOf os (record { at = i + 8 + dataPlace f; len = handedLength ck f }) ≡ clientData ck f
+    → let f : List ℕ = frameOf (run (drop (i + 1) (capture os ms))) in
+    partOf os (record { at = i + leadSize + dataPlace f; len = handedLength ck f }) ≡ clientData ck f
 unfolding handedLength
 handed-part ck os ms i =
     let f : List ℕ = frameOf (run (drop (i + 1) (capture os ms))) in
-    let at : ℕ = i + 8 + dataPlace f in
+    let at : ℕ = i + leadSize + dataPlace f in
     let n : ℕ = length (clientData ck f) in
     let e : take n (drop at os) ≡ clientData ck f = handed-is-client-data ck os ms i in
     let fits : min n (length (drop at os)) ≡ n = sym (length-take n (drop at os)) ∙ ap length e in

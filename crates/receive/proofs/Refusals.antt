@@ -6,6 +6,7 @@ use mathlib.Core.List.{List}
 use lib.ListN.{length}
 use lib.Dec.{eqb, ltb}
 use borrow.Author.Tests.{eqb-true, eq-eqb, ltb-false, le-ltb}
+use Rattle.line.specs.Limits.{mostSymbols, leastLimit, mostLimit}
 use Rattle.line.specs.Table.{first}
 use Rattle.line.proofs.Tables.{first-next, first-other}
 use Rattle.station.proofs.Refusals.{fine-row, or-false, not-false}
@@ -21,14 +22,14 @@ use Rattle.receive.specs.Reading.{readRefusals}
 pub own-single : (s : Settings) → badSettings s ≡ false → isGroup (s .own .0) ≡ false
 unfolding badSettings
 own-single s h =
-    let high = or-false (isGroup (s .own .0) || ltb (s .limit) 1518) (ltb 9618 (s .limit)) h in
-    or-false (isGroup (s .own .0)) (ltb (s .limit) 1518) (high .0) .0
+    let high = or-false (isGroup (s .own .0) || ltb (s .limit) leastLimit) (ltb mostLimit (s .limit)) h in
+    or-false (isGroup (s .own .0)) (ltb (s .limit) leastLimit) (high .0) .0
 
 pub record Passed (s : Settings) (job : ℕ) (es : List Entry) (os ms : List ℕ) (p : ℕ) : Type 0 where
   pub valid : badSettings s ≡ false
   pub known : badJob job ≡ false
   pub even : length os ≡ length ms
-  pub small : length os ≤ 65536
+  pub small : length os ≤ mostSymbols
   pub inside : p ≤ length os
   pub sound : badTable es ≡ false
 
@@ -41,24 +42,24 @@ module _ (s : Settings) (job : ℕ) (es : List Entry) (os ms : List ℕ) where
       let b = fine-row BadBuffers _ (j .1) in
       let d = fine-row BadPlace _ (b .1) in
       let t = fine-row BadTable _ (d .1) in
-      let e = or-false (not (eqb (length os) (length ms))) (ltb 65536 (length os)) (b .0) in
+      let e = or-false (not (eqb (length os) (length ms))) (ltb mostSymbols (length os)) (b .0) in
       record {
         valid = a .0;
         known = j .0;
         even = eqb-true (length os) (length ms) (not-false (eqb (length os) (length ms)) (e .0));
-        small = ltb-false 65536 (length os) (e .1);
+        small = ltb-false mostSymbols (length os) (e .1);
         inside = ltb-false (length os) p (d .0);
         sound = t .0;
       }
 
   -- what it takes not to be refused
-  pub fine : (p : ℕ) → badSettings s ≡ false → badJob job ≡ false → length os ≡ length ms → length os ≤ 65536 → p ≤ length os → badTable es ≡ false
+  pub fine : (p : ℕ) → badSettings s ≡ false → badJob job ≡ false → length os ≡ length ms → length os ≤ mostSymbols → p ≤ length os → badTable es ≡ false
       → first (readRefusals s job es os ms p) ≡ Fine
   unfolding readRefusals badBuffers badPlace
   fine p valid known even small inside sound =
       first-next (Refused BadSettings) _ valid
       ∙ first-next (Refused BadJob) _ known
-      ∙ first-next (Refused BadBuffers) _ (simp (eq-eqb (length os) (length ms) even, le-ltb 65536 (length os) small))
+      ∙ first-next (Refused BadBuffers) _ (simp (eq-eqb (length os) (length ms) even, le-ltb mostSymbols (length os) small))
       ∙ first-next (Refused BadPlace) _ (le-ltb (length os) p inside)
       ∙ first-next (Refused BadTable) _ sound
       ∙ first-other Fine

@@ -6,6 +6,7 @@ use mathlib.Core.Option.{Option}
 use lib.ListN.{length}
 use denote.Enum.Declared.{tagOf}
 use types.Run.{OneOf, miss}
+use Rattle.line.specs.Limits.{leadSize}
 use Rattle.line.specs.Octets.{between}
 use Rattle.station.specs.declared.Address.{Address}
 use Rattle.station.specs.declared.Settings.{Settings}
@@ -32,7 +33,7 @@ pub sight-read : (s : Settings) (own : List (Option Address)) (os : List ℕ) (i
 unfolding sightOf readOf afterSight readRun
 sight-read s own os i run o way st h w =
     ap₂ (λ (r : List ℕ) (v : ℕ). record {
-      answer = Counted o (status s o (frameOf run)) (handedPart s o (i + 8) (frameOf run)) v;
+      answer = Counted o (status s o (frameOf run)) (handedPart s o (i + leadSize) (frameOf run)) v;
       start = i;
       next = i + 1 + length run;
       state = stateAfter o (frameOf r) st;

@@ -8,6 +8,7 @@ use lib.ListN.{length, take, drop}
 use lib.Dec.{leb}
 use Rattle.line.specs.declared.Found.{Found}
 use Rattle.line.specs.declared.Found.the-variants.{At}
+use Rattle.line.specs.Limits.{leadSize}
 use Rattle.line.specs.Line.{Symbol, capture, findStart, AfterStart, unended, ended, afterStart}
 use Rattle.line.specs.Table.{Table, _⇒_, _∣_, otherwise, first}
 use Rattle.station.specs.declared.Address.{Address}
@@ -52,7 +53,7 @@ handedPart s o at f =
 unfoldable pub readRun : Settings → List (Option Address) → State → ℕ → List ℕ → Outcome → Reading
 readRun s own st i run o =
     record {
-      answer = Counted o (status s o (frameOf run)) (handedPart s o (i + 8) (frameOf run)) (wayCarried s own o (frameOf run));
+      answer = Counted o (status s o (frameOf run)) (handedPart s o (i + leadSize) (frameOf run)) (wayCarried s own o (frameOf run));
       start = i;
       next = i + 1 + length run;
       state = stateAfter o (frameOf run) st;

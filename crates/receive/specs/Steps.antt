@@ -5,6 +5,7 @@ use mathlib.Core.Path.{_≡_}
 use mathlib.Core.Bool.{Bool, true}
 use mathlib.Core.List.{List}
 use lib.ListN.{length}
+use Rattle.line.specs.Limits.{leadSize}
 use Rattle.line.specs.Octets.{between}
 use Rattle.station.specs.declared.Settings.{Settings}
 use Rattle.station.specs.declared.State.{State}
@@ -33,7 +34,7 @@ partAt checking o at f l =
 unfoldable pub sightOf : Settings → ℕ → List ℕ → Outcome → ℕ → Sight
 sightOf s i run o way =
     record {
-      answer = Counted o (status s o (frameOf run)) (handedPart s o (i + 8) (frameOf run)) way;
+      answer = Counted o (status s o (frameOf run)) (handedPart s o (i + leadSize) (frameOf run)) way;
       start = i;
       next = i + 1 + length run;
     }

@@ -2,6 +2,7 @@
 // Meaning: specs/.
 use fields::Layout;
 use line::Found;
+use line::LEAD_SIZE;
 use station::Checked;
 use station::Outcome;
 use station::Part;
@@ -11,6 +12,7 @@ use station::State;
 ghost use mathlib.Core.Path.{_≡_};
 ghost use Prim.Native.Nat.{_+_, _≤_};
 ghost use lib.ListN.{length};
+ghost use Rattle.line.specs.Limits.{mostSymbols};
 ghost use Rattle.line.specs.Table.{first};
 ghost use Rattle.fcs.specs.Lent.{Lent};
 ghost use Rattle.table.specs.Entries.{entriesOf};
@@ -77,12 +79,12 @@ fn handed_part(checking: bool, o: Outcome, at: usize, f: &[u8], l: Layout) -> Pa
 
 // What is seen of a Start at place `start` whose run has this outcome and carries this number of the address that let the frame in.
 fn look_run(s: Settings, start: usize, run: &[u8], o: Outcome, way: u8) -> Sight
-    requires { ⌜ (start ≤ 65536) × (length (now run) ≤ 65536) ⌝ }
+    requires { ⌜ (start ≤ mostSymbols) × (length (now run) ≤ mostSymbols) ⌝ }
     ensures { λ r. ⌜ r ≡ sightOf s start (now (run .entry)) o way ⌝ }
 {
     let f = outcome::frame_of(run);
     let l = fields::layout_of(f);
-    let part = handed_part(s.checking, o, start + 8, f, l);
+    let part = handed_part(s.checking, o, start + LEAD_SIZE, f, l);
     let word = outcome::status(o, f, l, part.len);
     Sight {
         answer: Answer::Counted(o, word, part, way),

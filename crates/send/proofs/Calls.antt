@@ -4,6 +4,7 @@ use native.Mathlib.Omega.{arith}
 use mathlib.Core.Path.{_≡_, sym, ap, ap₂, _∙_, subst}
 use mathlib.Core.List.{List}
 use lib.ListN.{length}
+use Rattle.line.specs.Limits.{aroundBody}
 use Rattle.line.specs.Line.{Symbol}
 use Rattle.station.specs.declared.Port.{Port}
 use Rattle.station.specs.declared.State.{State}
@@ -50,7 +51,7 @@ module _ (k : Checked) (st : State) (port : Port) (os ms : List ℕ) (place : �
 pub has-terminate : (port : Port) (count place : ℕ) (body : List ℕ) {g : Gap} → g ≡ gapOn port count place body → 1 ≤ g .size
 unfolding gapOn
 has-terminate port count place body e =
-    let k = some-gap port (place + 12 + length body) count in
+    let k = some-gap port (place + aroundBody + length body) count in
     let same = ap (λ (x : Gap). x .size) e in
     omega arith
 

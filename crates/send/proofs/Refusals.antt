@@ -7,6 +7,7 @@ use mathlib.Core.List.{List}
 use lib.ListN.{length}
 use lib.Dec.{eqb, ltb}
 use borrow.Author.Tests.{eqb-true, ltb-false}
+use Rattle.line.specs.Limits.{mostSymbols, mostLength, leastLimit, mostLimit, mostClass, aroundData, mostTags, lanes}
 use Rattle.line.specs.Line.{Symbol}
 use Rattle.line.specs.Table.{Table, otherwise, _⇒_, _∣_, first}
 use Rattle.line.proofs.Tables.{first-here, first-next}
@@ -68,18 +69,18 @@ goes g (Refused y) h e = (cc, cc)
 
 -- ---- what a row that does not hold tells
 
-pub limit-from : (s : Settings) → badSettings s ≡ false → (1518 ≤ s .limit) × (s .limit ≤ 9618)
+pub limit-from : (s : Settings) → badSettings s ≡ false → (leastLimit ≤ s .limit) × (s .limit ≤ mostLimit)
 unfolding badSettings
 limit-from s h =
-    let high = or-false (isGroup (s .own .0) || ltb (s .limit) 1518) (ltb 9618 (s .limit)) h in
-    let low = or-false (isGroup (s .own .0)) (ltb (s .limit) 1518) (high .0) in
-    (ltb-false (s .limit) 1518 (low .1), ltb-false 9618 (s .limit) (high .1))
+    let high = or-false (isGroup (s .own .0) || ltb (s .limit) leastLimit) (ltb mostLimit (s .limit)) h in
+    let low = or-false (isGroup (s .own .0)) (ltb (s .limit) leastLimit) (high .0) in
+    (ltb-false (s .limit) leastLimit (low .1), ltb-false mostLimit (s .limit) (high .1))
 
-pub same-length : (os ms : List ℕ) → badBuffers os ms ≡ false → (length os ≡ length ms) × (length os ≤ 65536)
+pub same-length : (os ms : List ℕ) → badBuffers os ms ≡ false → (length os ≡ length ms) × (length os ≤ mostSymbols)
 unfolding badBuffers
 same-length os ms h =
-    let both = or-false (not (eqb (length os) (length ms))) (ltb 65536 (length os)) h in
-    (eqb-true (length os) (length ms) (not-false (eqb (length os) (length ms)) (both .0)), ltb-false 65536 (length os) (both .1))
+    let both = or-false (not (eqb (length os) (length ms))) (ltb mostSymbols (length os)) h in
+    (eqb-true (length os) (length ms) (not-false (eqb (length os) (length ms)) (both .0)), ltb-false mostSymbols (length os) (both .1))
 
 pub inside : (os : List ℕ) (place : ℕ) → badPlace os place ≡ false → place ≤ length os
 unfolding badPlace
@@ -89,37 +90,37 @@ inside os place h = ltb-false (length os) place h
 pub not-beyond : (port : Port) (os : List ℕ) (place : ℕ) → badStart port os place ≡ false → badPlace os place ≡ false
 unfolding badStart
 not-beyond Plain os place h = h
-not-beyond FourLane os place h = or-false (badPlace os place) (not (eqb (place % 4) 0)) h .0
+not-beyond FourLane os place h = or-false (badPlace os place) (not (eqb (place % lanes) 0)) h .0
 
 pub inside-port : (port : Port) (os : List ℕ) (place : ℕ) → badStart port os place ≡ false → place ≤ length os
 inside-port port os place h = inside os place (not-beyond port os place h)
 
 -- and on the four-lane port
-pub divisible : (os : List ℕ) (place : ℕ) → badStart FourLane os place ≡ false → place % 4 ≡ 0
+pub divisible : (os : List ℕ) (place : ℕ) → badStart FourLane os place ≡ false → place % lanes ≡ 0
 unfolding badStart
-divisible os place h = eqb-true (place % 4) 0 (not-false (eqb (place % 4) 0) (or-false (badPlace os place) (not (eqb (place % 4) 0)) h .1))
+divisible os place h = eqb-true (place % lanes) 0 (not-false (eqb (place % lanes) 0) (or-false (badPlace os place) (not (eqb (place % lanes) 0)) h .1))
 
 pub deficit-to-3 : (count : ℕ) → highDeficit FourLane count ≡ false → count ≤ 3
 unfolding highDeficit
 deficit-to-3 count h = ltb-false 3 count h
 
-pub class-to-7 : (c : Client) → badClass c ≡ false → c .class ≤ 7
+pub class-to-7 : (c : Client) → badClass c ≡ false → c .class ≤ mostClass
 unfolding badClass
-class-to-7 c h = ltb-false 7 (c .class) h
+class-to-7 c h = ltb-false mostClass (c .class) h
 
-pub tags-to-8 : (c : Client) → manyTags c ≡ false → c .count ≤ 8
+pub tags-to-8 : (c : Client) → manyTags c ≡ false → c .count ≤ mostTags
 unfolding manyTags
-tags-to-8 c h = ltb-false 8 (c .count) h
+tags-to-8 c h = ltb-false mostTags (c .count) h
 
-pub short-by-length : (m : ℕ) (d : List ℕ) → longData m ByLength d ≡ false → length d ≤ 1500
+pub short-by-length : (m : ℕ) (d : List ℕ) → longData m ByLength d ≡ false → length d ≤ mostLength
 unfolding longData
-short-by-length m d h = ltb-false 1500 (length d) h
+short-by-length m d h = ltb-false mostLength (length d) h
 
-pub short-by-type : (m t : ℕ) (d : List ℕ) → longData m (ByType t) d ≡ false → length d ≤ m - 18
+pub short-by-type : (m t : ℕ) (d : List ℕ) → longData m (ByType t) d ≡ false → length d ≤ m - aroundData
 unfolding longData
-short-by-type m t d h = ltb-false (m - 18) (length d) h
+short-by-type m t d h = ltb-false (m - aroundData) (length d) h
 
-pub short-data : (m : ℕ) (f : Form) (d : List ℕ) → m ≤ 9618 → longData m f d ≡ false → length d ≤ 9600
+pub short-data : (m : ℕ) (f : Form) (d : List ℕ) → m ≤ mostLimit → longData m f d ≡ false → length d ≤ 9600
 short-data m ByLength d k h = let n = short-by-length m d h in omega arith
 short-data m (ByType t) d k h = let n = short-by-type m t d h in omega arith
 
@@ -143,7 +144,7 @@ in-mode s port count os ms place body h e = rw e at h
 -- of its buffers and place, for the symbols that it writes
 pub record Room (os ms : List ℕ) (place : ℕ) (new : List Symbol) : Type 0 where
   pub even : length os ≡ length ms
-  pub small : length os ≤ 65536
+  pub small : length os ≤ mostSymbols
   pub room : place + length new ≤ length os
 
 room-of : (os ms : List ℕ) (place : ℕ) (new : List Symbol) → badBuffers os ms ≡ false → badPlace os place ≡ false → noRoom os place new ≡ false
@@ -158,7 +159,7 @@ pub record Framed (s : Settings) (port : Port) (count : ℕ) (os ms : List ℕ) 
   pub starts : badStart port os place ≡ false
   pub low : highDeficit port count ≡ false
   pub even : length os ≡ length ms
-  pub small : length os ≤ 65536
+  pub small : length os ≤ mostSymbols
   pub room : place + length (symbolsOn port count place body) ≤ length os
 
 framed-of : (s : Settings) (port : Port) (count : ℕ) (os ms : List ℕ) (place : ℕ) (body : List ℕ) → badSettings s ≡ false → badBuffers os ms ≡ false
@@ -171,9 +172,9 @@ framed-of s port count os ms place body v b p l n =
 -- and a client frame's call of its class, form, tags and data
 pub record Passed (s : Settings) (st : State) (port : Port) (os ms : List ℕ) (place : ℕ) (c : Client) (d : List ℕ) : Type 0 where
   pub framed : Framed s port (st .deficit) os ms place (clientBody s c d)
-  pub class : c .class ≤ 7
+  pub class : c .class ≤ mostClass
   pub type : badType (c .form) ≡ false
-  pub tags : c .count ≤ 8
+  pub tags : c .count ≤ mostTags
   pub short : longData (s .limit) (c .form) d ≡ false
   pub data-small : length d ≤ 9600
 

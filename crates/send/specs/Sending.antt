@@ -5,6 +5,7 @@ use mathlib.Core.Bool.{Bool, true, false, not, _||_}
 use mathlib.Core.List.{List, []}
 use lib.ListN.{length}
 use lib.Dec.{eqb, ltb}
+use Rattle.line.specs.Limits.{leastType, mostLength, mostClass, aroundData, mostTags}
 use Rattle.line.specs.Line.{Symbol, octetsOf, marksOf, overwrite}
 use Rattle.line.specs.Table.{Table, _⇒_, _∣_, otherwise, first}
 use Rattle.station.specs.declared.Settings.{Settings}
@@ -75,21 +76,21 @@ sendChecked Fine st os ms place new count =
 
 -- 5: "class above 7"
 unfoldable pub badClass : Client → Bool
-badClass c = ltb 7 (c .class)
+badClass c = ltb mostClass (c .class)
 
 -- 6: "type form under 1536, or 0x8100 or 0x8808"; document 02, item 1: "6 also for type 0x88A8"
 unfoldable pub badType : Form → Bool
 badType ByLength = false
-badType (ByType t) = ltb t 1536 || eqb t 0x8100 || eqb t 0x8808 || eqb t 0x88A8
+badType (ByType t) = ltb t leastType || eqb t 0x8100 || eqb t 0x8808 || eqb t 0x88A8
 
 -- 10, of item 1: "more than eight tags"
 unfoldable pub manyTags : Client → Bool
-manyTags c = ltb 8 (c .count)
+manyTags c = ltb mostTags (c .count)
 
 -- 7: "data over 1500 (length form) or over M - 18 (type form)"
 unfoldable pub longData : ℕ → Form → List ℕ → Bool
-longData m ByLength d = ltb 1500 (length d)
-longData m (ByType t) d = ltb (m - 18) (length d)
+longData m ByLength d = ltb mostLength (length d)
+longData m (ByType t) d = ltb (m - aroundData) (length d)
 
 -- 8: "fewer symbols from the place to the end of the buffers than needed"
 unfoldable pub noRoom : List ℕ → ℕ → List Symbol → Bool

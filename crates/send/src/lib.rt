@@ -1,4 +1,13 @@
 // Sending (document 01, "Sending", "Refusals and their order"): the refusals of each call, and the call. Meaning: specs/.
+use line::AROUND_BODY;
+use line::AROUND_DATA;
+use line::LEAST_BODY;
+use line::LEAST_DATA;
+use line::LEAST_TYPE;
+use line::MOST_CLASS;
+use line::MOST_LENGTH;
+use line::MOST_TAGS;
+use line::TAG_SIZE;
 use station::Checked;
 use station::Port;
 use station::Quanta;
@@ -14,6 +23,7 @@ ghost use mathlib.Core.List.{List};
 ghost use Prim.Native.Nat.{ℕ, _+_, _-_, _≤_, _<_, _*_};
 ghost use lib.Dec.{ltb};
 ghost use lib.ListN.{length};
+ghost use Rattle.line.specs.Limits.{mostSymbols, tagSize, leastData, leastLimit, mostClass, leastBody, aroundBody};
 ghost use Rattle.line.specs.Table.{first};
 ghost use Rattle.station.specs.declared.Quanta.{Quanta};
 ghost use Rattle.writing.specs.declared.Classes.{Classes};
@@ -47,7 +57,7 @@ enum Framing {
 fn bad_class(c: Client) -> bool
     ensures { λ r. ⌜ r ≡ badClass c ⌝ }
 {
-    7 < c.class
+    MOST_CLASS < c.class
 }
 
 // Refusal 6.
@@ -57,7 +67,7 @@ fn bad_type(form: Form) -> bool
     let Form::ByType(t) = form else {
         return false;
     };
-    if t < 1536 {
+    if t < LEAST_TYPE {
         return true;
     }
     if t == 0x8100 {
@@ -73,18 +83,18 @@ fn bad_type(form: Form) -> bool
 fn many_tags(c: Client) -> bool
     ensures { λ r. ⌜ r ≡ manyTags c ⌝ }
 {
-    8 < c.count
+    MOST_TAGS < c.count
 }
 
 // Refusal 7: the limit is M.
 fn long_data(limit: u16, form: Form, d: &[u8]) -> bool
-    requires { ⌜ 1518 ≤ limit ⌝ }
+    requires { ⌜ leastLimit ≤ limit ⌝ }
     ensures { λ r. ⌜ r ≡ longData limit form (now (d .entry)) ⌝ }
 {
     let Form::ByType(_) = form else {
-        return 1500 < d.len();
+        return MOST_LENGTH < d.len();
     };
-    ((limit - 18) as usize) < d.len()
+    ((limit - AROUND_DATA) as usize) < d.len()
 }
 
 // Refusal 8: `need` symbols do not fit from a place inside the buffers on. No sum, so that none is too large.
@@ -97,7 +107,7 @@ fn no_room(octets: &[u8], place: usize, need: usize) -> bool
 
 // Refusal 9.
 fn held(state: State, class: u8) -> bool
-    requires { ⌜ class ≤ 7 ⌝ }
+    requires { ⌜ class ≤ mostClass ⌝ }
     ensures { λ r. ⌜ r ≡ held state class ⌝ }
 {
     let timers = state.timers;
@@ -108,24 +118,21 @@ fn held(state: State, class: u8) -> bool
 // How many octets of a client frame its FCS covers: addresses, tags, field, data with its padding.
 fn client_size(count: u8, n: usize) -> usize
     requires { ⌜ n ≤ 65535 ⌝ }
-    ensures { λ r. ⌜ r ≡ 14 + 4 * count + (n + (46 - n)) ⌝ }
+    ensures { λ r. ⌜ r ≡ 14 + tagSize * count + (n + (leastData - n)) ⌝ }
 {
     let tags = count as usize;
-    if n < 46 {
-        return 60 + 4 * tags;
+    if n < LEAST_DATA {
+        return LEAST_BODY + TAG_SIZE * tags;
     }
-    14 + 4 * tags + n
+    14 + TAG_SIZE * tags + n
 }
-
-// How many octets of a pause or PFC frame its FCS covers.
-const CONTROL: usize = 60;
 
 // The gap behind a frame on a port, of which the FCS covers `size` octets, with the deficit count before it.
 fn gap_behind(port: Port, deficit: u64, place: usize, size: usize) -> Gap
-    requires { ⌜ (place ≤ 65536) × (size ≤ 131072) ⌝ }
-    ensures { λ r. ⌜ r ≡ gapAt port (place + 12 + size) deficit ⌝ }
+    requires { ⌜ (place ≤ mostSymbols) × (size ≤ 131072) ⌝ }
+    ensures { λ r. ⌜ r ≡ gapAt port (place + aroundBody + size) deficit ⌝ }
 {
-    writing::gap_for(port, place + 12 + size, deficit)
+    writing::gap_for(port, place + AROUND_BODY + size, deficit)
 }
 
 // The refusals of sending a client frame.
@@ -169,7 +176,7 @@ fn check_client(
     }
     let size = client_size(client.count, d.len());
     let gap = gap_behind(port, state.deficit, place, size);
-    if no_room(octets, place, 12 + size + gap.size) {
+    if no_room(octets, place, AROUND_BODY + size + gap.size) {
         return Framing::Refused(Refusal::NoRoom);
     }
     if held(state, client.class) {
@@ -188,7 +195,7 @@ fn check_control(
     place: usize,
     asked: bool,
 ) -> Framing
-    ensures { λ r. ⌜ ((body : List ℕ) → length body ≡ 60
+    ensures { λ r. ⌜ ((body : List ℕ) → length body ≡ leastBody
         → r ≡ withGap (gapOn port deficit place body)
         (first (controlRefusals s port deficit (now (octets .entry)) (now (marks .entry)) place asked body))) ⌝ }
 {
@@ -207,8 +214,8 @@ fn check_control(
     if !asked {
         return Framing::Refused(Refusal::OtherFlow);
     }
-    let gap = gap_behind(port, deficit, place, CONTROL);
-    if no_room(octets, place, 12 + CONTROL + gap.size) {
+    let gap = gap_behind(port, deficit, place, LEAST_BODY);
+    if no_room(octets, place, AROUND_BODY + LEAST_BODY + gap.size) {
         return Framing::Refused(Refusal::NoRoom);
     }
     Framing::Goes(gap)

@@ -12,6 +12,7 @@ use denote.Enum.Declared.{tagOf}
 use types.Run.{OneOf, miss}
 use Rattle.line.specs.declared.Found.{Found}
 use Rattle.line.specs.declared.Found.the-variants.{At}
+use Rattle.line.specs.Limits.{leadSize}
 use Rattle.line.specs.Line.{capture, findStart, findControl, AfterStart, unended, ended, MetStart, metStarts}
 use Rattle.line.specs.Octets.{between}
 use Rattle.line.specs.Table.{first}
@@ -75,7 +76,7 @@ frame-left t o n h = ap (λ (b : _). withFrames t (cond b (n ∷ []) [])) h
 -- ---- the lengths of the walk's readings are those of the capture's Starts
 
 -- a frame's length, by the places of its Start and of the end of its run
-frame-length : (i : ℕ) (r : List ℕ) → i + 1 + length r - (i + 8) ≡ length (frameOf r)
+frame-length : (i : ℕ) (r : List ℕ) → i + 1 + length r - (i + leadSize) ≡ length (frameOf r)
 unfolding frameOf
 frame-length i r = let d = length-drop 7 r in omega arith
 

@@ -4,6 +4,7 @@ use mathlib.Core.Bool.{Bool, true, false, cond}
 use mathlib.Core.List.{List, [], _∷_, _++_}
 use lib.ListN.{getD, set, replicate}
 use lib.Dec.{leb}
+use Rattle.line.specs.Limits.{leadSize}
 use Rattle.line.specs.Table.{Table, _⇒_, _∣_, otherwise, first}
 use Rattle.station.specs.declared.Settings.{Settings}
 use Rattle.station.specs.declared.Outcome.{Outcome}
@@ -73,7 +74,7 @@ lengthBy (Counted o w p v) n = cond (sized o) (n ∷ []) []
 
 unfoldable pub frameLengths : List Reading → List ℕ
 frameLengths [] = []
-frameLengths (r ∷ rs) = lengthBy (r .answer) (r .next - (r .start + 8)) ++ frameLengths rs
+frameLengths (r ∷ rs) = lengthBy (r .answer) (r .next - (r .start + leadSize)) ++ frameLengths rs
 
 -- "a refused capture adds nothing"; else the frames of its whole walk. No outcome depends on the state, so any serves.
 unfoldable pub addChecked : Checked → SizeTable → Settings → ℕ → List Entry → List ℕ → List ℕ → Added

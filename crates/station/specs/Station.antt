@@ -4,6 +4,7 @@ use mathlib.Core.Bool.{Bool, true, false, not, _&&_, _||_}
 use mathlib.Core.List.{List, [], _∷_, map}
 use lib.ListN.{length, getD, set, replicate}
 use lib.Dec.{eqb, ltb, leb}
+use Rattle.line.specs.Limits.{mostSymbols, leastLimit, mostLimit, mostDeficit, lanes}
 use Rattle.station.specs.declared.Settings.{Settings}
 use Rattle.station.specs.declared.State.{State}
 use Rattle.station.specs.declared.Slots.{Slots}
@@ -78,11 +79,11 @@ isGroup address = eqb (getD address 0 0 % 2) 1
 
 -- 1: "own address has its group bit …, or M outside 1518 to 9618"; document 02, item 10: "In refusal 1 the listed count falls away."
 unfoldable pub badSettings : Settings → Bool
-badSettings s = isGroup (s .own .0) || ltb (s .limit) 1518 || ltb 9618 (s .limit)
+badSettings s = isGroup (s .own .0) || ltb (s .limit) leastLimit || ltb mostLimit (s .limit)
 
 -- 2: "octet and mark buffers differ in length, or exceed 65,536"
 unfoldable pub badBuffers : List ℕ → List ℕ → Bool
-badBuffers os ms = not (eqb (length os) (length ms)) || ltb 65536 (length os)
+badBuffers os ms = not (eqb (length os) (length ms)) || ltb mostSymbols (length os)
 
 -- 3: "place beyond the buffers' length"
 unfoldable pub badPlace : List ℕ → ℕ → Bool
@@ -91,9 +92,9 @@ badPlace os place = ltb (length os) place
 -- document 02, item 5: "when sending a frame on this port only, 3 also for a place not divisible by four"
 unfoldable pub badStart : Port → List ℕ → ℕ → Bool
 badStart Plain os place = badPlace os place
-badStart FourLane os place = badPlace os place || not (eqb (place % 4) 0)
+badStart FourLane os place = badPlace os place || not (eqb (place % lanes) 0)
 
 -- "then new 19, deficit count above 3"
 unfoldable pub highDeficit : Port → ℕ → Bool
 highDeficit Plain count = false
-highDeficit FourLane count = ltb 3 count
+highDeficit FourLane count = ltb mostDeficit count

@@ -1,5 +1,10 @@
 // What a station is set to, what it counts and times, and the names of outcomes and refusals (document 01).
 // Struct fields have no underscore, so that the definitions read them with no quotes; what each stands for is said beside it.
+use line::LANES;
+use line::LEAST_LIMIT;
+use line::MOST_DEFICIT;
+use line::MOST_LIMIT;
+use line::MOST_SYMBOLS;
 ghost use mathlib.Core.Path.{_≡_};
 ghost use Rattle.station.specs.Numbers.{outcomeNumber, refusalNumber};
 ghost use Rattle.station.specs.Station.{badSettings, badBuffers, badPlace, badStart, highDeficit, counted, fresh, screenOf, isPauseMode, isPfcMode};
@@ -107,10 +112,10 @@ pub fn bad_settings(s: Settings) -> bool
     if lead % 2 == 1 {
         return true;
     }
-    if s.limit < 1518 {
+    if s.limit < LEAST_LIMIT {
         return true;
     }
-    9618 < s.limit
+    MOST_LIMIT < s.limit
 }
 
 // A fresh state is all zeros.
@@ -200,7 +205,7 @@ pub fn bad_buffers(octets: &[u8], marks: &[u8]) -> bool
     if octets.len() != marks.len() {
         return true;
     }
-    65536 < octets.len()
+    MOST_SYMBOLS < octets.len()
 }
 
 // Refusal 3.
@@ -220,7 +225,7 @@ pub fn bad_start(port: Port, octets: &[u8], place: usize) -> bool
     let Port::FourLane = port else {
         return false;
     };
-    place % 4 != 0
+    place % LANES != 0
 }
 
 // Refusal 19.
@@ -230,7 +235,7 @@ pub fn high_deficit(port: Port, deficit: u64) -> bool
     let Port::FourLane = port else {
         return false;
     };
-    3 < deficit
+    MOST_DEFICIT < deficit
 }
 
 // Whether the flow mode is `pause`.

@@ -23,6 +23,7 @@ use lib.Dec.{eqb, ltb, leb}
 use borrow.Author.Tests.{ltb-true, ltb-false, lt-leb, leb-false, eqb-true, eqb-false, ne-eqb}
 use Rattle.line.specs.declared.Found.{Found}
 use Rattle.line.specs.declared.Found.the-variants.{At, Nothing}
+use Rattle.line.specs.Limits.{tableEntries, mostHeld}
 use Rattle.line.specs.Octets.{sameOctets}
 use Rattle.line.specs.Table.{Table, _⇒_, _∣_, otherwise, first}
 use Rattle.line.proofs.Symbols.{by-test}
@@ -71,11 +72,11 @@ entry-range test at (e ∷ es) i h =
     (λ t. let z : At at ≡ At i = sym (entry-here test at e es t) ∙ h in let q : at ≡ i = cc in (omega arith, omega arith))
     (λ t. let ih = entry-range test (at + 1) es i (sym (entry-later test at e es t) ∙ h) in (omega arith, omega arith))
 
-free-within : (t : List ℕ) (i : ℕ) → freeEntry (entriesOf t) ≡ At i → i < 16
+free-within : (t : List ℕ) (i : ℕ) → freeEntry (entriesOf t) ≡ At i → i < tableEntries
 unfolding freeEntry
 free-within t i h = let r = entry-range unused 0 (entriesOf t) i h in omega (arith, entries-sixteen t)
 
-mine-within : (job : ℕ) (t d : List ℕ) (i : ℕ) → firstMine d 0 (ownEntries job t) ≡ At i → i < 16
+mine-within : (job : ℕ) (t d : List ℕ) (i : ℕ) → firstMine d 0 (ownEntries job t) ≡ At i → i < tableEntries
 mine-within job t d i h = let r = mine-range d 0 (ownEntries job t) i h in omega (arith, sixteen job t)
 
 first-true : (test : Entry → Bool) (at : ℕ) (es : List Entry) (i : ℕ) (z : Entry) → firstEntry test at es ≡ At i
@@ -120,7 +121,7 @@ placed-at Fine (At j) t e i h = let z : _≡_ {A = Placed} (Placed.At j) (Placed
 placed-at Fine Nothing t e i h = let z : _≡_ {A = Placed} (Placed.Refused AllInUse) (Placed.At i) = h in refused-at AllInUse i z
 
 module _ (t : List ℕ) (n : length t ≡ 128) (e : Entry) (six : length (e .address .0) ≡ 6) where
-  changed-entries : (k : Checked) (f : Found) → ((i : ℕ) → f ≡ At i → i < 16)
+  changed-entries : (k : Checked) (f : Found) → ((i : ℕ) → f ≡ At i → i < tableEntries)
       → (entriesOf (changed k f t e .table) ≡ afterCall (changed k f t e .answer) (entriesOf t) e) × (length (changed k f t e .table) ≡ 128)
   unfolding changed putAt afterCall
   changed-entries (Checked.Refused x) f within = (refl, n)
@@ -232,7 +233,7 @@ record Passed (job : ℕ) (es : List Entry) (a : Address) : Type 0 where
   one : badJob job ≡ false
   good : badTable es ≡ false
   fresh : among (a .0) (mine job es) ≡ false
-  less : held (mine job es) < 12
+  less : held (mine job es) < mostHeld
 
 passed : (job : ℕ) (es : List Entry) (a : Address) → first (addRefusals job es a) ≡ Fine → Passed job es a
 unfolding addRefusals isListed
@@ -241,7 +242,7 @@ passed job es a fine =
     let r2 = fine-row BadTable _ (r1 .1) in
     let r3 = fine-row AlreadyListed _ (r2 .1) in
     let r4 = fine-row HoldsTwelve _ (r3 .1) in
-    record { one = r1 .0; good = r2 .0; fresh = r3 .0; less = leb-false 12 (held (mine job es)) (r4 .0) }
+    record { one = r1 .0; good = r2 .0; fresh = r3 .0; less = leb-false mostHeld (held (mine job es)) (r4 .0) }
 
 -- ---- "whatever the other does": no call of the other job changes a job's own entries
 
@@ -351,15 +352,15 @@ none-free at (e ∷ es) h =
     let z : isFree (e .holder) ≡ false = t in
     rw z (omega arith))
 
-few : (es : List Entry) → badTable es ≡ false → (held (mine 0 es) ≤ 12) × (held (mine 1 es) ≤ 12)
+few : (es : List Entry) → badTable es ≡ false → (held (mine 0 es) ≤ mostHeld) × (held (mine 1 es) ≤ mostHeld)
 unfolding badTable overfull
 few es h =
     let k = or-false (overfull (mine 0 es)) (overfull (mine 1 es)) h in
-    let a = or-false (ltb 12 (held (mine 0 es))) (twice (mine 0 es)) (k .0) in
-    let b = or-false (ltb 12 (held (mine 1 es))) (twice (mine 1 es)) (k .1) in
-    (ltb-false 12 (held (mine 0 es)) (a .0), ltb-false 12 (held (mine 1 es)) (b .0))
+    let a = or-false (ltb mostHeld (held (mine 0 es))) (twice (mine 0 es)) (k .0) in
+    let b = or-false (ltb mostHeld (held (mine 1 es))) (twice (mine 1 es)) (k .1) in
+    (ltb-false mostHeld (held (mine 0 es)) (a .0), ltb-false mostHeld (held (mine 1 es)) (b .0))
 
-both-few : (job : ℕ) (es : List Entry) → badJob job ≡ false → badTable es ≡ false → held (mine job es) < 4 → held (mine 0 es) + held (mine 1 es) < 16
+both-few : (job : ℕ) (es : List Entry) → badJob job ≡ false → badTable es ≡ false → held (mine job es) < 4 → held (mine 0 es) + held (mine 1 es) < tableEntries
 unfolding badJob
 both-few zero es j h less = omega (arith, few es h)
 both-few (suc zero) es j h less = omega (arith, few es h)
@@ -395,7 +396,7 @@ module _ (job : ℕ) (t : List ℕ) (a : Address) (j : badJob job ≡ false) (go
       first-next (Checked.Refused BadJob) _ j
       ∙ first-next (Checked.Refused BadTable) _ good
       ∙ first-next (Checked.Refused AlreadyListed) _ new
-      ∙ first-next (Checked.Refused HoldsTwelve) _ (lt-leb 12 (held (mine job (entriesOf t))) (omega arith))
+      ∙ first-next (Checked.Refused HoldsTwelve) _ (lt-leb mostHeld (held (mine job (entriesOf t))) (omega arith))
       ∙ first-next (Checked.Refused AllInUse) _ (ap not some-free)
       ∙ first-other Fine
 
@@ -459,7 +460,7 @@ module _ (job : ℕ) (t : List ℕ) (a : Address) (i : ℕ) (n : length t ≡ 12
       ∙ ap unused (getD-set-same (entriesOf t) i freed freed (omega (arith, entries-sixteen t)))
       ∙ freed-unused
 
-  freed-within : removed job t a .answer ≡ Placed.At i → i < 16
+  freed-within : removed job t a .answer ≡ Placed.At i → i < tableEntries
   unfolding removed
   freed-within h = mine-within job t (a .0) i (placed-at (first (removeRefusals job (entriesOf t) a)) (firstMine (a .0) 0 (ownEntries job t)) t freed i h .1)
 
@@ -505,7 +506,7 @@ module _ (job : ℕ) (t : List ℕ) (a : Address) (n : length t ≡ 128) (six : 
       (λ q. let same : j ≡ job = eqb-true j job q in
       ap (λ (m : Option Address). overfull (set (mine j old) i m)) (ap (λ (x : ℕ). ownAt x (taken job a)) same ∙ taken-own job a (was .one))
       ∙ overfull-more a (mine j old) i (omega (arith, sixteen j t)) (free-none j old i (k .1))
-      (ap (λ (x : ℕ). among (a .0) (mine x old)) same ∙ was .fresh) (subst (λ (x : ℕ). held (mine x old) < 12) (sym same) (was .less)) h)
+      (ap (λ (x : ℕ). among (a .0) (mine x old)) same ∙ was .fresh) (subst (λ (x : ℕ). held (mine x old) < mostHeld) (sym same) (was .less)) h)
       (λ q. let apart : j ≡ job → ⊥ = eqb-false j job q in
       ap overfull (ap (set (mine j old) i) (taken-other job j a (was .one) apart ∙ sym (free-none j old i (k .1))) ∙ set-getD (mine j old) i none) ∙ h)
 
@@ -575,7 +576,7 @@ module _ (t : List ℕ) (e : Entry) where
 pub add-gives : (job : ℕ) (t : List ℕ) (a : Address) → OneOf (0 ∷ 14 ∷ 15 ∷ 16 ∷ 17 ∷ 20 ∷ []) (placedRefusal (added job t a .answer))
 unfolding added addRefusals
 add-gives job t a =
-    adding t (taken job a) (badJob job) (badTable (entriesOf t)) (isListed a (ownEntries job t)) (leb 12 (held (ownEntries job t)))
+    adding t (taken job a) (badJob job) (badTable (entriesOf t)) (isListed a (ownEntries job t)) (leb mostHeld (held (ownEntries job t)))
     (not (isFound (freeEntry (entriesOf t)))) (freeEntry (entriesOf t))
 
 removing : (t : List ℕ) (one bad : Bool) (f : Found) → OneOf (0 ∷ 14 ∷ 18 ∷ 20 ∷ []) (placedRefusal (changed (first (

@@ -13,6 +13,7 @@ use lib.Dec.{eqb}
 use borrow.Author.Tests.{eqb-true, ne-eqb}
 use Rattle.line.specs.declared.Found.{Found}
 use Rattle.line.specs.declared.Found.the-variants.{At, Nothing}
+use Rattle.line.specs.Limits.{tableEntries}
 use Rattle.line.specs.Octets.{sameOctets}
 use Rattle.line.proofs.Symbols.{by-test}
 use Rattle.station.specs.declared.Address.{Address}
@@ -37,23 +38,23 @@ from-at k zero i t z h = absurd (not-suc-le-zero h)
 from-at k (suc n) zero t z h = let e : k ≡ k + 0 = omega arith in ap (entryAt t) e
 from-at k (suc n) (suc i) t z h = let e : k + 1 + i ≡ k + suc i = omega arith in from-at (k + 1) n i t z (le-of-suc-le-suc h) ∙ ap (entryAt t) e
 
-pub entries-sixteen : (t : List ℕ) → length (entriesOf t) ≡ 16
+pub entries-sixteen : (t : List ℕ) → length (entriesOf t) ≡ tableEntries
 unfolding entriesOf
-entries-sixteen t = length-from 0 16 t
+entries-sixteen t = length-from 0 tableEntries t
 
-pub entry-is : (t : List ℕ) (k : ℕ) (z : Entry) → k < 16 → getD (entriesOf t) k z ≡ entryAt t k
+pub entry-is : (t : List ℕ) (k : ℕ) (z : Entry) → k < tableEntries → getD (entriesOf t) k z ≡ entryAt t k
 unfolding entriesOf
-entry-is t k z h = from-at 0 16 k t z h ∙ ap (entryAt t) (zero-add k)
+entry-is t k z h = from-at 0 tableEntries k t z h ∙ ap (entryAt t) (zero-add k)
 
 pub length-mine : (job : ℕ) (es : List Entry) → length (mine job es) ≡ length es
 unfolding mine
 length-mine job es = length-map es (ownAt job)
 
-pub sixteen : (job : ℕ) (t : List ℕ) → length (ownEntries job t) ≡ 16
+pub sixteen : (job : ℕ) (t : List ℕ) → length (ownEntries job t) ≡ tableEntries
 sixteen job t = length-mine job (entriesOf t) ∙ entries-sixteen t
 
 -- what a job has at entry k
-pub own-is : (job : ℕ) (t : List ℕ) (k : ℕ) → k < 16 → getD (ownEntries job t) k none ≡ ownAt job (entryAt t k)
+pub own-is : (job : ℕ) (t : List ℕ) (k : ℕ) → k < tableEntries → getD (ownEntries job t) k none ≡ ownAt job (entryAt t k)
 unfolding mine ownAt
 own-is job t k h =
     let z : Entry = record { holder = Nobody; address = record { 0 = [] } } in
@@ -140,7 +141,7 @@ pub at-is : (k i n : ℕ) → _≡_ {A = Found} (At k) (At i) → k < n → i < 
 at-is k i n h l = let e : k ≡ i = cc in subst (λ (j : ℕ). j < n) e l
 
 -- ---- a job's own from entry k of a table on
-module _ (job : ℕ) (t : List ℕ) (k : ℕ) (h : k < 16) where
+module _ (job : ℕ) (t : List ℕ) (k : ℕ) (h : k < tableEntries) where
   abbrev own : List (Option Address)
   own = ownEntries job t
 
@@ -155,10 +156,10 @@ module _ (job : ℕ) (t : List ℕ) (k : ℕ) (h : k < 16) where
   pub search-next : (d : List ℕ) → names d (ownAt job (entryAt t k)) ≡ false → firstMine d (k + 1) (drop (k + 1) own) ≡ firstMine d k (drop k own)
   search-next d e = sym (ap (firstMine d k) own-from ∙ mine-later d k (ownAt job (entryAt t k)) (drop (k + 1) own) e)
 
-pub own-end : (job : ℕ) (t : List ℕ) (k : ℕ) → 16 ≤ k → drop k (ownEntries job t) ≡ []
+pub own-end : (job : ℕ) (t : List ℕ) (k : ℕ) → tableEntries ≤ k → drop k (ownEntries job t) ≡ []
 own-end job t k h = drop-of-length-le (ownEntries job t) {i = k} (omega (arith, sixteen job t))
 
-pub search-end : (job : ℕ) (t : List ℕ) (k : ℕ) (d : List ℕ) → 16 ≤ k → firstMine d k (drop k (ownEntries job t)) ≡ Nothing
+pub search-end : (job : ℕ) (t : List ℕ) (k : ℕ) (d : List ℕ) → tableEntries ≤ k → firstMine d k (drop k (ownEntries job t)) ≡ Nothing
 unfolding firstMine
 search-end job t k d h = ap (firstMine d k) (own-end job t k h)
 
@@ -177,14 +178,14 @@ held-cons job e ms =
     (λ h. ap (λ (m : Option Address). held (m ∷ ms)) (own-not job e h) ∙ sym (ap (λ (b : Bool). oneIf b + held ms) h ∙ zero-add (held ms)))
 
 -- one turn of the count: b says whether entry k is the job's
-pub held-step : (job : ℕ) (t : List ℕ) (k n x total : ℕ) (b : Bool) → k < 16 → b ≡ isHeld job (entryAt t k .holder) → x ≡ oneIf b
+pub held-step : (job : ℕ) (t : List ℕ) (k n x total : ℕ) (b : Bool) → k < tableEntries → b ≡ isHeld job (entryAt t k .holder) → x ≡ oneIf b
     → n + held (drop k (ownEntries job t)) ≡ total → n + x + held (drop (k + 1) (ownEntries job t)) ≡ total
 held-step job t k n x total b h e o s =
     let one : x ≡ oneIf (isHeld job (entryAt t k .holder)) = o ∙ ap oneIf e in
     let more = ap held (own-from job t k h) ∙ held-cons job (entryAt t k) (drop (k + 1) (ownEntries job t)) in
     omega arith
 
-pub held-end : (job : ℕ) (t : List ℕ) (k : ℕ) → 16 ≤ k → held (drop k (ownEntries job t)) ≡ 0
+pub held-end : (job : ℕ) (t : List ℕ) (k : ℕ) → tableEntries ≤ k → held (drop k (ownEntries job t)) ≡ 0
 unfolding held
 held-end job t k h = ap held (own-end job t k h)
 
@@ -198,7 +199,7 @@ pub again-not : (job : ℕ) (e : Entry) (ms : List (Option Address)) → isHeld 
 unfolding again
 again-not job e ms h = ap (λ (m : Option Address). again m ms) (own-not job e h)
 
-module _ (job : ℕ) (t : List ℕ) (k : ℕ) (h : k < 16) where
+module _ (job : ℕ) (t : List ℕ) (k : ℕ) (h : k < tableEntries) where
   abbrev here-again : Bool
   here-again = again (ownAt job (entryAt t k)) (drop (k + 1) (ownEntries job t))
 
@@ -212,7 +213,7 @@ module _ (job : ℕ) (t : List ℕ) (k : ℕ) (h : k < 16) where
   pub twice-later : here-again ≡ false → twice (drop (k + 1) (ownEntries job t)) ≡ twice (drop k (ownEntries job t))
   twice-later e = sym (twice-from ∙ ap (λ (b : Bool). b || twice (drop (k + 1) (ownEntries job t))) e)
 
-pub twice-end : (job : ℕ) (t : List ℕ) (k : ℕ) → 16 ≤ k → twice (drop k (ownEntries job t)) ≡ false
+pub twice-end : (job : ℕ) (t : List ℕ) (k : ℕ) → tableEntries ≤ k → twice (drop k (ownEntries job t)) ≡ false
 unfolding twice
 twice-end job t k h = ap twice (own-end job t k h)
 
@@ -230,15 +231,15 @@ blank-from job k (suc n) t h =
     (zero-free job t k (h k (omega arith) (omega arith)))
     (blank-from job (k + 1) n t (λ i a b. h i (omega arith) (omega arith)))
 
-blank-fits : overfull (replicate 16 none) ≡ false
+blank-fits : overfull (replicate tableEntries none) ≡ false
 unfolding overfull held twice again
 blank-fits = refl
 
-pub blank-good : (t : List ℕ) → ((k : ℕ) → k < 16 → getD t (8 * k) 0 ≡ 0) → badTable (entriesOf t) ≡ false
+pub blank-good : (t : List ℕ) → ((k : ℕ) → k < tableEntries → getD t (8 * k) 0 ≡ 0) → badTable (entriesOf t) ≡ false
 unfolding badTable entriesOf
 blank-good t h =
-    let free : (job : ℕ) → overfull (mine job (entriesFrom 0 16 t)) ≡ false =
-    λ job. ap overfull (blank-from job 0 16 t (λ i a b. h i b)) ∙ blank-fits in
+    let free : (job : ℕ) → overfull (mine job (entriesFrom 0 tableEntries t)) ≡ false =
+    λ job. ap overfull (blank-from job 0 tableEntries t (λ i a b. h i b)) ∙ blank-fits in
     ap₂ _||_ (free 0) (free 1)
 
 -- ---- free entries
@@ -253,7 +254,7 @@ module _ (test : Entry → Bool) (at : ℕ) (e : Entry) (es : List Entry) where
   entry-later h = rw (h, firstEntry)
 
 -- from entry k of a table on
-module _ (t : List ℕ) (k : ℕ) (h : k < 16) where
+module _ (t : List ℕ) (k : ℕ) (h : k < tableEntries) where
   entries-from : drop k (entriesOf t) ≡ entryAt t k ∷ drop (k + 1) (entriesOf t)
   entries-from =
       let z : Entry = record { holder = Nobody; address = record { 0 = [] } } in
@@ -266,6 +267,6 @@ module _ (t : List ℕ) (k : ℕ) (h : k < 16) where
   pub free-next : unused (entryAt t k) ≡ false → firstEntry unused (k + 1) (drop (k + 1) (entriesOf t)) ≡ firstEntry unused k (drop k (entriesOf t))
   free-next e = sym (ap (firstEntry unused k) entries-from ∙ entry-later unused k (entryAt t k) (drop (k + 1) (entriesOf t)) e)
 
-pub free-end : (t : List ℕ) (k : ℕ) → 16 ≤ k → firstEntry unused k (drop k (entriesOf t)) ≡ Nothing
+pub free-end : (t : List ℕ) (k : ℕ) → tableEntries ≤ k → firstEntry unused k (drop k (entriesOf t)) ≡ Nothing
 unfolding firstEntry
 free-end t k h = ap (firstEntry unused k) (drop-of-length-le (entriesOf t) {i = k} (omega (arith, entries-sixteen t)))

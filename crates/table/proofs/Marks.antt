@@ -9,6 +9,7 @@ use lib.ListN.{length, getD, set, drop, length-set}
 use lib.Seq.{getD-set-same, getD-set-other}
 use lib.Dec.{eqb}
 use borrow.Author.Tests.{eqb-true, eqb-false}
+use Rattle.line.specs.Limits.{tableEntries}
 use Rattle.line.specs.Octets.{sameOctets}
 use Rattle.line.proofs.Octets.{sameOctets-eq, false-unless}
 use Rattle.line.proofs.Symbols.{by-test}
@@ -73,12 +74,12 @@ met-new job e seen last held is h new ms marked = (
 
 -- ---- from the last entry on
 
-pub none-among : (job : ℕ) (t : List ℕ) (k : ℕ) (d : List ℕ) → 16 ≤ k → among d (drop k (ownEntries job t)) ≡ true → ⊥
+pub none-among : (job : ℕ) (t : List ℕ) (k : ℕ) (d : List ℕ) → tableEntries ≤ k → among d (drop k (ownEntries job t)) ≡ true → ⊥
 unfolding among
 none-among job t k d h l = false≢true (sym (ap (among d) (own-end job t k h)) ∙ l)
 
 -- an entry met anew behind which none is twice
-pub marked-from : (job : ℕ) (t : List ℕ) (k : ℕ) (seen seen′ : List ℕ) → k < 16 → Met (ownAt job (entryAt t k)) seen seen′
+pub marked-from : (job : ℕ) (t : List ℕ) (k : ℕ) (seen seen′ : List ℕ) → k < tableEntries → Met (ownAt job (entryAt t k)) seen seen′
     → twice (drop (k + 1) (ownEntries job t)) ≡ false → Marked (drop (k + 1) (ownEntries job t)) seen
     → (twice (drop k (ownEntries job t)) ≡ false) × Marked (drop k (ownEntries job t)) seen′
 marked-from job t k seen seen′ h met once marked =

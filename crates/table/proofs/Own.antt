@@ -9,6 +9,7 @@ use mathlib.Core.Option.{Option, none, some}
 use lib.ListN.{length, getD, set}
 use lib.Dec.{ltb}
 use borrow.Author.Tests.{ltb-false, le-ltb}
+use Rattle.line.specs.Limits.{mostHeld}
 use Rattle.line.specs.Octets.{sameOctets}
 use Rattle.line.proofs.Octets.{sameOctets-eq, sameOctets-refl, same-test}
 use Rattle.station.specs.declared.Address.{Address}
@@ -74,12 +75,12 @@ module _ (a : Address) where
       let o = or-false (again m ms) (twice ms) once in
       ap₂ _||_ (again-more m ms i (le-of-suc-le-suc h) old (n .0) (o .0)) (twice-more ms i (le-of-suc-le-suc h) old (n .1) (o .1))
 
-  pub overfull-more : (ms : List (Option Address)) (i : ℕ) → i < length ms → getD ms i none ≡ none → among (a .0) ms ≡ false → held ms < 12
+  pub overfull-more : (ms : List (Option Address)) (i : ℕ) → i < length ms → getD ms i none ≡ none → among (a .0) ms ≡ false → held ms < mostHeld
       → overfull ms ≡ false → overfull (set ms i (some a)) ≡ false
   unfolding overfull
   overfull-more ms i h old new less fits =
       let one = held-more ms i h old in
-      ap₂ _||_ (le-ltb 12 (held (set ms i (some a))) (omega arith)) (twice-more ms i h old new (or-false (ltb 12 (held ms)) (twice ms) fits .1))
+      ap₂ _||_ (le-ltb mostHeld (held (set ms i (some a))) (omega arith)) (twice-more ms i h old new (or-false (ltb mostHeld (held ms)) (twice ms) fits .1))
 
 -- ---- an entry that is freed
 
@@ -115,6 +116,6 @@ twice-less (m ∷ ms) (suc i) h =
 pub overfull-less : (ms : List (Option Address)) (i : ℕ) → overfull ms ≡ false → overfull (set ms i none) ≡ false
 unfolding overfull
 overfull-less ms i fits =
-    let k = or-false (ltb 12 (held ms)) (twice ms) fits in
-    let few = ltb-false 12 (held ms) (k .0) in
-    ap₂ _||_ (le-ltb 12 (held (set ms i none)) (omega (arith, held-less ms i))) (twice-less ms i (k .1))
+    let k = or-false (ltb mostHeld (held ms)) (twice ms) fits in
+    let few = ltb-false mostHeld (held ms) (k .0) in
+    ap₂ _||_ (le-ltb mostHeld (held (set ms i none)) (omega (arith, held-less ms i))) (twice-less ms i (k .1))

@@ -10,6 +10,7 @@ use lib.Dec.{ltb}
 use borrow.Author.Tests.{lt-ltb}
 use Rattle.line.specs.declared.Found.{Found}
 use Rattle.line.specs.declared.Found.the-variants.{At, Nothing}
+use Rattle.line.specs.Limits.{tableEntries}
 use Rattle.line.specs.Octets.{sameOctets}
 use Rattle.station.specs.declared.Address.{Address}
 use Rattle.station.specs.declared.Settings.{Settings}
@@ -56,7 +57,7 @@ module _ (s : Settings) (ms : List (Option Address)) (d : List ℕ) where
 
 -- ---- it is at most 31, since there are 16 entries
 
-entry-le : (f : Found) (p : Bool) → ((i : ℕ) → f ≡ At i → i < 16) → entryWay f p ≤ 31
+entry-le : (f : Found) (p : Bool) → ((i : ℕ) → f ≡ At i → i < tableEntries) → entryWay f p ≤ 31
 entry-le (At i) p h = let k = h i refl in omega arith
 entry-le Nothing true h = omega arith
 entry-le Nothing false h = omega arith
@@ -68,7 +69,7 @@ at-most false true o false w h = omega arith
 at-most p false true on w h = omega arith
 at-most p false false on w h = h
 
-pub way-le : (s : Settings) (ms : List (Option Address)) (d : List ℕ) → length ms ≤ 16 → way s ms d ≤ 31
+pub way-le : (s : Settings) (ms : List (Option Address)) (d : List ℕ) → length ms ≤ tableEntries → way s ms d ≤ 31
 unfolding way
 way-le s ms d few =
     at-most (s .promiscuous) (sameOctets d broadcastAddress) (sameOctets d (s .own .0)) (s .broadcast) _

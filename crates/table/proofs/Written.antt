@@ -8,6 +8,7 @@ use lib.ListN.{length, getD, set, length-set}
 use lib.Seq.{sets, length-sets, take-all, getD-set-same, getD-set-other, ext-getD}
 use lib.Dec.{eqb, lit<}
 use borrow.Author.Tests.{eqb-true, eqb-false}
+use Rattle.line.specs.Limits.{tableEntries}
 use Rattle.line.proofs.Symbols.{by-test}
 use Rattle.fields.specs.Fields.{destination}
 use Rattle.table.specs.declared.Holder.{Holder}
@@ -117,7 +118,7 @@ holder-back Nobody = refl
 holder-back JobZero = refl
 holder-back JobOne = refl
 
-module _ (t : List ℕ) (k : ℕ) (e : Entry) (n : length t ≡ 128) (h : k < 16) (six : length (e .address .0) ≡ 6) where
+module _ (t : List ℕ) (k : ℕ) (e : Entry) (n : length t ≡ 128) (h : k < tableEntries) (six : length (e .address .0) ≡ 6) where
   abbrev o : List ℕ
   o = e .address .0
 
@@ -163,7 +164,7 @@ module _ (t : List ℕ) (k : ℕ) (e : Entry) (n : length t ≡ 128) (h : k < 16
       let same : length (entriesOf (putEntry t k e)) ≡ length (set (entriesOf t) k e) =
       entries-sixteen (putEntry t k e) ∙ sym (length-set (entriesOf t) k e ∙ entries-sixteen t) in
       ext-getD e (entriesOf (putEntry t k e)) (set (entriesOf t) k e) same
-      (λ i l. let inside : i < 16 = omega (arith, entries-sixteen (putEntry t k e)) in
+      (λ i l. let inside : i < tableEntries = omega (arith, entries-sixteen (putEntry t k e)) in
       entry-is (putEntry t k e) i e inside
       ∙ by-test (eqb i k)
       (λ q. let z : i ≡ k = eqb-true i k q in

@@ -8,6 +8,7 @@ use lib.Seq.{sets}
 use lib.Dec.{eqb, leb}
 use Rattle.line.specs.declared.Found.{Found}
 use Rattle.line.specs.declared.Found.the-variants.{At, Nothing}
+use Rattle.line.specs.Limits.{mostHeld}
 use Rattle.line.specs.Table.{Table, _⇒_, _∣_, otherwise, first}
 use Rattle.station.specs.declared.Address.{Address}
 use Rattle.station.specs.declared.Refusal.the-variants.{BadJob, HoldsTwelve, AllInUse, AlreadyListed, NotListed, BadTable}
@@ -59,7 +60,7 @@ addRefusals job es a =
     badJob job ⇒ Checked.Refused BadJob
     ∣ badTable es ⇒ Checked.Refused BadTable
     ∣ isListed a (mine job es) ⇒ Checked.Refused AlreadyListed
-    ∣ leb 12 (held (mine job es)) ⇒ Checked.Refused HoldsTwelve
+    ∣ leb mostHeld (held (mine job es)) ⇒ Checked.Refused HoldsTwelve
     ∣ not (isFound (freeEntry es)) ⇒ Checked.Refused AllInUse
     ∣ otherwise Fine
 

@@ -10,6 +10,7 @@ use lib.ListN.{getD}
 use lib.Dec.{eqb}
 use Rattle.line.specs.declared.Found.{Found}
 use Rattle.line.specs.declared.Found.the-variants.{At, Nothing}
+use Rattle.line.specs.Limits.{tableEntries}
 use Rattle.line.specs.Octets.{sameOctets}
 use Rattle.station.specs.declared.Address.{Address}
 use Rattle.table.specs.declared.Holder.{Holder}
@@ -37,7 +38,7 @@ entriesFrom k (suc n) t = entryAt t k ∷ entriesFrom (k + 1) n t
 
 -- "16 entries"
 unfoldable pub entriesOf : List ℕ → List Entry
-entriesOf t = entriesFrom 0 16 t
+entriesOf t = entriesFrom 0 tableEntries t
 
 -- ---- who holds an entry
 

@@ -4,6 +4,7 @@ use mathlib.Core.Bool.{Bool, false, _||_}
 use mathlib.Core.List.{List, [], _∷_}
 use mathlib.Core.Option.{Option, none, some}
 use lib.Dec.{ltb}
+use Rattle.line.specs.Limits.{mostHeld}
 use Rattle.station.specs.declared.Address.{Address}
 use Rattle.table.specs.declared.Entry.{Entry}
 use Rattle.table.specs.Entries.{mine, held, among}
@@ -24,7 +25,7 @@ twice (m ∷ ms) = again m ms || twice ms
 
 -- "a job holds above 12 or has an address twice"
 unfoldable pub overfull : List (Option Address) → Bool
-overfull ms = ltb 12 (held ms) || twice ms
+overfull ms = ltb mostHeld (held ms) || twice ms
 
 -- 20: "a table where" either job does
 unfoldable pub badTable : List Entry → Bool

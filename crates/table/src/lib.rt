@@ -3,6 +3,8 @@
 // The caller lends its 128 octets, eight for each of 16 entries: who holds it (0 nobody, 1 job 0, 2 job 1, any other nobody), the six of the address,
 // and a spare one. `f` is always a whole frame.
 use line::Found;
+use line::MOST_HELD;
+use line::TABLE_ENTRIES;
 use station::Address;
 use station::Checked;
 use station::Refusal;
@@ -13,6 +15,7 @@ ghost use Prim.Native.Nat.{ℕ, _≤_, _<_, _+_, _*_};
 ghost use lib.ListN.{length, getD, drop};
 ghost use Rattle.fields.specs.Fields.{destination};
 ghost use Rattle.table.specs.Entries.{holderBy, addressAt, entryAt, entriesOf, isHeld, isFree, freeEntry, ownAt, ownEntries, held, names, firstMine, isFound};
+ghost use Rattle.line.specs.Limits.{tableEntries};
 ghost use Rattle.line.specs.Table.{first};
 ghost use Rattle.table.specs.Calls.{emptyTable, freed, taken, holderOctet, putEntry, addRefusals, removeRefusals, change, putAt, changed, added, removed};
 ghost use Rattle.table.specs.Tests.{badJob, again, twice, overfull, badTable};
@@ -53,7 +56,7 @@ fn holder_by(octet: u8) -> Holder
 
 // Whether a job holds entry k, by the entry's first octet.
 fn holds_at(job: u8, t: &[u8; 128], k: usize) -> bool
-    requires { ⌜ k < 16 ⌝ }
+    requires { ⌜ k < tableEntries ⌝ }
     ensures { λ r. ⌜ r ≡ isHeld job (entryAt (now (t .entry)) k .holder) ⌝ }
 {
     if 1 < job {
@@ -74,7 +77,7 @@ fn address_at(t: &[u8; 128], at: usize) -> Address
 
 // Whether entry k lists a frame's destination for a job.
 fn names_at(job: u8, t: &[u8; 128], k: usize, f: &[u8]) -> bool
-    requires { ⌜ k < 16 ⌝ }
+    requires { ⌜ k < tableEntries ⌝ }
     ensures { λ r. ⌜ r ≡ names (destination (now (f .entry))) (ownAt job (entryAt (now (t .entry)) k)) ⌝ }
 {
     if !holds_at(job, t, k) {
@@ -86,12 +89,12 @@ fn names_at(job: u8, t: &[u8; 128], k: usize, f: &[u8]) -> bool
 
 // The first entry at `from` or later that lists a frame's destination for a job.
 fn find_from(job: u8, t: &[u8; 128], from: usize, f: &[u8]) -> Found
-    requires { ⌜ from ≤ 16 ⌝ }
+    requires { ⌜ from ≤ tableEntries ⌝ }
     ensures { λ r. ⌜ (r ≡ firstMine (destination (now (f .entry))) from (drop from (ownEntries job (now (t .entry)))))
-        × ((i : ℕ) → r ≡ Found.At i → i < 16) ⌝ }
+        × ((i : ℕ) → r ≡ Found.At i → i < tableEntries) ⌝ }
 {
     let mut k = from;
-    while k < 16 {
+    while k < TABLE_ENTRIES {
         if names_at(job, t, k, f) {
             return Found::At(k);
         }
@@ -138,7 +141,7 @@ fn otherwise_way(promiscuous: bool) -> u8
 
 // 16 and the entry.
 fn entry_way(found: Found, promiscuous: bool) -> u8
-    requires { ⌜ ((i : ℕ) → found ≡ Found.At i → i < 16) ⌝ }
+    requires { ⌜ ((i : ℕ) → found ≡ Found.At i → i < tableEntries) ⌝ }
     ensures { λ r. ⌜ r ≡ entryWay found promiscuous ⌝ }
 {
     let Found::At(k) = found else {
@@ -186,7 +189,7 @@ pub fn holds(job: u8, t: &[u8; 128]) -> usize
 {
     let mut n: usize = 0;
     let mut k: usize = 0;
-    while k < 16 {
+    while k < TABLE_ENTRIES {
         n += one_if(holds_at(job, t, k));
         k += 1;
     }
@@ -195,7 +198,7 @@ pub fn holds(job: u8, t: &[u8; 128]) -> usize
 
 // Whether a job holds entry k and lists its address by a later one too.
 fn again(job: u8, t: &[u8; 128], k: usize) -> bool
-    requires { ⌜ k < 16 ⌝ }
+    requires { ⌜ k < tableEntries ⌝ }
     ensures { λ r. ⌜ r ≡ again (ownAt job (entryAt (now (t .entry)) k)) (drop (k + 1) (ownEntries job (now (t .entry)))) ⌝ }
 {
     if !holds_at(job, t, k) {
@@ -208,7 +211,7 @@ fn again(job: u8, t: &[u8; 128], k: usize) -> bool
 
 // The last octet of an entry's address.
 fn last_octet(t: &[u8; 128], k: usize) -> u8
-    requires { ⌜ k < 16 ⌝ }
+    requires { ⌜ k < tableEntries ⌝ }
     ensures { λ r. ⌜ r ≡ getD (now (t .entry)) (8 * k + 6) 0 ⌝ }
 {
     t[8 * k + 6]
@@ -216,7 +219,7 @@ fn last_octet(t: &[u8; 128], k: usize) -> u8
 
 // Marks the last octet of entry k's address, if the entry is the job's. Whether it was marked before.
 fn met(job: u8, t: &[u8; 128], k: usize, seen: &mut [u8; 256]) -> bool
-    requires { ⌜ k < 16 ⌝ }
+    requires { ⌜ k < tableEntries ⌝ }
     ensures { λ r. ⌜ (r ≡ false → Met (ownAt job (entryAt (now (t .entry)) k)) (now (seen .entry)) (now (seen .exit))) ⌝ }
 {
     if !holds_at(job, t, k) {
@@ -235,7 +238,7 @@ fn ends_differ(job: u8, t: &[u8; 128]) -> bool
     ensures { λ r. ⌜ (r ≡ true → twice (ownEntries job (now (t .entry))) ≡ false) ⌝ }
 {
     let mut seen = [0u8; 256];
-    let mut k: usize = 16;
+    let mut k: usize = TABLE_ENTRIES;
     while 0 < k {
         k -= 1;
         if met(job, t, k, &mut seen) {
@@ -253,7 +256,7 @@ fn has_twice(job: u8, t: &[u8; 128]) -> bool
         return false;
     }
     let mut k: usize = 0;
-    while k < 16 {
+    while k < TABLE_ENTRIES {
         if again(job, t, k) {
             return true;
         }
@@ -265,7 +268,7 @@ fn has_twice(job: u8, t: &[u8; 128]) -> bool
 fn is_overfull(job: u8, t: &[u8; 128]) -> bool
     ensures { λ r. ⌜ r ≡ overfull (ownEntries job (now (t .entry))) ⌝ }
 {
-    if 12 < holds(job, t) {
+    if MOST_HELD < holds(job, t) {
         return true;
     }
     has_twice(job, t)
@@ -313,7 +316,7 @@ pub fn empty() -> [u8; 128]
 pub fn entry_of(t: &[u8; 128], k: usize) -> Entry
     ensures { λ r. ⌜ r ≡ getD (entriesOf (now (t .entry))) k freed ⌝ }
 {
-    if 16 <= k {
+    if TABLE_ENTRIES <= k {
         return Entry {
             holder: Holder::Nobody,
             address: Address([0u8; 6]),
@@ -336,10 +339,10 @@ fn is_free(holder: Holder) -> bool
 
 // The lowest free entry.
 fn free_entry(t: &[u8; 128]) -> Found
-    ensures { λ r. ⌜ (r ≡ freeEntry (entriesOf (now (t .entry)))) × ((i : ℕ) → r ≡ Found.At i → i < 16) ⌝ }
+    ensures { λ r. ⌜ (r ≡ freeEntry (entriesOf (now (t .entry)))) × ((i : ℕ) → r ≡ Found.At i → i < tableEntries) ⌝ }
 {
     let mut k: usize = 0;
-    while k < 16 {
+    while k < TABLE_ENTRIES {
         let holder = holder_by(t[8 * k]);
         if is_free(holder) {
             return Found::At(k);
@@ -351,7 +354,7 @@ fn free_entry(t: &[u8; 128]) -> Found
 
 // The entry by which a job lists an address.
 fn find_address(job: u8, t: &[u8; 128], a: Address) -> Found
-    ensures { λ r. ⌜ (r ≡ firstMine (a .0) 0 (ownEntries job (now (t .entry)))) × ((i : ℕ) → r ≡ Found.At i → i < 16) ⌝ }
+    ensures { λ r. ⌜ (r ≡ firstMine (a .0) 0 (ownEntries job (now (t .entry)))) × ((i : ℕ) → r ≡ Found.At i → i < tableEntries) ⌝ }
 {
     let octets = a.0;
     find_from(job, t, 0, &octets)
@@ -370,7 +373,7 @@ fn check_add(job: u8, t: &[u8; 128], a: Address, free: Found) -> Checked
     if is_found(find_address(job, t, a)) {
         return Checked::Refused(Refusal::AlreadyListed);
     }
-    if 12 <= holds(job, t) {
+    if MOST_HELD <= holds(job, t) {
         return Checked::Refused(Refusal::HoldsTwelve);
     }
     if !is_found(free) {
@@ -423,7 +426,7 @@ fn holder_octet(holder: Holder) -> u8
 
 // Eight octets: an entry in its place.
 fn put_entry(t: &mut [u8; 128], k: usize, e: Entry)
-    requires { ⌜ k < 16 ⌝ }
+    requires { ⌜ k < tableEntries ⌝ }
     ensures { λ _. ⌜ now (t .exit) ≡ putEntry (now (t .entry)) k e ⌝ }
 {
     let holder = e.holder;
@@ -442,7 +445,7 @@ fn put_entry(t: &mut [u8; 128], k: usize, e: Entry)
 
 // An entry in the place that was found.
 fn put_at(found: Found, t: &mut [u8; 128], e: Entry) -> Placed
-    requires { ⌜ ((i : ℕ) → found ≡ Found.At i → i < 16) ⌝ }
+    requires { ⌜ ((i : ℕ) → found ≡ Found.At i → i < tableEntries) ⌝ }
     ensures { λ r. ⌜ change r (now (t .exit)) ≡ putAt found (now (t .entry)) e ⌝ }
 {
     let Found::At(k) = found else {
@@ -454,7 +457,7 @@ fn put_at(found: Found, t: &mut [u8; 128], e: Entry) -> Placed
 
 // Refused, or an entry in the place that was found.
 fn changed(checked: Checked, found: Found, t: &mut [u8; 128], e: Entry) -> Placed
-    requires { ⌜ ((i : ℕ) → found ≡ Found.At i → i < 16) ⌝ }
+    requires { ⌜ ((i : ℕ) → found ≡ Found.At i → i < tableEntries) ⌝ }
     ensures { λ r. ⌜ change r (now (t .exit)) ≡ changed checked found (now (t .entry)) e ⌝ }
 {
     if let Checked::Refused(x) = checked {

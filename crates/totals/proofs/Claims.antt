@@ -10,6 +10,7 @@ use mathlib.Core.List.{List, [], _∷_}
 use lib.ListN.{length, take, drop, length-take}
 use lib.Dec.{ltb}
 use borrow.Author.Tests.{eq-eqb, le-ltb, ltb-true, ltb-false}
+use Rattle.line.specs.Limits.{blockSize, mostTotal}
 use Rattle.line.specs.Line.{Symbol, capture, isStart, startCount}
 use Rattle.line.specs.Table.{first}
 use Rattle.line.proofs.Symbols.{by-test, starts-start, starts-other}
@@ -52,13 +53,13 @@ starts-few (x ∷ c) =
     let ih = starts-few c in
     by-test (isStart x) (λ h. let e = starts-start x c h in omega arith) (λ h. let e = starts-other x c h in omega arith)
 
-block-low : (c : List Symbol) (k : ℕ) → ltb 256 (blockTotal c k) ≡ false
+block-low : (c : List Symbol) (k : ℕ) → ltb mostTotal (blockTotal c k) ≡ false
 unfolding blockTotal
 block-low c k =
-    let block : List Symbol = take 256 (drop (256 * k) c) in
+    let block : List Symbol = take blockSize (drop (blockSize * k) c) in
     let s = starts-few block in
-    let n = length-take 256 (drop (256 * k) c) in
-    le-ltb 256 (startCount block) (omega arith)
+    let n = length-take blockSize (drop (blockSize * k) c) in
+    le-ltb mostTotal (startCount block) (omega arith)
 
 from-low : (c : List Symbol) (k n : ℕ) → highTotal (totalsFrom c k n) ≡ false
 unfolding totalsFrom highTotal
@@ -114,12 +115,12 @@ fill-refused-none os ms ts h = fill-none (first (fillRefusals os ms ts)) os ms t
 
 -- ---- "the blocks it writes into": a block is written into exactly if one of the places from `from` up to `to` lies in it
 
-pub written-into-is : (from to k : ℕ) → (writtenInto from to k ≡ true) ↔ ((p : ℕ) × (from ≤ p) × (p < to) × (p / 256 ≡ k))
+pub written-into-is : (from to k : ℕ) → (writtenInto from to k ≡ true) ↔ ((p : ℕ) × (from ≤ p) × (p < to) × (p / blockSize ≡ k))
 written-into-is from to k = (
   λ w. let x = was-into from to k w in
-      by-test (ltb from (256 * k))
-      (λ t. let low = ltb-true from (256 * k) t in (256 * k, omega arith, omega arith, omega arith))
-      (λ t. let high = ltb-false from (256 * k) t in (from, omega arith, omega arith, omega arith)),
+      by-test (ltb from (blockSize * k))
+      (λ t. let low = ltb-true from (blockSize * k) t in (blockSize * k, omega arith, omega arith, omega arith))
+      (λ t. let high = ltb-false from (blockSize * k) t in (from, omega arith, omega arith, omega arith)),
   λ s. let a = s .1 in
       let b = s .2 in
       let e = s .3 in

@@ -11,6 +11,7 @@ use lib.ListN.{length, getD, set, take, drop, length-append, length-take, length
 use lib.Seq.{take-add, take-all, take-append-le, drop-append-le, drop-append-add, take-at, drop-at, drop-drop, take-take, getD-set-same, getD-set-other, ext-getD, take-nil, drop-nil}
 use lib.Dec.{eqb, ltb}
 use borrow.Author.Tests.{lt-ltb, le-ltb, ltb-true, ltb-false, eqb-true, eqb-false}
+use Rattle.line.specs.Limits.{blockSize}
 use Rattle.line.specs.Line.{Symbol, capture, isStart, startCount, overwrite}
 use Rattle.line.proofs.Overwrite.{overwrite-none, length-overwrite}
 use Rattle.line.proofs.Symbols.{by-test, starts-start, starts-other}
@@ -66,34 +67,35 @@ getD-from c k (suc n) zero h = ap (blockTotal c) (omega arith)
 getD-from c k (suc n) (suc i) h = getD-from c (k + 1) n i (le-of-suc-le-suc h) ∙ ap (blockTotal c) (omega arith)
 
 -- m totals from block k on are the Starts of their 256 × m symbols
-sum-from : (c : List Symbol) (k n m : ℕ) → m ≤ n → startCount (take (256 * k) c) + total (take m (totalsFrom c k n)) ≡ startCount (take (256 * (k + m)) c)
+sum-from : (c : List Symbol) (k n m : ℕ) → m ≤ n
+    → startCount (take (blockSize * k) c) + total (take m (totalsFrom c k n)) ≡ startCount (take (blockSize * (k + m)) c)
 unfolding totalsFrom total
-sum-from c k n zero h = omega (arith, ap (λ (j : ℕ). startCount (take (256 * j) c)) (let e : k + 0 ≡ k = omega arith in e))
+sum-from c k n zero h = omega (arith, ap (λ (j : ℕ). startCount (take (blockSize * j) c)) (let e : k + 0 ≡ k = omega arith in e))
 sum-from c k zero (suc m) h = absurd (not-suc-le-zero h)
 sum-from c k (suc n) (suc m) h =
     let ih = sum-from c (k + 1) n m (le-of-suc-le-suc h) in
-    let one : startCount (take (256 * (k + 1)) c) ≡ startCount (take (256 * k) c) + blockTotal c k =
-    ap (λ (j : ℕ). startCount (take j c)) (let e : 256 * (k + 1) ≡ 256 * k + 256 = omega arith in e)
-    ∙ split-count c (256 * k) 256 ∙ (unfold blockTotal in refl) in
-    let last : startCount (take (256 * (k + 1 + m)) c) ≡ startCount (take (256 * (k + suc m)) c) =
-    ap (λ (j : ℕ). startCount (take (256 * j) c)) (let e : k + 1 + m ≡ k + suc m = omega arith in e) in
+    let one : startCount (take (blockSize * (k + 1)) c) ≡ startCount (take (blockSize * k) c) + blockTotal c k =
+    ap (λ (j : ℕ). startCount (take j c)) (let e : blockSize * (k + 1) ≡ blockSize * k + blockSize = omega arith in e)
+    ∙ split-count c (blockSize * k) blockSize ∙ (unfold blockTotal in refl) in
+    let last : startCount (take (blockSize * (k + 1 + m)) c) ≡ startCount (take (blockSize * (k + suc m)) c) =
+    ap (λ (j : ℕ). startCount (take (blockSize * j) c)) (let e : k + 1 + m ≡ k + suc m = omega arith in e) in
     omega arith
 
 -- "equals a count over everything before the place": "right whenever the totals are true"
 pub right : (c : List Symbol) (ts : List ℕ) (place : ℕ) → ts ≡ trueTotals c → place ≤ length c → answer ts c place ≡ startsBefore c place
 unfolding answer startsBefore startsIn trueTotals
 right c ts place e h =
-    let m : ℕ = place / 256 in
+    let m : ℕ = place / blockSize in
     let whole : m ≤ blocks (length c) = omega arith in
     let sum = sum-from c 0 (blocks (length c)) m whole in
-    let none : startCount (take (256 * 0) c) ≡ 0 = (unfold startCount in refl) in
-    let at : 256 * (0 + m) ≡ 256 * m = omega arith in
-    let sum′ : total (take m (totalsFrom c 0 (blocks (length c)))) ≡ startCount (take (256 * m) c) =
+    let none : startCount (take (blockSize * 0) c) ≡ 0 = (unfold startCount in refl) in
+    let at : blockSize * (0 + m) ≡ blockSize * m = omega arith in
+    let sum′ : total (take m (totalsFrom c 0 (blocks (length c)))) ≡ startCount (take (blockSize * m) c) =
     (let z = ap (λ (j : ℕ). startCount (take j c)) at in omega arith) in
-    let rest : 256 * m + (place - 256 * m) ≡ place = omega arith in
-    ap (λ (l : List ℕ). total (take m l) + startCount (take (place - 256 * m) (drop (256 * m) c))) e
-    ∙ ap (λ (n : ℕ). n + startCount (take (place - 256 * m) (drop (256 * m) c))) sum′
-    ∙ sym (split-count c (256 * m) (place - 256 * m))
+    let rest : blockSize * m + (place - blockSize * m) ≡ place = omega arith in
+    ap (λ (l : List ℕ). total (take m l) + startCount (take (place - blockSize * m) (drop (blockSize * m) c))) e
+    ∙ ap (λ (n : ℕ). n + startCount (take (place - blockSize * m) (drop (blockSize * m) c))) sum′
+    ∙ sym (split-count c (blockSize * m) (place - blockSize * m))
     ∙ ap (λ (j : ℕ). startCount (take j c)) rest
 
 -- ---- totals made new
@@ -125,29 +127,29 @@ unfolding recounted
 length-recounted c from to ts = length-renewed (writtenInto from to) (blockTotal c) 0 ts
 
 -- which blocks are written into
-pub into : (from to k : ℕ) → from < to → from < 256 * (k + 1) → 256 * k < to → writtenInto from to k ≡ true
+pub into : (from to k : ℕ) → from < to → from < blockSize * (k + 1) → blockSize * k < to → writtenInto from to k ≡ true
 unfolding writtenInto
 into from to k a b d = rw (lt-ltb _ _ a, lt-ltb _ _ b, lt-ltb _ _ d)
 
-pub into-not : (from to k : ℕ) → (from < to → from < 256 * (k + 1) → 256 * k < to → ⊥) → writtenInto from to k ≡ false
+pub into-not : (from to k : ℕ) → (from < to → from < blockSize * (k + 1) → blockSize * k < to → ⊥) → writtenInto from to k ≡ false
 unfolding writtenInto
 into-not from to k never =
     by-test (ltb from to)
-    (λ a. by-test (ltb from (256 * (k + 1)))
-    (λ b. by-test (ltb (256 * k) to)
+    (λ a. by-test (ltb from (blockSize * (k + 1)))
+    (λ b. by-test (ltb (blockSize * k) to)
     (λ d. absurd (never (ltb-true _ _ a) (ltb-true _ _ b) (ltb-true _ _ d)))
     (λ d. rw (a, b, d)))
     (λ b. rw (a, b)))
     (λ a. rw a)
 
-pub was-into : (from to k : ℕ) → writtenInto from to k ≡ true → (from < to) × (from < 256 * (k + 1)) × (256 * k < to)
+pub was-into : (from to k : ℕ) → writtenInto from to k ≡ true → (from < to) × (from < blockSize * (k + 1)) × (blockSize * k < to)
 unfolding writtenInto
 was-into from to k w =
     let x : Bool = ltb from to in
-    let y : Bool = ltb from (256 * (k + 1)) in
-    let z : Bool = ltb (256 * k) to in
+    let y : Bool = ltb from (blockSize * (k + 1)) in
+    let z : Bool = ltb (blockSize * k) to in
     let yz = and-right x (y && z) w in
-    (ltb-true from to (and-left x (y && z) w), ltb-true from (256 * (k + 1)) (and-left y z yz), ltb-true (256 * k) to (and-right y z yz))
+    (ltb-true from to (and-left x (y && z) w), ltb-true from (blockSize * (k + 1)) (and-left y z yz), ltb-true (blockSize * k) to (and-right y z yz))
 
 lower : (i k : ℕ) → (i ≡ k → ⊥) → i ≤ k → i < k
 lower i k q h = omega arith
@@ -200,16 +202,17 @@ block-kept : (c : List Symbol) (at : ℕ) (new : List Symbol) (k : ℕ) → at +
     → blockTotal (overwrite c at new) k ≡ blockTotal c k
 unfolding blockTotal
 block-kept c at new k inside e =
-    by-test (ltb at (256 * (k + 1)))
-    (λ b. by-test (ltb (256 * k) (at + length new))
+    by-test (ltb at (blockSize * (k + 1)))
+    (λ b. by-test (ltb (blockSize * k) (at + length new))
     (λ d. by-test (ltb at (at + length new))
     (λ a. absurd (true≢false (sym (into at (at + length new) k (ltb-true _ _ a) (ltb-true _ _ b) (ltb-true _ _ d)) ∙ e)))
     (λ a. let z : at + length new ≤ at = ltb-false at (at + length new) a in
     let none : length new ≤ 0 = omega arith in
-    ap (λ (l : List Symbol). startCount (take 256 (drop (256 * k) (overwrite c at l)))) (empty new none)
-    ∙ ap (λ (l : List Symbol). startCount (take 256 (drop (256 * k) l))) (overwrite-none c at)))
-    (λ d. ap (λ (l : List Symbol). startCount (take 256 l)) (behind-kept c at new (256 * k) (ltb-false _ _ d) inside)))
-    (λ b. ap startCount (before-kept c at new (256 * k) 256 (let z : 256 * (k + 1) ≤ at = ltb-false at (256 * (k + 1)) b in omega arith) (omega arith)))
+    ap (λ (l : List Symbol). startCount (take blockSize (drop (blockSize * k) (overwrite c at l)))) (empty new none)
+    ∙ ap (λ (l : List Symbol). startCount (take blockSize (drop (blockSize * k) l))) (overwrite-none c at)))
+    (λ d. ap (λ (l : List Symbol). startCount (take blockSize l)) (behind-kept c at new (blockSize * k) (ltb-false _ _ d) inside)))
+    (λ b. ap startCount (before-kept c at new (blockSize * k) blockSize
+    (let z : blockSize * (k + 1) ≤ at = ltb-false at (blockSize * (k + 1)) b in omega arith) (omega arith)))
 
 -- counted anew, true totals stay true
 pub stay-true : (c : List Symbol) (at : ℕ) (new : List Symbol) (ts : List ℕ) → at + length new ≤ length c → ts ≡ trueTotals c
@@ -268,63 +271,65 @@ unfolding startsIn startCount
 none-left c i to h = ap (λ (n : ℕ). startCount (take n (drop i c))) (let e : to - i ≡ 0 = omega arith in e)
 
 -- a whole block, and a last short one
-pub block-is : (c : List Symbol) (k to : ℕ) → to ≡ 256 * k + 256 → startsIn c (256 * k) to ≡ blockTotal c k
+pub block-is : (c : List Symbol) (k to : ℕ) → to ≡ blockSize * k + blockSize → startsIn c (blockSize * k) to ≡ blockTotal c k
 unfolding startsIn blockTotal
-block-is c k to e = ap (λ (n : ℕ). startCount (take n (drop (256 * k) c))) (let h : to - 256 * k ≡ 256 = omega arith in h)
+block-is c k to e = ap (λ (n : ℕ). startCount (take n (drop (blockSize * k) c))) (let h : to - blockSize * k ≡ blockSize = omega arith in h)
 
-pub short-block : (c : List Symbol) (k to : ℕ) → to ≡ length c → to ≤ 256 * k + 256 → startsIn c (256 * k) to ≡ blockTotal c k
+pub short-block : (c : List Symbol) (k to : ℕ) → to ≡ length c → to ≤ blockSize * k + blockSize → startsIn c (blockSize * k) to ≡ blockTotal c k
 unfolding startsIn blockTotal
 short-block c k to e h =
-    let l : List Symbol = drop (256 * k) c in
-    let n : length l ≡ length c - 256 * k = length-drop (256 * k) c in
-    ap startCount (take-all (to - 256 * k) l (omega arith) ∙ sym (take-all 256 l (omega arith)))
+    let l : List Symbol = drop (blockSize * k) c in
+    let n : length l ≡ length c - blockSize * k = length-drop (blockSize * k) c in
+    ap startCount (take-all (to - blockSize * k) l (omega arith) ∙ sym (take-all blockSize l (omega arith)))
 
 -- blocks counted up to block k, and up to the next
-pub begin : (c : List Symbol) (from : ℕ) (ts : List ℕ) → recounted c from (256 * (from / 256)) ts ≡ ts
+pub begin : (c : List Symbol) (from : ℕ) (ts : List ℕ) → recounted c from (blockSize * (from / blockSize)) ts ≡ ts
 begin c from ts =
-    ext-getD 0 (recounted c from (256 * (from / 256)) ts) ts (length-recounted c from (256 * (from / 256)) ts)
-    (λ i h. untouched c from _ ts i (let n = length-recounted c from (256 * (from / 256)) ts in omega arith) (into-not from _ i (λ a b d. omega arith)))
+    ext-getD 0 (recounted c from (blockSize * (from / blockSize)) ts) ts (length-recounted c from (blockSize * (from / blockSize)) ts)
+    (λ i h. untouched c from _ ts i (let n = length-recounted c from (blockSize * (from / blockSize)) ts in omega arith)
+    (into-not from _ i (λ a b d. omega arith)))
 
-pub turn : (c : List Symbol) (from k : ℕ) (ts : List ℕ) → from / 256 ≤ k → k < length ts
-    → set (recounted c from (256 * k) ts) k (blockTotal c k) ≡ recounted c from (256 * (k + 1)) ts
+pub turn : (c : List Symbol) (from k : ℕ) (ts : List ℕ) → from / blockSize ≤ k → k < length ts
+    → set (recounted c from (blockSize * k) ts) k (blockTotal c k) ≡ recounted c from (blockSize * (k + 1)) ts
 turn c from k ts low high =
-    let a : List ℕ = recounted c from (256 * k) ts in
-    let n = length-recounted c from (256 * k) ts in
-    let n′ = length-recounted c from (256 * (k + 1)) ts in
+    let a : List ℕ = recounted c from (blockSize * k) ts in
+    let n = length-recounted c from (blockSize * k) ts in
+    let n′ = length-recounted c from (blockSize * (k + 1)) ts in
     let s = length-set a k (blockTotal c k) in
-    ext-getD 0 (set a k (blockTotal c k)) (recounted c from (256 * (k + 1)) ts) (omega arith)
+    ext-getD 0 (set a k (blockTotal c k)) (recounted c from (blockSize * (k + 1)) ts) (omega arith)
     (λ i h. let lt : i < length ts = omega arith in
     by-test (eqb i k)
     (λ e. let q : i ≡ k = eqb-true i k e in
     ap (λ (j : ℕ). getD (set a k (blockTotal c k)) j 0) q
     ∙ getD-set-same a k (blockTotal c k) 0 (omega arith)
     ∙ ap (blockTotal c) (sym q)
-    ∙ sym (getD-recounted c from (256 * (k + 1)) ts i lt
-    ∙ ap (λ (b : Bool). cond b (blockTotal c i) (getD ts i 0)) (into from (256 * (k + 1)) i (omega arith) (omega arith) (omega arith))))
+    ∙ sym (getD-recounted c from (blockSize * (k + 1)) ts i lt
+    ∙ ap (λ (b : Bool). cond b (blockTotal c i) (getD ts i 0)) (into from (blockSize * (k + 1)) i (omega arith) (omega arith) (omega arith))))
     (λ e. let q : i ≡ k → ⊥ = eqb-false i k e in
     getD-set-other a k i (blockTotal c k) 0 q
-    ∙ getD-recounted c from (256 * k) ts i lt
+    ∙ getD-recounted c from (blockSize * k) ts i lt
     ∙ ap (λ (b : Bool). cond b (blockTotal c i) (getD ts i 0)) (same-into i q)
-    ∙ sym (getD-recounted c from (256 * (k + 1)) ts i lt)))
+    ∙ sym (getD-recounted c from (blockSize * (k + 1)) ts i lt)))
   where
-    same-into : (i : ℕ) → (i ≡ k → ⊥) → writtenInto from (256 * k) i ≡ writtenInto from (256 * (k + 1)) i
+    same-into : (i : ℕ) → (i ≡ k → ⊥) → writtenInto from (blockSize * k) i ≡ writtenInto from (blockSize * (k + 1)) i
     same-into i q =
-        by-test (writtenInto from (256 * k) i)
-        (λ w. let x = was-into from (256 * k) i w in w ∙ sym (into from (256 * (k + 1)) i (omega arith) (omega arith) (omega arith)))
-        (λ w. w ∙ sym (into-not from (256 * (k + 1)) i
-        (λ x y z. let ne : i < k = lower i k q (omega arith) in true≢false (sym (into from (256 * k) i (omega arith) y (omega arith)) ∙ w))))
+        by-test (writtenInto from (blockSize * k) i)
+        (λ w. let x = was-into from (blockSize * k) i w in w ∙ sym (into from (blockSize * (k + 1)) i (omega arith) (omega arith) (omega arith)))
+        (λ w. w ∙ sym (into-not from (blockSize * (k + 1)) i
+        (λ x y z. let ne : i < k = lower i k q (omega arith) in true≢false (sym (into from (blockSize * k) i (omega arith) y (omega arith)) ∙ w))))
 
-pub end : (c : List Symbol) (from to k : ℕ) (ts : List ℕ) → from < to → k ≡ (to - 1) / 256 + 1 → recounted c from (256 * k) ts ≡ recounted c from to ts
+pub end : (c : List Symbol) (from to k : ℕ) (ts : List ℕ) → from < to → k ≡ (to - 1) / blockSize + 1
+    → recounted c from (blockSize * k) ts ≡ recounted c from to ts
 end c from to k ts lt e =
-    let n = length-recounted c from (256 * k) ts in
+    let n = length-recounted c from (blockSize * k) ts in
     let n′ = length-recounted c from to ts in
-    ext-getD 0 (recounted c from (256 * k) ts) (recounted c from to ts) (omega arith)
-    (λ i h. getD-recounted c from (256 * k) ts i (omega arith)
+    ext-getD 0 (recounted c from (blockSize * k) ts) (recounted c from to ts) (omega arith)
+    (λ i h. getD-recounted c from (blockSize * k) ts i (omega arith)
     ∙ ap (λ (b : Bool). cond b (blockTotal c i) (getD ts i 0)) (same-into i)
     ∙ sym (getD-recounted c from to ts i (omega arith)))
   where
-    same-into : (i : ℕ) → writtenInto from (256 * k) i ≡ writtenInto from to i
+    same-into : (i : ℕ) → writtenInto from (blockSize * k) i ≡ writtenInto from to i
     same-into i =
         by-test (writtenInto from to i)
-        (λ w. let x = was-into from to i w in into from (256 * k) i (omega arith) (omega arith) (omega arith) ∙ sym w)
-        (λ w. into-not from (256 * k) i (λ x y z. true≢false (sym (into from to i lt y (omega arith)) ∙ w)) ∙ sym w)
+        (λ w. let x = was-into from to i w in into from (blockSize * k) i (omega arith) (omega arith) (omega arith) ∙ sym w)
+        (λ w. into-not from (blockSize * k) i (λ x y z. true≢false (sym (into from to i lt y (omega arith)) ∙ w)) ∙ sym w)

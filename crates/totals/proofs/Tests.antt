@@ -9,6 +9,7 @@ use lib.ListN.{length, getD, take, drop, drop-of-length-le}
 use lib.Seq.{take-suc, drop-cons}
 use lib.Dec.{eqb, ltb}
 use borrow.Author.Tests.{eqb-true, ltb-false}
+use Rattle.line.specs.Limits.{mostSymbols, mostTotal}
 use Rattle.line.specs.Table.{first}
 use Rattle.station.specs.declared.Checked.the-variants.{Fine}
 use Rattle.station.specs.declared.Refusal.the-variants.{BadBuffers, BadPlace, WrongTotals, HighTotal}
@@ -18,11 +19,11 @@ use Rattle.totals.specs.Totals.{blocks, wrongTotals, highTotal, beforeRe
 
 -- ---- what a row that does not hold tells
 
-pub same-length : (os ms : List ℕ) → badBuffers os ms ≡ false → (length os ≡ length ms) × (length os ≤ 65536)
+pub same-length : (os ms : List ℕ) → badBuffers os ms ≡ false → (length os ≡ length ms) × (length os ≤ mostSymbols)
 unfolding badBuffers
 same-length os ms h =
-    let both = or-false (not (eqb (length os) (length ms))) (ltb 65536 (length os)) h in
-    (eqb-true (length os) (length ms) (not-false (eqb (length os) (length ms)) (both .0)), ltb-false 65536 (length os) (both .1))
+    let both = or-false (not (eqb (length os) (length ms))) (ltb mostSymbols (length os)) h in
+    (eqb-true (length os) (length ms) (not-false (eqb (length os) (length ms)) (both .0)), ltb-false mostSymbols (length os) (both .1))
 
 pub within : (os : List ℕ) (place : ℕ) → badPlace os place ≡ false → place ≤ length os
 unfolding badPlace
@@ -35,7 +36,7 @@ as-many os ts h = eqb-true (length ts) (blocks (length os)) (not-false (eqb (len
 -- what a call knows that is not refused
 pub record Known (os ms : List ℕ) (place : ℕ) (ts : List ℕ) : Type 0 where
   pub even : length os ≡ length ms
-  pub small : length os ≤ 65536
+  pub small : length os ≤ mostSymbols
   pub inside : place ≤ length os
   pub count : length ts ≡ blocks (length os)
   pub low : highTotal ts ≡ false
@@ -59,11 +60,12 @@ known-fill os ms ts h =
 
 -- ---- one turn of the search for a total above 256
 
-pub high-turn : (b : Bool) (ts : List ℕ) (i : ℕ) → i < length ts → (b || ltb 256 (getD ts i 0) || highTotal (drop (i + 1) ts)) ≡ (b || highTotal (drop i ts))
+pub high-turn : (b : Bool) (ts : List ℕ) (i : ℕ) → i < length ts
+    → (b || ltb mostTotal (getD ts i 0) || highTotal (drop (i + 1) ts)) ≡ (b || highTotal (drop i ts))
 unfolding highTotal
 high-turn true ts i h = refl
 high-turn false ts i h =
-    ap (λ (n : ℕ). ltb 256 (getD ts i 0) || highTotal (drop n ts)) (add-one i)
+    ap (λ (n : ℕ). ltb mostTotal (getD ts i 0) || highTotal (drop n ts)) (add-one i)
     ∙ sym (ap highTotal (drop-cons ts i 0 h))
 
 pub high-end : (b : Bool) (ts : List ℕ) (i : ℕ) → length ts ≤ i → (b || highTotal (drop i ts)) ≡ b
@@ -72,11 +74,11 @@ high-end true ts i h = refl
 high-end false ts i h = ap highTotal (drop-of-length-le ts {i = i} h)
 
 -- no total is above 256
-pub each-low : (ts : List ℕ) → highTotal ts ≡ false → (i : ℕ) → getD ts i 0 ≤ 256
+pub each-low : (ts : List ℕ) → highTotal ts ≡ false → (i : ℕ) → getD ts i 0 ≤ mostTotal
 unfolding highTotal
 each-low [] h i = omega arith
-each-low (t ∷ ts) h zero = ltb-false 256 t (or-false (ltb 256 t) (highTotal ts) h .0)
-each-low (t ∷ ts) h (suc i) = each-low ts (or-false (ltb 256 t) (highTotal ts) h .1) i
+each-low (t ∷ ts) h zero = ltb-false mostTotal t (or-false (ltb mostTotal t) (highTotal ts) h .0)
+each-low (t ∷ ts) h (suc i) = each-low ts (or-false (ltb mostTotal t) (highTotal ts) h .1) i
 
 -- ---- one turn of the sum
 

@@ -4,6 +4,7 @@ use mathlib.Core.Bool.{Bool, true, false, not, cond, _&&_, _||_}
 use mathlib.Core.List.{List, [], _∷_}
 use lib.ListN.{length, take, drop}
 use lib.Dec.{eqb, ltb}
+use Rattle.line.specs.Limits.{blockSize, mostTotal}
 use Rattle.line.specs.Line.{Symbol, capture, startCount}
 use Rattle.line.specs.Table.{Table, _⇒_, _∣_, otherwise, first}
 use Rattle.station.specs.declared.Checked.{Checked}
@@ -18,7 +19,7 @@ use Rattle.totals.specs.declared.Count.the-variants.{Starts}
 
 -- "the number of blocks, a last short one included", of n symbols
 abbrev pub blocks : ℕ → ℕ
-blocks n = (n + 255) / 256
+blocks n = (n + (blockSize - 1)) / blockSize
 
 -- the Starts from one place up to another
 unfoldable pub startsIn : List Symbol → ℕ → ℕ → ℕ
@@ -26,7 +27,7 @@ startsIn c from to = startCount (take (to - from) (drop from c))
 
 -- "a total for each block of 256 symbols": that of block k
 unfoldable pub blockTotal : List Symbol → ℕ → ℕ
-blockTotal c k = startCount (take 256 (drop (256 * k) c))
+blockTotal c k = startCount (take blockSize (drop (blockSize * k) c))
 
 -- of n blocks from block k on
 unfoldable pub totalsFrom : List Symbol → ℕ → ℕ → List ℕ
@@ -45,13 +46,13 @@ startsBefore c place = startCount (take place c)
 
 -- "The answer adds whole blocks and looks only into the last"
 unfoldable pub answer : List ℕ → List Symbol → ℕ → ℕ
-answer ts c place = total (take (place / 256) ts) + startsIn c (256 * (place / 256)) place
+answer ts c place = total (take (place / blockSize) ts) + startsIn c (blockSize * (place / blockSize)) place
 
 -- ---- "counts anew the blocks it writes into and touches no other total"
 
 -- block k holds one of the places from `from` up to `to`
 unfoldable pub writtenInto : ℕ → ℕ → ℕ → Bool
-writtenInto from to k = ltb from to && (ltb from (256 * (k + 1)) && ltb (256 * k) to)
+writtenInto from to k = ltb from to && (ltb from (blockSize * (k + 1)) && ltb (blockSize * k) to)
 
 -- of numbers from number k on, those that a test names made new
 unfoldable pub renewed : (ℕ → Bool) → (ℕ → ℕ) → ℕ → List ℕ → List ℕ
@@ -69,7 +70,7 @@ wrongTotals os ts = not (eqb (length ts) (blocks (length os)))
 
 unfoldable pub highTotal : List ℕ → Bool
 highTotal [] = false
-highTotal (t ∷ ts) = ltb 256 t || highTotal ts
+highTotal (t ∷ ts) = ltb mostTotal t || highTotal ts
 
 -- the question's: 2, 3 and, "after 3", 21 and 22
 unfoldable pub beforeRefusals : List ℕ → List ℕ → ℕ → List ℕ → Table Checked

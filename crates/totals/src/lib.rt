@@ -1,10 +1,13 @@
 // Starts per stretch (document 02, item 9): a total for each block of 256 symbols, lent beside the capture. Meaning: specs/.
+use line::BLOCK_SIZE;
+use line::MOST_TOTAL;
 use station::Checked;
 use station::Refusal;
 ghost use mathlib.Core.Path.{_≡_};
 ghost use mathlib.Core.Bool.{Bool, true, false, cond};
 ghost use Prim.Native.Nat.{_+_, _-_, _*_, _/_, _≤_, _<_};
 ghost use lib.ListN.{length, take};
+ghost use Rattle.line.specs.Limits.{mostSymbols, blockSize};
 ghost use Rattle.line.specs.Line.{capture, isStart};
 ghost use Rattle.line.specs.Table.{first};
 ghost use Rattle.station.specs.Station.{total};
@@ -47,7 +50,7 @@ fn starts_in_half(octets: &[u8], marks: &[u8], from: usize, to: usize) -> u8
 
 // The Starts from one place up to another, 256 places on at most.
 fn starts_in(octets: &[u8], marks: &[u8], from: usize, to: usize) -> u16
-    requires { ⌜ (from ≤ to) × (to ≤ length (now octets)) × (to ≤ length (now marks)) × (to ≤ from + 256) ⌝ }
+    requires { ⌜ (from ≤ to) × (to ≤ length (now octets)) × (to ≤ length (now marks)) × (to ≤ from + blockSize) ⌝ }
     ensures { λ r. ⌜ r ≡ startsIn (capture (now (octets .entry)) (now (marks .entry))) from to ⌝ }
 {
     if to - from < 128 {
@@ -60,15 +63,15 @@ fn starts_in(octets: &[u8], marks: &[u8], from: usize, to: usize) -> u16
 
 // The total of block k: its last place is 256 on, or the capture's end.
 fn block_total(octets: &[u8], marks: &[u8], k: usize) -> u16
-    requires { ⌜ (length (now octets) ≡ length (now marks)) × (256 * k ≤ length (now octets)) ⌝ }
+    requires { ⌜ (length (now octets) ≡ length (now marks)) × (blockSize * k ≤ length (now octets)) ⌝ }
     ensures { λ r. ⌜ r ≡ blockTotal (capture (now (octets .entry)) (now (marks .entry))) k ⌝ }
 {
-    let from = 256 * k;
+    let from = BLOCK_SIZE * k;
     let left = octets.len() - from;
-    if left < 256 {
+    if left < BLOCK_SIZE {
         return starts_in(octets, marks, from, from + left);
     }
-    starts_in(octets, marks, from, from + 256)
+    starts_in(octets, marks, from, from + BLOCK_SIZE)
 }
 
 // Counts the blocks anew that hold places from `from` up to `to`, and touches no other total. Public for this repository's crates only, since it
@@ -78,8 +81,8 @@ pub fn recount(octets: &[u8], marks: &[u8], totals: &mut [u16], from: usize, to:
     ensures { λ _. ⌜ now (totals .exit) ≡ recounted (capture (now (octets .entry)) (now (marks .entry))) from to (now (totals .entry)) ⌝ }
 {
     if from < to {
-        let end = (to - 1) / 256 + 1;
-        let mut k = from / 256;
+        let end = (to - 1) / BLOCK_SIZE + 1;
+        let mut k = from / BLOCK_SIZE;
         while k < end {
             totals[k] = block_total(octets, marks, k);
             k += 1;
@@ -91,10 +94,10 @@ pub fn recount(octets: &[u8], marks: &[u8], totals: &mut [u16], from: usize, to:
 
 // Refusal 21.
 pub fn wrong_totals(octets: &[u8], totals: &[u16]) -> bool
-    requires { ⌜ length (now octets) ≤ 65536 ⌝ }
+    requires { ⌜ length (now octets) ≤ mostSymbols ⌝ }
     ensures { λ r. ⌜ r ≡ wrongTotals (now (octets .entry)) (now (totals .entry)) ⌝ }
 {
-    totals.len() != (octets.len() + 255) / 256
+    totals.len() != (octets.len() + (BLOCK_SIZE - 1)) / BLOCK_SIZE
 }
 
 // Refusal 22. No way out of the loop, so that it is vector code.
@@ -104,7 +107,7 @@ pub fn high_total(totals: &[u16]) -> bool
     let mut high: bool = false;
     let mut i: usize = 0;
     while i < totals.len() {
-        high = high | (256 < totals[i]);
+        high = high | (MOST_TOTAL < totals[i]);
         i += 1;
     }
     high
@@ -146,8 +149,8 @@ fn check_fill(octets: &[u8], marks: &[u8], totals: &[u16]) -> Checked
 
 // The first n totals together, of which none is above 256.
 fn sum_of(totals: &[u16], n: usize) -> usize
-    requires { ⌜ (n ≤ length (now totals)) × (length (now totals) ≤ 256) × (highTotal (now totals) ≡ false) ⌝ }
-    ensures { λ r. ⌜ (r ≡ total (take n (now (totals .entry)))) × (r ≤ 65536) ⌝ }
+    requires { ⌜ (n ≤ length (now totals)) × (length (now totals) ≤ blockSize) × (highTotal (now totals) ≡ false) ⌝ }
+    ensures { λ r. ⌜ (r ≡ total (take n (now (totals .entry)))) × (r ≤ mostSymbols) ⌝ }
 {
     let mut sum: usize = 0;
     let mut i: usize = 0;
@@ -166,9 +169,9 @@ pub fn starts_before(octets: &[u8], marks: &[u8], totals: &[u16], place: usize) 
     if let Checked::Refused(x) = checked {
         return Count::Refused(x);
     }
-    let whole = place / 256;
+    let whole = place / BLOCK_SIZE;
     let sum = sum_of(totals, whole);
-    let last = starts_in(octets, marks, 256 * whole, place);
+    let last = starts_in(octets, marks, BLOCK_SIZE * whole, place);
     Count::Starts(sum + last as usize)
 }
 

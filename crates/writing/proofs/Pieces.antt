@@ -11,6 +11,7 @@ use lib.Dec.{eqb}
 use lib.Seq.{sets, drop-cons}
 use lib.ListN.{length, getD, take, drop, replicate, length-append, length-replicate, drop-of-length-le}
 use borrow.Rule.Slice.PartMut.{midOf, putMid}
+use Rattle.line.specs.Limits.{leadSize}
 use Rattle.line.specs.Line.{Symbol, octetsOf, marksOf, asData, asControl, overwrite, preamble, idle, terminate}
 use Rattle.line.specs.Octets.{highFirst, between}
 use Rattle.line.proofs.Buffers.{octetsOf-append, marksOf-append, length-octetsOf, length-marksOf}
@@ -33,7 +34,7 @@ use Rattle.writing.proofs.Sizes.{two, group-six, line-size, idle-size}
 
 -- ---- how long the pieces are
 
-pub lead-size : length lead ≡ 8
+pub lead-size : length lead ≡ leadSize
 unfolding lead preamble
 lead-size = refl
 
@@ -151,14 +152,14 @@ line-marks idles body =
 -- ---- a frame that is written up to its FCS, and then finished
 
 -- what the FCS covers is what was written behind Start and the preamble
-covered : {os os₁ body : List ℕ} {e : ℕ} → Put os 0 (lead ++ body) e os₁ → e ≤ length os → between os₁ 8 e ≡ body
+covered : {os os₁ body : List ℕ} {e : ℕ} → Put os 0 (lead ++ body) e os₁ → e ≤ length os → between os₁ leadSize e ≡ body
 unfolding overwrite
 covered {os} {os₁} {body} {e} p h =
-    let n : length (lead ++ body) ≡ 8 + length body = simp (length-append, lead-size) in
+    let n : length (lead ++ body) ≡ leadSize + length body = simp (length-append, lead-size) in
     let rest = drop (0 + length (lead ++ body)) os in
     let s = lead-size in
-    ap (λ (l : List ℕ). between l 8 e) (put-overwrite p (omega (arith, p .goes)) ∙ append-assoc lead body rest)
-    ∙ between-middle lead body rest 8 e lead-size (omega (arith, p .goes))
+    ap (λ (l : List ℕ). between l leadSize e) (put-overwrite p (omega (arith, p .goes)) ∙ append-assoc lead body rest)
+    ∙ between-middle lead body rest leadSize e lead-size (omega (arith, p .goes))
 
 -- where it is finished: behind the start, with room for its end
 pub body-end : (idles : ℕ) (body : List ℕ) {os os₁ : List ℕ} {e : ℕ} → Put os 0 (lead ++ body) e os₁ → (8 ≤ e) × (e + (idles + 5) ≡ length (onLine idles body))
@@ -173,7 +174,7 @@ pub frame-laid : (idles : ℕ) (body : List ℕ) {os ms os₁ os′ ms′ : List
 unfolding endOf
 frame-laid idles body {os} {ms} {os₁} {os′} {ms′} {e} {r} front end marks room room′ =
     let size = line-size idles body in
-    let n : length (lead ++ body) ≡ 8 + length body = simp (length-append, lead-size) in
+    let n : length (lead ++ body) ≡ leadSize + length body = simp (length-append, lead-size) in
     let whole = front ⨾ rw (covered front (omega (arith, front .goes))) at end in
     let k : length ((lead ++ body) ++ (fcs body ++ gapOctets idles)) ≡ length (onLine idles body) =
     ap length (sym (line-octets idles body)) ∙ length-octetsOf (onLine idles body) in

@@ -4,6 +4,7 @@ use native.Mathlib.Omega.{arith}
 use mathlib.Core.Path.{_≡_, refl, sym, _∙_}
 use mathlib.Core.List.{List, [], _∷_, map}
 use lib.ListN.{length, length-append, length-replicate, length-map}
+use Rattle.line.specs.Limits.{tagSize, leastData, leastBody}
 use Rattle.line.specs.Line.{asControl, idle, preamble}
 use Rattle.line.specs.Octets.{highFirst}
 use Rattle.fcs.proofs.Laws.{fcs-four}
@@ -32,21 +33,21 @@ pub line-size : (idles : ℕ) (body : List ℕ) → length (onLine idles body) �
 unfolding onLine gap preamble
 line-size idles body = simp (length-append, length-map, length-replicate, fcs-four) (omega arith)
 
-pub padded-size : (d : List ℕ) → length (padded d) ≡ length d + (46 - length d)
+pub padded-size : (d : List ℕ) → length (padded d) ≡ length d + (leastData - length d)
 unfolding padded
 padded-size d = simp (length-append, length-replicate)
 
 pub client-body-size : (s : Settings) (c : Client) (d : List ℕ) → length (c .dest .0) ≡ 6 → length (s .own .0) ≡ 6
-    → length (clientBody s c d) ≡ 14 + 4 * length (tagsSent c) + (length d + (46 - length d))
+    → length (clientBody s c d) ≡ 14 + tagSize * length (tagsSent c) + (length d + (leastData - length d))
 unfolding clientBody
 client-body-size s c d dest own = simp (length-append, two, tag-length, padded-size) (omega arith)
 
 pub client-size : (idles : ℕ) (s : Settings) (c : Client) (d : List ℕ) → length (c .dest .0) ≡ 6 → length (s .own .0) ≡ 6
-    → length (clientSymbols idles s c d) ≡ 27 + idles + 4 * length (tagsSent c) + (length d + (46 - length d))
+    → length (clientSymbols idles s c d) ≡ 27 + idles + tagSize * length (tagsSent c) + (length d + (leastData - length d))
 unfolding clientSymbols
 client-size idles s c d dest own = simp (line-size, client-body-size s c d dest own) (omega arith)
 
-pub pause-body-size : (s : Settings) (q : Quanta) → length (s .own .0) ≡ 6 → length (pauseBody s q) ≡ 60
+pub pause-body-size : (s : Settings) (q : Quanta) → length (s .own .0) ≡ 6 → length (pauseBody s q) ≡ leastBody
 unfolding pauseBody
 pause-body-size s q own = simp (length-append, two, group-six, length-replicate) (omega arith)
 
@@ -59,7 +60,7 @@ unfolding classQuanta
 quanta-size named [] = refl
 quanta-size named (q ∷ qs) = simp (length-append, two, quanta-size (named / 2) qs) (omega arith)
 
-pub pfc-body-size : (s : Settings) (k : Classes) → length (s .own .0) ≡ 6 → length (k .quanta) ≡ 8 → length (pfcBody s k) ≡ 60
+pub pfc-body-size : (s : Settings) (k : Classes) → length (s .own .0) ≡ 6 → length (k .quanta) ≡ 8 → length (pfcBody s k) ≡ leastBody
 unfolding pfcBody
 pfc-body-size s k own eight = simp (length-append, two, group-six, quanta-size, length-replicate) (omega arith)
 

@@ -9,9 +9,10 @@ use mathlib.Core.List.{List, [], _∷_, _++_, append-assoc}
 use lib.ListN.{length, length-append}
 use lib.Seq.{drop-at, length-take-le}
 use lib.Dec.{eqb, lit<}
+use Rattle.line.specs.Limits.{mostTags}
 use Rattle.line.specs.Octets.{highFirstAt, highFirst}
 use Rattle.line.proofs.Octets.{highFirst-read}
-use Rattle.fields.specs.Tags.{isTagKind, mostTags, tagRun, tagCount}
+use Rattle.fields.specs.Tags.{isTagKind, tagRun, tagCount}
 use Rattle.fields.specs.Fields.{firstField}
 use Rattle.fields.proofs.Tags.{run-ends, run-goes-on}
 use Rattle.control.specs.Control.{isControlFrame}
@@ -61,10 +62,10 @@ run-is (t ∷ ts) (suc most) n r le lt h =
     ∙ run-goes-on most (kindField (t .kind)) (t .control) (tagOctets ts ++ (highFirst n ++ r)) (kind-bits (t .kind)) (kind-is (t .kind))
     ∙ (let rest = run-is ts most n r (le-of-suc-le-suc le) lt h in omega arith)
 
-pub tags-are : (ts : List Tag) (a : List ℕ) (n : ℕ) (r : List ℕ) → length ts ≤ 8 → length a ≡ 12 → n < 65536 → isTagKind n ≡ false
+pub tags-are : (ts : List Tag) (a : List ℕ) (n : ℕ) (r : List ℕ) → length ts ≤ mostTags → length a ≡ 12 → n < 65536 → isTagKind n ≡ false
     → tagCount (a ++ (tagOctets ts ++ (highFirst n ++ r))) ≡ length ts
-unfolding tagCount mostTags
-tags-are ts a n r few e lt h = ap (tagRun 8) (drop-at a (tagOctets ts ++ (highFirst n ++ r)) 12 e) ∙ run-is ts 8 n r few lt h
+unfolding tagCount
+tags-are ts a n r few e lt h = ap (tagRun mostTags) (drop-at a (tagOctets ts ++ (highFirst n ++ r)) 12 e) ∙ run-is ts mostTags n r few lt h
 
 pub not-control : (ts : List Tag) (a : List ℕ) (n : ℕ) (r : List ℕ) → length a ≡ 12 → n < 65536 → eqb n 0x8808 ≡ false
     → isControlFrame (a ++ (tagOctets ts ++ (highFirst n ++ r))) ≡ false
@@ -78,6 +79,6 @@ not-control (t ∷ ts) a n r e lt h =
 
 -- ---- those of a client frame: as many as it says, of the array's eight
 
-pub tags-count : (c : Client) → length (c .tags) ≡ 8 → c .count ≤ 8 → length (tagsSent c) ≡ c .count
+pub tags-count : (c : Client) → length (c .tags) ≡ 8 → c .count ≤ mostTags → length (tagsSent c) ≡ c .count
 unfolding tagsSent
 tags-count c eight few = length-take-le (c .count) (c .tags) (omega arith)

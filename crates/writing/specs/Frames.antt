@@ -4,6 +4,7 @@ use mathlib.Core.Bool.{Bool, true, false, cond}
 use mathlib.Core.List.{List, [], _∷_, _++_, map}
 use lib.ListN.{length, take, replicate}
 use lib.Dec.{eqb}
+use Rattle.line.specs.Limits.{leastData}
 use Rattle.line.specs.Line.{Symbol, asData, asControl, idle, start, terminate, preamble}
 use Rattle.line.specs.Octets.{highFirst}
 use Rattle.fcs.specs.Fcs.{fcs}
@@ -41,20 +42,16 @@ fieldSent (ByType t) d = t
 
 -- "Data under 46 octets is padded with zeros to 46, tagged or not."
 unfoldable pub padded : List ℕ → List ℕ
-padded d = d ++ replicate (46 - length d) 0
+padded d = d ++ replicate (leastData - length d) 0
 
 -- "names a destination, … a form … and data. Source is the own address.", with its tags before the field: what the FCS covers
 unfoldable pub clientBody : Settings → Client → List ℕ → List ℕ
 clientBody s c d = c .dest .0 ++ (s .own .0 ++ (tagOctets (tagsSent c) ++ (highFirst (fieldSent (c .form) d) ++ padded d)))
 
 -- "one Terminate and eleven Idles": the gap, of a number of Idles, since on the port of document 02, item 5, it varies by the place and the deficit
--- count (`gapAt`, specs/Gaps)
+-- count (`gapAt`, specs/Gaps). A plain port has `plainIdles`
 unfoldable pub gap : ℕ → List Symbol
 gap idles = asControl terminate ∷ replicate idles (asControl idle)
-
--- and how many of them a plain port has
-abbrev pub plainIdles : ℕ
-plainIdles = 11
 
 -- The line: "Start; six data octets 0x55; data 0xD5 …; the frame from destination to FCS; Terminate; Idle", with a gap of so many Idles, of what the
 -- FCS covers

@@ -3,6 +3,7 @@ use Prim.Native.Nat.{ℕ, _+_, _-_}
 use mathlib.Core.Path.{_≡_}
 use mathlib.Core.List.{List, [], _∷_, _++_}
 use lib.ListN.{length, replicate}
+use Rattle.line.specs.Limits.{leadSize}
 use Rattle.line.specs.Line.{Symbol, octetsOf, marksOf, overwrite, start, terminate, idle, preamble}
 use Rattle.line.specs.Octets.{highFirst, between}
 use Rattle.station.specs.declared.Address.{Address}
@@ -26,7 +27,7 @@ gapOctets idles = (terminate ∷ []) ++ replicate idles idle
 
 -- what is written after the octets `os` up to place `at`: the FCS of all but Start and the preamble, and the gap
 unfoldable pub endOf : ℕ → List ℕ → ℕ → List ℕ
-endOf idles os at = fcs (between os 8 at) ++ gapOctets idles
+endOf idles os at = fcs (between os leadSize at) ++ gapOctets idles
 
 -- the marks of a frame of n symbols: Start is control, then all is data but the gap
 unfoldable pub frameMarks : ℕ → ℕ → List ℕ

@@ -1,5 +1,12 @@
 // Writing frames as line symbols (document 01, "Sending"): each of the last four functions is one kind of frame, from a place on, where its
 // caller has seen that it fits. Meaning: specs/.
+use line::FULL_GAP;
+use line::LANES;
+use line::LEAD_SIZE;
+use line::LEAST_DATA;
+use line::MOST_DEFICIT;
+use line::PLAIN_IDLES;
+use line::TAG_SIZE;
 use splice::fill;
 use splice::put;
 use station::Address;
@@ -12,6 +19,7 @@ ghost use mathlib.Core.List.{_++_};
 ghost use Prim.Native.Nat.{_+_, _-_, _*_, _%_, _≤_, _<_};
 ghost use lib.Dec.{eqb};
 ghost use lib.ListN.{length, take};
+ghost use Rattle.line.specs.Limits.{leadSize, tagSize, leastData, mostTags};
 ghost use Rattle.line.specs.Octets.{highFirst};
 ghost use Rattle.splice.specs.Written.{Put};
 ghost use Rattle.writing.specs.Frames.{kindField, tagOctets, fieldSent, padded, clientBody, pauseBody, classQuanta, pfcBody, clientSymbols, pauseSymbols, pfcSymbols, idleSymbols};
@@ -98,7 +106,7 @@ fn kind_field(kind: Kind) -> u16
 
 // A tag: its kind and its tag control.
 fn put_tag(octets: &mut [u8], at: usize, tag: Tag) -> usize
-    requires { ⌜ at + 4 ≤ length (now octets) ⌝ }
+    requires { ⌜ at + tagSize ≤ length (now octets) ⌝ }
     ensures { λ r. ⌜ Put (now (octets .entry)) at (highFirst (kindField (tag .kind)) ++ highFirst (tag .control)) r (now (octets .exit)) ⌝ }
 {
     let kind = tag.kind;
@@ -108,22 +116,22 @@ fn put_tag(octets: &mut [u8], at: usize, tag: Tag) -> usize
 
 // The first `count` of the tags.
 fn put_tags(octets: &mut [u8], at: usize, tags: [Tag; 8], count: u8) -> usize
-    requires { ⌜ (count ≤ 8) × (at + 4 * count ≤ length (now octets)) ⌝ }
+    requires { ⌜ (count ≤ mostTags) × (at + tagSize * count ≤ length (now octets)) ⌝ }
     ensures { λ r. ⌜ Put (now (octets .entry)) at (tagOctets (take count tags)) r (now (octets .exit)) ⌝ }
 {
     let n = count as usize;
     let mut k: usize = 0;
     while k < n {
         let tag = tags[k];
-        put_tag(octets, at + 4 * k, tag);
+        put_tag(octets, at + TAG_SIZE * k, tag);
         k += 1;
     }
-    at + 4 * k
+    at + TAG_SIZE * k
 }
 
 // The tags of a client frame. Most frames have none: then the array is not looked at.
 fn put_own_tags(octets: &mut [u8], at: usize, client: Client) -> usize
-    requires { ⌜ (client .count ≤ 8) × (at + 4 * client .count ≤ length (now octets)) ⌝ }
+    requires { ⌜ (client .count ≤ mostTags) × (at + tagSize * client .count ≤ length (now octets)) ⌝ }
     ensures { λ r. ⌜ Put (now (octets .entry)) at (tagOctets (take (client .count) (client .tags))) r (now (octets .exit)) ⌝ }
 {
     if client.count == 0 {
@@ -146,9 +154,9 @@ fn field_sent(form: Form, d: &[u8]) -> u16
 
 // How many zeros pad n octets of data.
 fn padding(n: usize) -> usize
-    ensures { λ r. ⌜ r ≡ 46 - n ⌝ }
+    ensures { λ r. ⌜ r ≡ leastData - n ⌝ }
 {
-    if n < 46 { 46 - n } else { 0 }
+    if n < LEAST_DATA { LEAST_DATA - n } else { 0 }
 }
 
 // The data, padded.
@@ -163,7 +171,7 @@ fn put_data(octets: &mut [u8], at: usize, d: &[u8]) -> usize
 
 // A client frame up to its FCS.
 fn put_client(octets: &mut [u8], s: Settings, client: Client, d: &[u8]) -> usize
-    requires { ⌜ (8 + length (clientBody s client (now d)) ≤ length (now octets)) × (length (now d) < 65536) × (client .count ≤ 8) ⌝ }
+    requires { ⌜ (leadSize + length (clientBody s client (now d)) ≤ length (now octets)) × (length (now d) < 65536) × (client .count ≤ mostTags) ⌝ }
     ensures { λ r. ⌜ Put (now (octets .entry)) 0 (lead ++ clientBody s client (now (d .entry))) r (now (octets .exit)) ⌝ }
 {
     let form = client.form;
@@ -239,26 +247,26 @@ pub fn gap_for(port: Port, at: usize, count: u64) -> Gap
     ensures { λ r. ⌜ r ≡ gapAt port at count ⌝ }
 {
     let Port::FourLane = port else {
-        return Gap { size: 12, count };
-    };
-    let r = (at % 4) as u64;
-    if count <= 3 - r {
         return Gap {
-            size: 12 - r as usize,
+            size: FULL_GAP,
+            count,
+        };
+    };
+    let r = (at % LANES) as u64;
+    if count <= MOST_DEFICIT - r {
+        return Gap {
+            size: FULL_GAP - r as usize,
             count: count + r,
         };
     }
-    let more = 4 - r;
+    let more = LANES as u64 - r;
     Gap {
-        size: 12 + more as usize,
+        size: FULL_GAP + more as usize,
         count: count - more,
     }
 }
 
-// How many Idles the gap of a plain port has: `put_gap` fills with this very number, of which the compiler makes a few stores.
-const PLAIN_IDLES: usize = 11;
-
-// The gap: Terminate and Idles.
+// The gap: Terminate and Idles. A plain port's is filled with its very number, of which the compiler makes a few stores.
 fn put_gap(octets: &mut [u8], at: usize, idles: usize) -> usize
     requires { ⌜ at + (idles + 1) ≤ length (now octets) ⌝ }
     ensures { λ r. ⌜ Put (now (octets .entry)) at (gapOctets idles) r (now (octets .exit)) ⌝ }
@@ -272,10 +280,10 @@ fn put_gap(octets: &mut [u8], at: usize, idles: usize) -> usize
 
 // The FCS of a frame that is written up to `at`, and the gap.
 fn put_end(octets: &mut [u8], at: usize, idles: usize) -> usize
-    requires { ⌜ (8 ≤ at) × (at + (idles + 5) ≤ length (now octets)) ⌝ }
+    requires { ⌜ (leadSize ≤ at) × (at + (idles + 5) ≤ length (now octets)) ⌝ }
     ensures { λ r. ⌜ Put (now (octets .entry)) at (endOf idles (now (octets .entry)) at) r (now (octets .exit)) ⌝ }
 {
-    let check = fcs::octets(fcs::check(&octets[8..at]));
+    let check = fcs::octets(fcs::check(&octets[LEAD_SIZE..at]));
     let a = put(octets, at, &check);
     put_gap(octets, a, idles)
 }
@@ -294,7 +302,7 @@ fn put_marks(marks: &mut [u8], n: usize, idles: usize) -> usize
 
 // A frame that is written up to its FCS at `at`: its marks, and then, as the octets are in memory by now, its end.
 fn finish(octets: &mut [u8], marks: &mut [u8], at: usize, idles: usize) -> usize
-    requires { ⌜ (8 ≤ at) × (at + (idles + 5) ≤ length (now octets)) × (at + (idles + 5) ≤ length (now marks)) ⌝ }
+    requires { ⌜ (leadSize ≤ at) × (at + (idles + 5) ≤ length (now octets)) × (at + (idles + 5) ≤ length (now marks)) ⌝ }
     ensures octets { λ r. ⌜ Put (now (octets .entry)) at (endOf idles (now (octets .entry)) at) r (now (octets .exit)) ⌝ }
     ensures marks { λ r. ⌜ Put (now (marks .entry)) 0 (frameMarks idles r) r (now (marks .exit)) ⌝ }
 {
@@ -311,7 +319,7 @@ fn write_client(
     idles: usize,
 ) -> usize
     requires { ⌜ (length (clientSymbols idles s client (now d)) ≤ length (now octets))
-        × (length (clientSymbols idles s client (now d)) ≤ length (now marks)) × (length (now d) < 65536) × (client .count ≤ 8) ⌝ }
+        × (length (clientSymbols idles s client (now d)) ≤ length (now marks)) × (length (now d) < 65536) × (client .count ≤ mostTags) ⌝ }
     ensures { λ r. ⌜ Laid (now (octets .entry)) (now (marks .entry)) 0 (clientSymbols idles s client (now (d .entry))) r
         (now (octets .exit)) (now (marks .exit)) ⌝ }
 {
@@ -362,7 +370,7 @@ pub fn client_at(
     idles: usize,
 ) -> usize
     requires { ⌜ (place + length (clientSymbols idles s client (now d)) ≤ length (now octets))
-        × (place + length (clientSymbols idles s client (now d)) ≤ length (now marks)) × (length (now d) < 65536) × (client .count ≤ 8) ⌝ }
+        × (place + length (clientSymbols idles s client (now d)) ≤ length (now marks)) × (length (now d) < 65536) × (client .count ≤ mostTags) ⌝ }
     ensures { λ r. ⌜ Laid (now (octets .entry)) (now (marks .entry)) place (clientSymbols idles s client (now (d .entry))) r
         (now (octets .exit)) (now (marks .exit)) ⌝ }
 {

@@ -5,8 +5,9 @@ use Prim.Native.Nat.{ℕ}
 use mathlib.Core.Path.{_≡_, sym, ap, _∙_}
 use mathlib.Core.List.{List}
 use denote.Ref.{now}
+use Rattle.line.specs.Limits.{mostTags}
 use Rattle.line.specs.Octets.{highFirstAt}
-use Rattle.fields.specs.Tags.{isTagKind, mostTags, tagCount}
+use Rattle.fields.specs.Tags.{isTagKind, tagCount}
 use Rattle.fields.specs.Fields.{firstField}
 use Rattle.fields.proofs.Tags.{run-none}
 use Rattle.fields.proofs.tag_count.Statement.{statement}
@@ -27,14 +28,14 @@ is-tag-kind-requires : tie.Need-is-tag-kind-requires
 is-tag-kind-requires c κs = search needs
 
 returns : tie.Need-returns
-unfolding tagCount mostTags
-returns c = sym (run-none (frame (c .before)) 12 8 (sym (tested (c .before)) ∙ not-true _ (c .if1 .taken)))
+unfolding tagCount
+returns c = sym (run-none (frame (c .before)) 12 mostTags (sym (tested (c .before)) ∙ not-true _ (c .if1 .taken)))
 
 tag-run-requires : tie.Need-tag-run-requires
 tag-run-requires c κs = search needs
 
 returns-2 : tie.Need-returns-2
-unfolding tagCount mostTags
+unfolding tagCount
 returns-2 c = c .tag-run .ensures .0
 
 pub tag-count-spec : {M : Type 1} → statement M

@@ -8,6 +8,7 @@ use denote.Ref.{now}
 use lib.Dec.{ltb}
 use borrow.Author.Needs.{needs}
 use borrow.Author.Tests.{lt-ltb, le-ltb}
+use Rattle.line.specs.Limits.{leastFrame, tagSize, fcsSize}
 use Rattle.line.specs.Table.{Table, first}
 use Rattle.station.specs.declared.Address.{Address}
 use Rattle.station.specs.declared.Outcome.{Outcome}
@@ -59,10 +60,10 @@ layout-is : (c : tie.After-layout-of) → c .layout-of .result ≡ layoutOf (fro
 layout-is c = c .layout-of .ensures ∙ ap layoutOf (call (sized c) .pre)
 
 limit-is : (c : tie.After-layout-of) → let n = sized c in
-    ltb (call n .args .s .limit + 4 * c .layout-of .result .tags) (n .size .result)
+    ltb (call n .args .s .limit + tagSize * c .layout-of .result .tags) (n .size .result)
     ≡ overLimit (call n .args .s .limit) (tagCount (frontOf (run n))) (frameSize (run n))
 unfolding overLimit
-limit-is c = ap₂ (λ (t n : ℕ). ltb (call (sized c) .args .s .limit + 4 * t) n) (layout-tags _ _ (layout-is c)) (size-is (sized c))
+limit-is c = ap₂ (λ (t n : ℕ). ltb (call (sized c) .args .s .limit + tagSize * t) n) (layout-tags _ _ (layout-is c)) (size-is (sized c))
 
 length-is : (c : tie.After-wrong-length) → let l = laid (limited (summed (c .before)) .before) in let n = sized l in let q = run n in
     c .wrong-length .result ≡ (call n .args .s .checking && not (kept (tagCount (frontOf q)) (field (frontOf q)) (dataOctets q)))
@@ -71,15 +72,15 @@ length-is c =
     let d = c .before in
     let l = laid (limited (summed d) .before) in
     let n = sized l in
-    let octets : d .data-length .result ≡ frameSize (run n) - 4 - dataPlace (frontOf (run n)) =
-    d .data-length .ensures .0 ∙ ap₂ (λ (x y : ℕ). x - 4 - y) (size-is n) (layout-place _ _ (layout-is l)) in
+    let octets : d .data-length .result ≡ frameSize (run n) - fcsSize - dataPlace (frontOf (run n)) =
+    d .data-length .ensures .0 ∙ ap₂ (λ (x y : ℕ). x - fcsSize - y) (size-is n) (layout-place _ _ (layout-is l)) in
     c .wrong-length .ensures
     ∙ ap₂ (λ (t : ℕ) (b : ℕ → Bool). call n .args .s .checking && not (b t)) octets
     (ap₂ kept (layout-tags _ _ (layout-is l)) (layout-field _ _ (layout-is l)))
 
 past-1 : (c : tie.Else1) → past 1 (c .before)
 unfolding frameOutcomes
-past-1 c = row-passed Undersized _ refl (ap (λ (n : ℕ). ltb n 64) (size-is (c .before))) (le-ltb _ _ (c .if1 .left))
+past-1 c = row-passed Undersized _ refl (ap (λ (n : ℕ). ltb n leastFrame) (size-is (c .before))) (le-ltb _ _ (c .if1 .left))
 
 past-2 : (c : tie.Else2) → past 2 (sized (laid (c .before)))
 unfolding frameOutcomes
@@ -100,7 +101,7 @@ size-requires c κs = search needs
 
 returns : tie.Need-returns
 unfolding frameOutcomes
-returns c = row-holds Undersized _ refl (ap (λ (n : ℕ). ltb n 64) (size-is (c .before))) (lt-ltb _ _ (c .if1 .taken))
+returns c = row-holds Undersized _ refl (ap (λ (n : ℕ). ltb n leastFrame) (size-is (c .before))) (lt-ltb _ _ (c .if1 .taken))
 
 layout-of-requires : tie.Need-layout-of-requires
 layout-of-requires c κs = search needs

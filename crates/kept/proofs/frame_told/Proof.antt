@@ -5,6 +5,7 @@ use mathlib.Core.Path.{_≡_, ap, ap₂, _∙_}
 use mathlib.Core.List.{List}
 use denote.Ref.{now}
 use borrow.Author.Needs.{needs}
+use Rattle.line.specs.Limits.{leadSize, fcsSize}
 use Rattle.station.specs.declared.Part.{Part}
 use Rattle.fields.specs.Tags.{tagCount}
 use Rattle.fields.specs.Fields.{dataPlace}
@@ -47,7 +48,7 @@ place-is c = layout-place _ _ (layout-is c)
 
 data-is : (c : tie.After-data-length) → c .data-length .result ≡ dataOctets (run (c .before))
 unfolding dataOctets
-data-is c = c .data-length .ensures .0 ∙ ap₂ (λ (x y : ℕ). x - 4 - y) (size-is (c .before)) (place-is (c .before))
+data-is c = c .data-length .ensures .0 ∙ ap₂ (λ (x y : ℕ). x - fcsSize - y) (size-is (c .before)) (place-is (c .before))
 
 handed-is : (c : tie.After-handed-count) → let l = counting c .before in c .handed-count .result ≡ handedOctets (call l .args .s .checking) (run l)
 unfolding handedOctets
@@ -122,8 +123,8 @@ returns c =
     w .word-of .ensures
     ∙ ap₂ (λ (bits octets : ℕ). wordOf (a .o) bits octets (k .before .handed-count .result)) (bits-are k) (data-is (counting (k .before)))
     ∙ ap (wordOf (a .o) (keptBits (run l)) (dataOctets (run l))) (handed-is (k .before)) in
-    let part : p .part-of .result ≡ partFrom (a .o) (run l .start + 8) (dataPlace (frontOf (run l))) (handedOctets (a .s .checking) (run l)) =
-    p .part-of .ensures ∙ ap₂ (partFrom (a .o) (run l .start + 8)) (place-is l) (handed-is (k .before)) in
+    let part : p .part-of .result ≡ partFrom (a .o) (run l .start + leadSize) (dataPlace (frontOf (run l))) (handedOctets (a .s .checking) (run l)) =
+    p .part-of .ensures ∙ ap₂ (partFrom (a .o) (run l .start + leadSize)) (place-is l) (handed-is (k .before)) in
     let way : c .way-carried .result ≡ wayCarried (a .s) own (a .o) (frontOf (run l)) =
     c .way-carried .ensures ∙ ap (wayCarried (a .s) own (a .o)) (call l .pre) in
     ap₂ (λ (x : ℕ) (q : Part). Counted (a .o) x q (c .way-carried .result)) word part

@@ -5,6 +5,7 @@ use mathlib.Core.Path.{_≡_, refl, sym, ap, _∙_}
 use lib.ListN.{length}
 use denote.Ref.{now}
 use borrow.Author.Needs.{needs}
+use Rattle.line.specs.Limits.{recordSize}
 use Rattle.log.specs.Log.{slots, usedOnes, joined}
 use Rattle.log.proofs.Kept.{keptFrom, kept-start, kept-turn, kept-end}
 use Rattle.log.proofs.compact_front.Statement.{statement}
@@ -43,7 +44,7 @@ loop-again : tie.Need-loop-again Inv-loop μ-loop
 loop-again c =
     let r = c .before .before in
     let l = turning r .loop in
-    let n = length (now (start (turning r) .args .log)) / 16 in
+    let n = length (now (start (turning r) .args .log)) / recordSize in
     let t = kept-turn (l .log) n (l .k) (l .j) (omega arith) (omega arith) (omega arith) _ _ (r .keep-record .ensures .0) (r .keep-record .ensures .1) in
     (search needs, t .low, t .same ∙ l .inv .2, t .kept ∙ l .inv .3)
 
@@ -64,7 +65,7 @@ returns c =
     let f = c .before .before in
     let l = ended f .loop in
     let s = start (ended f) in
-    let n = length (now (s .args .log)) / 16 in
+    let n = length (now (s .args .log)) / recordSize in
     let e : l .k ≡ n = omega arith in
     kept-end (now (s .args .log)) (l .log) _ n (l .j) _ (s .pre) (l .inv .2) (omega arith)
     (ap (λ (k : ℕ). keptFrom (l .log) n k (l .j)) (sym e) ∙ l .inv .3) (f .fill .ensures)

@@ -8,6 +8,7 @@ use mathlib.Core.List.{List}
 use lib.ListN.{length, set, length-set}
 use denote.Ref.{now}
 use borrow.Author.Needs.{needs}
+use Rattle.line.specs.Limits.{recordSize}
 use Rattle.log.specs.declared.LogNumber.the-variants.{Number}
 use Rattle.log.specs.Log.{slotAt, slots, joined}
 use Rattle.log.specs.Room.{deletedAll, countOf, numbered}
@@ -81,7 +82,7 @@ loop-again : tie.Need-loop-again Inv-loop μ-loop
 loop-again c =
     let t = turning c in
     let o = start (t .before) .args .outcome in
-    let n = length (now (start (t .before) .args .log)) / 16 in
+    let n = length (now (start (t .before) .args .log)) / recordSize in
     let l = t .loop .log in
     let k = t .loop .i in
     let i = t .loop .inv in
@@ -92,7 +93,7 @@ loop-again c =
     let e = ap (λ (x : List ℕ). countFrom o x n (k + 1)) (w .1) in (
       omega arith,
       (let q = w .2 in omega arith),
-      ap length (w .1) ∙ length-set l (16 * k + 4) 0 ∙ i .2,
+      ap length (w .1) ∙ length-set l (recordSize * k + 4) 0 ∙ i .2,
       ap (λ (x : List ℕ). leftFrom o x n (k + 1)) (w .1) ∙ m .0 ∙ i .3,
       (let q = w .2 in let z = i .4 in omega arith),
     ))
@@ -117,7 +118,7 @@ returns-3 c =
     let o = a .outcome in
     let l₀ = now (a .log) in
     let l = t .loop .log in
-    let n = length l₀ / 16 in
+    let n = length l₀ / recordSize in
     let i = t .loop .inv in
     let g = t .before .before .if1 .left in
     let e : t .loop .i ≡ n = omega arith in

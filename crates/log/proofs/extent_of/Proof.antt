@@ -6,13 +6,14 @@ use mathlib.Core.List.{List}
 use lib.ListN.{length}
 use denote.Ref.{now}
 use borrow.Author.Needs.{needs}
+use Rattle.line.specs.Limits.{recordSize}
 use Rattle.log.specs.Log.{slotsIn, slots, upToLast, extent}
 use Rattle.log.proofs.Searches.{slot-used, slot-unused, up-to-stop, up-to-turn, up-to-none}
 use Rattle.log.proofs.extent_of.Statement.{statement}
 use Rattle.log.proofs.extent_of.Tie as tie
 
 abbrev Inv-loop : tie.InvT-loop
-Inv-loop log k₀ k = (k ≤ length log / 16) × (extent log ≡ upToLast (slotsIn k log))
+Inv-loop log k₀ k = (k ≤ length log / recordSize) × (extent log ≡ upToLast (slotsIn k log))
 
 abbrev μ-loop : tie.MeasureT-loop
 μ-loop log k₀ k = k

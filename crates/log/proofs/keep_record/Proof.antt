@@ -5,6 +5,7 @@ use mathlib.Core.Path.{_≡_, sym, ap, _∙_}
 use mathlib.Core.List.{List}
 use denote.Ref.{now}
 use borrow.Author.Needs.{needs}
+use Rattle.line.specs.Limits.{recordSize}
 use Rattle.line.specs.Line.{overwrite}
 use Rattle.log.specs.Log.{octetsOfRecord, recordOf, slotAt}
 use Rattle.log.proofs.Searches.{slot-used, slot-unused, slot-again, part-slot}
@@ -78,7 +79,7 @@ returns-3 c =
     let o : octetsOfRecord (read w .record-of .result) ≡ slotAt l k
     = ap octetsOfRecord (read w .record-of .ensures ∙ ap recordOf (part-slot l k))
     ∙ slot-again l k (λ i. omega (arith, used w .before .before .slice-known .given i)) (s .pre .1) in
-    (w .write-record .ensures ∙ ap (overwrite l (16 * j)) o ∙ sym (m .0), sym (m .1))
+    (w .write-record .ensures ∙ ap (overwrite l (recordSize * j)) o ∙ sym (m .0), sym (m .1))
 
 pub keep-record-spec : {M : Type 1} → statement M
 keep-record-spec =

@@ -49,6 +49,7 @@ use denote.Triple.Spec.{Meets, tripleOf}
 use denote.Triple.Table.{entered, cited}
 use denote.Triple.Walked.{says, Stays, stay-ref, walkOf, goes-ref, Walks, ends-at, walked, walk-meets}
 use denote.Triple.Clauses.{ensured, lasts}
+use Rattle.line.specs.Limits.{recordSize}
 use Rattle.log.specs.declared.Reader.{Reader}
 use Rattle.log.specs.declared.Step.{Step}
 use Rattle.log.specs.Readers.{handing, nextStep, handOut}
@@ -256,7 +257,7 @@ module _ {M : Type 1} (𝓤 : URA M) (H : Heap 𝓤) (A : Atoms 𝓤) (W : Given
         assigns ! (of-opd ! (load ! (from ! (fld ! refl (stop !))) (look-in ! 12 (sub ! 1 refl (whole !)))))
         (from ! (hop ! (look ! 14 refl) (fld ! refl (stop !)))) (store-in ! 3 (sub ! 1 refl (whole !)) (tt, record { fits = at-fits r u is })) $
         assigns ! (of-opd ! (load ! (from ! (fld ! refl (stop !))) (look-in ! 12 (sub ! 0 refl (whole !))))) (from ! (stop !))
-        (init ! 16 refl (read-typed 𝓤 H A W r u is)) $
+        (init ! recordSize refl (read-typed 𝓤 H A W r u is)) $
         use1 W (‵ (E.the-row .own (r .read) (read-val r ∷ []))) (read-owns 𝓤 H A W r) $
         -- the borrow is closed at the reader with the new number
         move ! (2 ∷ []) $ use1 W (‵ (R .own (with-at (r .at)) (val-at (r .at) ∷ []))) (again (r .at) (at-fits r u is)) $

@@ -7,6 +7,7 @@ use mathlib.Core.List.{List}
 use lib.ListN.{length, drop}
 use denote.Ref.{now}
 use borrow.Author.Needs.{needs}
+use Rattle.line.specs.Limits.{recordSize}
 use Rattle.log.specs.declared.LogNumber.the-variants.{Number}
 use Rattle.log.specs.Log.{slots, usedOnes, usedCount}
 use Rattle.log.proofs.Used.{used-none}
@@ -20,7 +21,7 @@ abbrev ahead : List ℕ → ℕ → ℕ
 ahead l k = length (usedOnes (drop k (slots l)))
 
 abbrev Inv-loop : tie.InvT-loop
-Inv-loop log records i₀ used₀ i used = (i ≤ length log / 16) × (used ≤ i) × (used + ahead log i ≡ usedCount log)
+Inv-loop log records i₀ used₀ i used = (i ≤ length log / recordSize) × (used ≤ i) × (used + ahead log i ≡ usedCount log)
 
 abbrev μ-loop : tie.MeasureT-loop
 μ-loop log records i₀ used₀ i used = records - i
@@ -63,7 +64,7 @@ loop-again c =
     let l = lent t in
     let i = t .loop .i in
     let inv = t .loop .inv in
-    ⊎-elim {C = (i + 1 ≤ length l / 16) × (c .if2 .used ≤ i + 1) × (c .if2 .used + ahead l (i + 1) ≡ usedCount l)}
+    ⊎-elim {C = (i + 1 ≤ length l / recordSize) × (c .if2 .used ≤ i + 1) × (c .if2 .used + ahead l (i + 1) ≡ usedCount l)}
     (λ w. let e = count-used l i (omega arith) (slot-used l i (w .0 .taken)) in let u = w .1 in (omega arith, omega arith, omega arith))
     (λ w. let e = count-unused l i (omega arith) (slot-unused l i (w .0 .left)) in let u = w .1 in (omega arith, omega arith, omega arith))
     (c .if2 .came)

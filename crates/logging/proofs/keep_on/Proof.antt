@@ -10,6 +10,7 @@ use lib.ListN.{length, getD}
 use denote.Ref.{now}
 use borrow.Author.Needs.{needs}
 use Rattle.line.specs.declared.Found.the-variants.{At}
+use Rattle.line.specs.Limits.{mostSymbols, recordSize, tableEntries}
 use Rattle.line.specs.Line.{capture, findStart, findControl, overwrite}
 use Rattle.line.specs.Octets.{between}
 use Rattle.line.specs.Table.{first}
@@ -123,7 +124,7 @@ found-end : (c : tie.After-known-told2 Inv-loop μ-loop)
 found-end c = sym (c .before .before .before .find-control .ensures) ∙ c .before .end .given .1
 
 start-inside : (c : tie.After-known-told Inv-loop μ-loop)
-    → (turning c .loop .at ≤ start c) × (start c < length (octets (turning c))) × (length (octets (turning c)) ≤ 65536)
+    → (turning c .loop .at ≤ start c) × (start c < length (octets (turning c))) × (length (octets (turning c)) ≤ mostSymbols)
 start-inside c =
     let k = passed _ _ _ _ _ _ (fine (turning c)) in
     let f = start-found _ _ (k .even) _ _ (found-start c) in
@@ -136,11 +137,11 @@ end-inside c =
     (e .0, e .1)
 
 -- where the log is not full it has the record behind the last used one
-inside : (c : tie.Else1 Inv-loop μ-loop) → roomed c .room .result < length (log (turning (starting (ending (roomed c))))) / 16
+inside : (c : tie.Else1 Inv-loop μ-loop) → roomed c .room .result < length (log (turning (starting (ending (roomed c))))) / recordSize
 inside c =
     let r = roomed c in
     let l = turning (starting (ending r)) in
-    room-left (log l) (good l) (r .room .result) (r .room .ensures .1) (λ e. c .if1 .left (e ∙ ap (λ (m : ℕ). m / 16) (l .loop .inv .3)))
+    room-left (log l) (good l) (r .room .result) (r .room .ensures .1) (λ e. c .if1 .left (e ∙ ap (λ (m : ℕ). m / recordSize) (l .loop .inv .3)))
 
 extent-of-requires : tie.Need-extent-of-requires Inv-loop μ-loop
 extent-of-requires c κs = search needs
@@ -212,7 +213,7 @@ returns-3 c =
     let k = ending r in
     let l = turning (starting k) in
     let i = l .loop .inv in
-    let h : extent (roomy (log l)) ≡ length (log l) / 16 = sym (r .room .ensures .1) ∙ c .if1 .taken ∙ ap (λ (m : ℕ). m / 16) (sym (i .3)) in
+    let h : extent (roomy (log l)) ≡ length (log l) / recordSize = sym (r .room .ensures .1) ∙ c .if1 .taken ∙ ap (λ (m : ℕ). m / recordSize) (sym (i .3)) in
     ap (stopped Full (at-state (call l .args .state .deficit) (l .loop .counters) (l .loop .timers)) (l .loop .at) (l .loop .n))
     (r .room .ensures .0 ∙ room-full (log l) (good l) h .0)
     ∙ sym (loop-full _ _ _ _ _ _ (fine l) _ (found-start (starting k)) _ (found-end k) _ _ _ _ (more l) (good l) h)
@@ -341,14 +342,14 @@ timers-now c =
 -- the log after a turn
 log-now : (c : tie.After-write-record Inv-loop μ-loop)
     → let j = made (c .before) in let l = turning (starting (judged j)) in
-    c .write-record .last .0 ≡ overwrite (roomy (log l)) (16 * place j .room .result) (octetsOfRecord (recorded j))
+    c .write-record .last .0 ≡ overwrite (roomy (log l)) (recordSize * place j .room .result) (octetsOfRecord (recorded j))
 unfolding between
 log-now c =
     let j = made (c .before) in
     let k = starting (judged j) in
     let l = turning k in
     c .write-record .ensures
-    ∙ ap₂ (λ (m : List ℕ) (x : Record). overwrite m (16 * place j .room .result) (octetsOfRecord x))
+    ∙ ap₂ (λ (m : List ℕ) (x : Record). overwrite m (recordSize * place j .room .result) (octetsOfRecord x))
     (place j .room .ensures .0)
     (c .before .record-of-run .ensures ∙ ap (recordOfFrame (call l .args .s) (own l) (start k) (frameOf (run j))) (outcome-is j))
 
@@ -367,9 +368,9 @@ loop-again c =
     let r = place j .room in
     let g = inside (free (settled j)) in
     let size = length-roomy (log l) (good l) in
-    let m : List ℕ = overwrite (roomy (log l)) (16 * r .result) (octetsOfRecord x) in
+    let m : List ℕ = overwrite (roomy (log l)) (recordSize * r .result) (octetsOfRecord x) in
     let same = log-now (wrote c) in
-    let few : length es ≤ 16 = omega (arith, entries-sixteen (now (a .table))) in
+    let few : length es ≤ tableEntries = omega (arith, entries-sixteen (now (a .table))) in
     let start-is = found-start (starting k) in
     let end-is = found-end k in
     let fuel : length (octets l) + 1 - (l .loop .n + 1) ≡ length (octets l) + 1 - l .loop .n - 1 = omega arith in (

@@ -4,16 +4,17 @@ use lib.ListN.{length, getD}
 use native.Mathlib.Omega.{arith}
 use mathlib.Core.Path.{_≡_, refl, sym}
 use Prim.Native.Nat.{ℕ, _≤_, _<_, _-_}
+use Rattle.line.specs.Limits.{preambleSize}
 use Rattle.line.specs.Line.{preamble}
 use Rattle.outcome.proofs.Rules.{preamble-short, preamble-differs, preamble-right}
 use Rattle.outcome.proofs.bad_preamble.Statement.{statement}
 use Rattle.outcome.proofs.bad_preamble.Tie as tie
 
 abbrev Inv-loop : tie.InvT-loop
-Inv-loop run right k₀ k = (k ≤ 7) × (7 ≤ length run) × (right ≡ preamble) × ((i : ℕ) → i < k → getD run i 0 ≡ getD right i 0)
+Inv-loop run right k₀ k = (k ≤ preambleSize) × (preambleSize ≤ length run) × (right ≡ preamble) × ((i : ℕ) → i < k → getD run i 0 ≡ getD right i 0)
 
 abbrev μ-loop : tie.MeasureT-loop
-μ-loop run right k₀ k = 7 - k
+μ-loop run right k₀ k = preambleSize - k
 
 returns : tie.Need-returns Inv-loop μ-loop
 returns c = sym (preamble-short _ (c .if1 .taken))

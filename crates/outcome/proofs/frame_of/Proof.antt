@@ -2,6 +2,7 @@
 use borrow.Author.Needs.{needs}
 use mathlib.Core.Path.{sym}
 use denote.Ref.{now}
+use Rattle.line.specs.Limits.{preambleSize}
 use Rattle.fcs.proofs.Laws.{last-part}
 use Rattle.outcome.proofs.Rules.{frame-none}
 use Rattle.outcome.specs.Outcomes.{frameOf}
@@ -25,7 +26,7 @@ part-result-end c = search needs
 
 returns-2 : tie.Need-returns-2
 unfolding frameOf
-returns-2 c = last-part 7 (now (c .before .before .args .run))
+returns-2 c = last-part preambleSize (now (c .before .before .args .run))
 
 pub frame-of-spec : {M : Type 1} → statement M
 frame-of-spec =

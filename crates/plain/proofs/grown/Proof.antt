@@ -8,6 +8,7 @@ use lib.ListN.{length, getD, drop, set}
 use lib.Dec.{ltb, leb}
 use borrow.Author.Needs.{needs}
 use borrow.Author.Tests.{lt-ltb, le-ltb, le-leb, lt-leb}
+use Rattle.line.specs.Limits.{preambleSize, fcsSize}
 use Rattle.crc.specs.Crc.{crcOctet}
 use Rattle.kept.specs.declared.Run.{Run}
 use Rattle.plain.specs.Plain.{grown}
@@ -39,7 +40,8 @@ first-kept c =
     (c .if1 .came)
 
 register-kept : (c : tie.Joined2) → let r = c .before .if1 .r in
-    c .if2 .r ≡ withRegister r (cond (leb 11 (old (c .before) .count)) (crcOctet (r .register) (getD (old (c .before) .last) 0 0)) (r .register))
+    c .if2 .r ≡ withRegister r (cond (leb (preambleSize + fcsSize) (old (c .before) .count)) (crcOctet (r .register) (getD (old (c .before) .last) 0 0))
+    (r .register))
 register-kept c =
     ⊎-elim
     (λ w. rw (le-leb _ _ (w .0 .taken)) (w .3 ∙ ap (withRegister (c .before .if1 .r)) (w .2 .ensures)))
@@ -50,10 +52,11 @@ register-kept c =
 grown-so-far : (c : tie.Joined2) → let r = old (c .before) in
     c .if2 .r
     ≡ withRegister (withFirst r (cond (ltb (r .count) 53) (set (r .first) (r .count) (call (c .before) .args .o)) (r .first)))
-    (cond (leb 11 (r .count)) (crcOctet (r .register) (getD (r .last) 0 0)) (r .register))
+    (cond (leb (preambleSize + fcsSize) (r .count)) (crcOctet (r .register) (getD (r .last) 0 0)) (r .register))
 grown-so-far c =
     register-kept c
-    ∙ ap (λ (q : Run). withRegister q (cond (leb 11 (old (c .before) .count)) (crcOctet (q .register) (getD (old (c .before) .last) 0 0)) (q .register)))
+    ∙ ap (λ (q : Run). withRegister q
+    (cond (leb (preambleSize + fcsSize) (old (c .before) .count)) (crcOctet (q .register) (getD (old (c .before) .last) 0 0)) (q .register)))
     (first-kept (c .before))
 
 last-length : (c : tie.Joined1) → length (old c .last) ≡ 4
@@ -65,8 +68,11 @@ cast-at c = search needs
 element-write-r : tie.Need-element-write-r
 element-write-r c = search needs
 
-array-read-t14 : tie.Need-array-read-t14
-array-read-t14 c = search needs
+add-if2 : tie.Need-add-if2
+add-if2 c = search needs
+
+array-read-t15 : tie.Need-array-read-t15
+array-read-t15 c = search needs
 
 slice-aggregate-update : tie.Need-slice-aggregate-update
 slice-aggregate-update c = search needs
@@ -74,14 +80,14 @@ slice-aggregate-update c = search needs
 update-requires : tie.Need-update-requires
 update-requires c κs = search needs
 
-array-read-t21 : tie.Need-array-read-t21
-array-read-t21 c = search needs
+array-read-t22 : tie.Need-array-read-t22
+array-read-t22 c = search needs
 
-array-read-t24 : tie.Need-array-read-t24
-array-read-t24 c = search needs
+array-read-t25 : tie.Need-array-read-t25
+array-read-t25 c = search needs
 
-array-read-t27 : tie.Need-array-read-t27
-array-read-t27 c = search needs
+array-read-t28 : tie.Need-array-read-t28
+array-read-t28 c = search needs
 
 wrapping-add-u16-requires : tie.Need-wrapping-add-u16-requires
 wrapping-add-u16-requires c κs = search needs
@@ -106,11 +112,12 @@ grown-spec =
     (tie.spec
     cast-at
     element-write-r
-    array-read-t14
+    add-if2
+    array-read-t15
     slice-aggregate-update
     update-requires
-    array-read-t21
-    array-read-t24
-    array-read-t27
+    array-read-t22
+    array-read-t25
+    array-read-t28
     wrapping-add-u16-requires
     returns)

@@ -6,6 +6,7 @@ use native.Mathlib.Omega.{arith}
 use Prim.Native.Nat.{ℕ, _+_, _-_, _≤_, _<_}
 use lib.ListN.{length, getD, length-take, length-drop}
 use denote.Ref.{now}
+use Rattle.line.specs.Limits.{mostSymbols}
 use Rattle.line.specs.Octets.{between}
 use Rattle.line.specs.declared.Found.the-variants.{At}
 use Rattle.line.specs.Line.{capture, findStart, findControl}
@@ -71,7 +72,7 @@ found-end : (c : tie.After-known-told3)
 found-end c = sym (c .before .before .before .find-control .ensures) ∙ c .before .end .given .1
 
 -- so both lie inside the buffers, and these are small
-start-inside : (c : tie.After-known-told2) → (length (octets c) ≤ 65536) × (start c < length (octets c))
+start-inside : (c : tie.After-known-told2) → (length (octets c) ≤ mostSymbols) × (start c < length (octets c))
 start-inside c = let k = passed _ _ _ _ _ _ (fine (passing c)) in (k .small, start-found _ _ (k .even) _ _ (found-start c) .1)
 
 end-inside : (c : tie.After-known-told3) → (start (starting c) + 1 ≤ end c) × (end c < length (octets (starting c)))

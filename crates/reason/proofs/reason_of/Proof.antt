@@ -4,6 +4,7 @@ use mathlib.Core.List.{List}
 use Prim.Native.Nat.{ℕ, _+_}
 use lib.ListN.{length}
 use denote.Ref.{now}
+use Rattle.line.specs.Limits.{leastFrame}
 use Rattle.fcs.specs.Fcs.{fcsOf}
 use Rattle.frame.specs.Frame.{covered}
 use Rattle.control.specs.Control.{opcode}
@@ -107,7 +108,7 @@ returns-2 c = rw (c .before .enum-told2 .given .1) (c .of-preamble .ensures)
 
 returns-3 : tie.Need-returns-3
 unfolding reasonFor
-returns-3 c = rw (c .enum-told3 .given .1) (ap (λ (l : List ℕ). TooShort (length l) 64) (frame-is (c .before .before)))
+returns-3 c = rw (c .enum-told3 .given .1) (ap (λ (l : List ℕ). TooShort (length l) leastFrame) (frame-is (c .before .before)))
 
 returns-4 : tie.Need-returns-4
 unfolding reasonFor

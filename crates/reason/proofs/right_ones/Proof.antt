@@ -4,6 +4,7 @@ use Prim.Native.Nat.{ℕ, _-_, _≤_, _<_}
 use mathlib.Core.Path.{_≡_, refl, sym, ap, _∙_}
 use lib.ListN.{length, getD}
 use mathlib.Core.List.{List}
+use Rattle.line.specs.Limits.{preambleSize}
 use Rattle.line.specs.Line.{preamble}
 use Rattle.reason.specs.Reasons.{rightOnes}
 use Rattle.reason.proofs.Laws.{rightFrom, right-start, right-turn, right-stop, right-end}
@@ -11,16 +12,16 @@ use Rattle.reason.proofs.right_ones.Statement.{statement}
 use Rattle.reason.proofs.right_ones.Tie as tie
 
 abbrev Inv-loop : tie.InvT-loop
-Inv-loop run right k₀ k = (k ≤ 7) × (right ≡ preamble) × (rightOnes run preamble ≡ rightFrom run preamble k)
+Inv-loop run right k₀ k = (k ≤ preambleSize) × (right ≡ preamble) × (rightOnes run preamble ≡ rightFrom run preamble k)
 
 abbrev μ-loop : tie.MeasureT-loop
-μ-loop run right k₀ k = 7 - k
+μ-loop run right k₀ k = preambleSize - k
 
-seven-more : (k : ℕ) → k < 7 → k < length preamble
+seven-more : (k : ℕ) → k < preambleSize → k < length preamble
 unfolding preamble
 seven-more k h = h
 
-seven-end : (k : ℕ) → 7 ≤ k → length preamble ≤ k
+seven-end : (k : ℕ) → preambleSize ≤ k → length preamble ≤ k
 unfolding preamble
 seven-end k h = h
 

@@ -10,6 +10,7 @@ use lib.ListN.{length, length-take, length-drop}
 use borrow.Author.Needs.{needs}
 use denote.Ref.{now}
 use Rattle.receive.proofs.Cases.{read-refused, read-none, read-open, read-ended}
+use Rattle.line.specs.Limits.{mostSymbols}
 use Rattle.line.specs.Octets.{between}
 use Rattle.line.specs.declared.Found.the-variants.{At}
 use Rattle.line.proofs.Places.{start-found, control-found}
@@ -71,7 +72,7 @@ found-end : (c : tie.After-known-told3)
 found-end c = sym (c .before .before .before .find-control .ensures) ∙ c .before .end .given .1
 
 -- so both lie inside the buffers, and these are small
-start-inside : (c : tie.After-known-told2) → (length (octets c) ≤ 65536) × (start c < length (octets c))
+start-inside : (c : tie.After-known-told2) → (length (octets c) ≤ mostSymbols) × (start c < length (octets c))
 start-inside c = let k = passed _ _ _ _ _ _ (fine (passing c)) in (k .small, start-found _ _ (k .even) _ _ (found-start c) .1)
 
 end-inside : (c : tie.After-known-told3) → (start (starting c) + 1 ≤ end c) × (end c < length (octets (starting c)))

@@ -6,6 +6,7 @@ use denote.Ref.{now}
 use mathlib.Core.Path.{_≡_, ap, ap₂, _∙_}
 use mathlib.Core.List.{List}
 use borrow.Author.Needs.{needs}
+use Rattle.line.specs.Limits.{mostSymbols, preambleSize}
 use Rattle.station.specs.declared.Part.{Part}
 use Rattle.fields.specs.Places.{layoutOf}
 use Rattle.fields.proofs.Tags.{dataPlace-small}
@@ -36,9 +37,9 @@ frame-is c = c .before .frame-of .ensures
 layout-is : (c : tie.After-layout-of) → c .layout-of .result ≡ layoutOf (frame c)
 layout-is c = c .layout-of .ensures ∙ ap layoutOf (frame-is c)
 
-small : (c : tie.After-layout-of) → length (frame c) ≤ 65536
+small : (c : tie.After-layout-of) → length (frame c) ≤ mostSymbols
 unfolding frameOf
-small c = omega (arith, length-drop 7 (now (call c .args .run)))
+small c = omega (arith, length-drop preambleSize (now (call c .args .run)))
 
 near : (c : tie.After-layout-of) → c .layout-of .result .place ≤ 46
 near c = omega (arith, layout-place _ (frame c) (layout-is c), dataPlace-small (frame c))

@@ -4,6 +4,7 @@ use Prim.Native.Nat.{ℕ}
 use mathlib.Core.Path.{_≡_, sym}
 use mathlib.Core.Bool.{Bool, _||_}
 use lib.Dec.{eqb, ltb}
+use Rattle.line.specs.Limits.{leastType}
 use Rattle.writing.specs.declared.Form.{Form}
 use Rattle.writing.specs.declared.Form.the-variants.{ByType}
 use Rattle.send.specs.Sending.{badType}
@@ -12,7 +13,8 @@ use Rattle.send.proofs.bad_type.Statement.{statement}
 use Rattle.send.proofs.bad_type.Tie as tie
 
 -- the definition, by what the code's tests found
-by-tests : (f : Form) (t : ℕ) {a b c : Bool} → f ≡ ByType t → ltb t 1536 ≡ a → eqb t 0x8100 ≡ b → eqb t 0x8808 ≡ c → badType f ≡ (a || b || c || eqb t 0x88A8)
+by-tests : (f : Form) (t : ℕ) {a b c : Bool} → f ≡ ByType t → ltb t leastType ≡ a → eqb t 0x8100 ≡ b → eqb t 0x8808 ≡ c
+    → badType f ≡ (a || b || c || eqb t 0x88A8)
 unfolding badType
 by-tests f t e low tag control = rw (e, low, tag, control)
 

@@ -5,6 +5,7 @@ use mathlib.Core.Path.{_≡_, refl, sym, ap, _∙_}
 use lib.ListN.{length}
 use denote.Ref.{now}
 use borrow.Author.Needs.{needs}
+use Rattle.line.specs.Limits.{mostSymbols, tagSize, leastData, leastLimit, mostLimit, aroundBody, mostTags}
 use Rattle.line.specs.Table.{Table, first}
 use Rattle.line.proofs.Tables.{first-other}
 use Rattle.station.specs.declared.Checked.{Checked}
@@ -105,7 +106,7 @@ past-1 : (c : tie.Else1) → past 1 (at1 c)
 unfolding clientRefusals
 past-1 c = row-passed BadSettings _ refl (c .before .bad-settings .ensures) (c .if1 .left)
 
-valid : (c : tie.Else1) → let m = at1 c .args .s .limit in (1518 ≤ m) × (m ≤ 9618)
+valid : (c : tie.Else1) → let m = at1 c .args .s .limit in (leastLimit ≤ m) × (m ≤ mostLimit)
 valid c = limit-from (at1 c .args .s) (sym (c .before .bad-settings .ensures) ∙ c .if1 .left)
 
 past-2 : (c : tie.Else2) → past 2 (at2 c)
@@ -117,7 +118,7 @@ unfolding clientRefusals
 past-3 c = row-passed BadPlace _ (past-2 (else2 c)) (c .before .bad-start .ensures) (c .if3 .left)
 
 -- the place lies inside the buffers, and these are not too long
-place-small : (c : tie.Else3) → let a = at3 c .args in (a .place ≤ length (now (a .octets))) × (a .place ≤ 65536)
+place-small : (c : tie.Else3) → let a = at3 c .args in (a .place ≤ length (now (a .octets))) × (a .place ≤ mostSymbols)
 place-small c =
     let p = inside-port _ _ _ (sym (c .before .bad-start .ensures) ∙ c .if3 .left) in
     let b = else2 c in
@@ -158,7 +159,7 @@ data-short c =
     let a = at8 c .args in
     short-data (a .s .limit) (a .client .form) (now (a .d)) (valid (leading c) .1) (sym (c .before .long-data .ensures) ∙ c .if8 .left)
 
-few-tags : (c : tie.Else8) → at8 c .args .client .count ≤ 8
+few-tags : (c : tie.Else8) → at8 c .args .client .count ≤ mostTags
 few-tags c = let p7 = else7 c in tags-to-8 (at8 c .args .client) (sym (p7 .before .many-tags .ensures) ∙ p7 .if7 .left)
 
 body-small : (c : tie.After-client-size) → c .client-size .result ≤ 131072
@@ -173,7 +174,8 @@ body-is : (c : tie.After-client-size) → let a = at8 (c .before) .args in lengt
 body-is c =
     let s = at8 (c .before) in
     let a = s .args in
-    let counted = ap (λ (n : ℕ). 14 + 4 * n + (length (now (a .d)) + (46 - length (now (a .d))))) (tags-count (a .client) (tags-8 s) (few-tags (c .before))) in
+    let counted = ap (λ (n : ℕ). 14 + tagSize * n + (length (now (a .d)) + (leastData - length (now (a .d)))))
+    (tags-count (a .client) (tags-8 s) (few-tags (c .before))) in
     client-body-size (a .s) (a .client) (now (a .d)) (dest-6 s) (own-6 s) ∙ counted ∙ sym (c .client-size .ensures)
 
 -- the gap is that of the port
@@ -186,7 +188,7 @@ short-gap : (c : tie.After-gap-behind) → c .gap-behind .result .size ≤ 16
 short-gap c =
     let a = at8 (c .before .before) .args in
     let e = ap (λ (g : Gap). g .size) (c .gap-behind .ensures) in
-    let k = some-gap (a .port) (a .place + 12 + c .before .client-size .result) (a .state .deficit) in
+    let k = some-gap (a .port) (a .place + aroundBody + c .before .client-size .result) (a .state .deficit) in
     omega arith
 
 -- the room that is asked for is that of the frame's symbols

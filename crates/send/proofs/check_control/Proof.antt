@@ -6,6 +6,7 @@ use mathlib.Core.List.{List}
 use lib.ListN.{length}
 use denote.Ref.{now}
 use borrow.Author.Needs.{needs}
+use Rattle.line.specs.Limits.{mostSymbols, leastBody, aroundBody}
 use Rattle.line.specs.Table.{Table, first}
 use Rattle.line.proofs.Tables.{first-other}
 use Rattle.station.specs.declared.Checked.{Checked}
@@ -66,7 +67,7 @@ unfolding controlRefusals
 past-5 c body = row-passed OtherFlow _ (past-4 (c .before) body) refl (c .if5 .left)
 
 -- the place lies inside the buffers, and these are not too long
-place-small : (c : tie.Else3) → let a = at3 c .args in (a .place ≤ length (now (a .octets))) × (a .place ≤ 65536)
+place-small : (c : tie.Else3) → let a = at3 c .args in (a .place ≤ length (now (a .octets))) × (a .place ≤ mostSymbols)
 place-small c =
     let p = inside-port _ _ _ (sym (c .before .bad-start .ensures) ∙ c .if3 .left) in
     let b = c .before .before in
@@ -74,29 +75,29 @@ place-small c =
     (p, omega arith)
 
 -- the gap is that of the port
-gap-of : (c : tie.After-gap-behind) (body : List ℕ) → length body ≡ 60
+gap-of : (c : tie.After-gap-behind) (body : List ℕ) → length body ≡ leastBody
     → let a = at5 (c .before) .args in c .gap-behind .result ≡ gapOn (a .port) (a .deficit) (a .place) body
-gap-of c body e = let a = at5 (c .before) .args in c .gap-behind .ensures ∙ gap-is (a .port) (a .deficit) (a .place) body 60 e
+gap-of c body e = let a = at5 (c .before) .args in c .gap-behind .ensures ∙ gap-is (a .port) (a .deficit) (a .place) body leastBody e
 
 -- and short
 short-gap : (c : tie.After-gap-behind) → c .gap-behind .result .size ≤ 16
 short-gap c =
     let a = at5 (c .before) .args in
     let e = ap (λ (g : Gap). g .size) (c .gap-behind .ensures) in
-    let k = some-gap (a .port) (a .place + 12 + 60) (a .deficit) in
+    let k = some-gap (a .port) (a .place + aroundBody + leastBody) (a .deficit) in
     omega arith
 
 -- the room that is asked for is that of the symbols
-room : (c : tie.After-no-room) (body : List ℕ) → length body ≡ 60
+room : (c : tie.After-no-room) (body : List ℕ) → length body ≡ leastBody
     → let a = at5 (c .before .before .before) .args in c .no-room .result ≡ noRoom (now (a .octets)) (a .place) (symbolsOn (a .port) (a .deficit) (a .place) body)
 room c body e =
     let g = c .before .before in
     let a = at5 (g .before) .args in
-    let need = ap (λ (x : Gap). 12 + 60 + x .size) (g .gap-behind .ensures) in
+    let need = ap (λ (x : Gap). aroundBody + leastBody + x .size) (g .gap-behind .ensures) in
     c .no-room .ensures
-    ∙ room-by (now (a .octets)) (a .place) _ _ (size-is (a .port) (a .deficit) (a .place) body 60 e ∙ sym need)
+    ∙ room-by (now (a .octets)) (a .place) _ _ (size-is (a .port) (a .deficit) (a .place) body leastBody e ∙ sym need)
 
-past-6 : (c : tie.Else6) (body : List ℕ) → length body ≡ 60 → past 6 (at6 c) body
+past-6 : (c : tie.Else6) (body : List ℕ) → length body ≡ leastBody → past 6 (at6 c) body
 unfolding controlRefusals
 past-6 c body e = row-passed NoRoom _ (past-5 (c .before .before .before .before) body) (room (c .before) body e) (c .if6 .left)
 

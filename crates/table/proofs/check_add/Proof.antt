@@ -6,6 +6,7 @@ use mathlib.Core.List.{List}
 use lib.Dec.{leb}
 use denote.Ref.{now}
 use borrow.Author.Tests.{le-leb, lt-leb}
+use Rattle.line.specs.Limits.{mostHeld}
 use Rattle.line.proofs.Tables.{first-here, first-next, first-other}
 use Rattle.station.specs.declared.Checked.the-variants.{Fine, Refused}
 use Rattle.station.specs.declared.Refusal.the-variants.{BadJob, HoldsTwelve, AllInUse, AlreadyListed, BadTable}
@@ -54,8 +55,8 @@ listed c = c .is-found .ensures ∙ ap isFound (c .before .find-address .ensures
 row-17 : (c : tie.Else3) → let s = start (else1 (else2 (c .before))) in isListed (s .args .a) (mine (s .args .job) (es s)) ≡ false
 row-17 c = sym (listed (c .before)) ∙ c .if3 .left
 
-row-15 : (c : tie.Else4) → let s = start (else1 (else2 (third c))) in leb 12 (held (mine (s .args .job) (es s))) ≡ false
-row-15 c = ap (leb 12) (sym (c .before .holds .ensures)) ∙ lt-leb _ _ (c .if4 .left)
+row-15 : (c : tie.Else4) → let s = start (else1 (else2 (third c))) in leb mostHeld (held (mine (s .args .job) (es s))) ≡ false
+row-15 c = ap (leb mostHeld) (sym (c .before .holds .ensures)) ∙ lt-leb _ _ (c .if4 .left)
 
 bad-job-requires : tie.Need-bad-job-requires
 bad-job-requires c κs = search needs
@@ -98,7 +99,7 @@ returns-4 c =
     λ free. sym (first-next (Refused BadJob) _ (row-14 (else1 c2))
     ∙ first-next (Refused BadTable) _ (row-20 c2)
     ∙ first-next (Refused AlreadyListed) _ (row-17 c3)
-    ∙ first-here (Refused HoldsTwelve) _ (ap (leb 12) (sym (c .before .holds .ensures)) ∙ le-leb _ _ (c .if4 .taken)))
+    ∙ first-here (Refused HoldsTwelve) _ (ap (leb mostHeld) (sym (c .before .holds .ensures)) ∙ le-leb _ _ (c .if4 .taken)))
 
 is-found-requires-2 : tie.Need-is-found-requires-2
 is-found-requires-2 c κs = search needs

@@ -6,6 +6,7 @@ use mathlib.Core.Path.{_≡_, sym, ap, subst, _∙_}
 use mathlib.Core.Bool.{false, false≢true}
 use lib.ListN.{drop}
 use denote.Ref.{now}
+use Rattle.line.specs.Limits.{tableEntries}
 use Rattle.table.specs.Entries.{ownEntries}
 use Rattle.table.specs.Tests.{twice}
 use Rattle.table.specs.Steps.{Marked}
@@ -16,13 +17,13 @@ use Rattle.table.proofs.ends_differ.Tie as tie
 
 abbrev Inv-loop : tie.InvT-loop
 Inv-loop job t seen₀ k₀ seen k =
-    (k ≤ 16) × (twice (drop k (ownEntries job t)) ≡ false) × Marked (drop k (ownEntries job t)) seen
+    (k ≤ tableEntries) × (twice (drop k (ownEntries job t)) ≡ false) × Marked (drop k (ownEntries job t)) seen
 
 abbrev μ-loop : tie.MeasureT-loop
 μ-loop job t seen₀ k₀ seen k = k
 
 loop-holds : tie.Need-loop-holds Inv-loop μ-loop
-loop-holds c = (search needs, twice-end _ _ 16 (omega arith), (search needs, λ d l. absurd (none-among _ _ 16 d (omega arith) l)))
+loop-holds c = (search needs, twice-end _ _ tableEntries (omega arith), (search needs, λ d l. absurd (none-among _ _ tableEntries d (omega arith) l)))
 
 sub-k : tie.Need-sub-k Inv-loop μ-loop
 sub-k c = omega arith

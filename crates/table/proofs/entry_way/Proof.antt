@@ -3,6 +3,7 @@ use borrow.Author.Needs.{needs}
 use native.Mathlib.Omega.{arith}
 use Prim.Native.Nat.{_<_}
 use mathlib.Core.Path.{refl}
+use Rattle.line.specs.Limits.{tableEntries}
 use Rattle.table.proofs.entry_way.Statement.{statement}
 use Rattle.table.proofs.entry_way.Tie as tie
 
@@ -18,7 +19,7 @@ otherwise-way-requires c κs = search needs
 returns : tie.Need-returns
 returns c = search needs
 
-below : (c : tie.After-known-told) → c .before .found .given .0 .0 < 16
+below : (c : tie.After-known-told) → c .before .found .given .0 .0 < tableEntries
 below c = c .before .before .before .pre _ (c .before .found .given .1)
 
 cast-result : tie.Need-cast-result

@@ -4,6 +4,7 @@ use native.Mathlib.Omega.{arith}
 use Prim.Native.Nat.{_-_, _≤_}
 use mathlib.Core.Path.{_≡_, refl, sym, _∙_}
 use lib.ListN.{drop}
+use Rattle.line.specs.Limits.{tableEntries}
 use Rattle.fields.specs.Fields.{destination}
 use Rattle.table.specs.Entries.{ownEntries, firstMine}
 use Rattle.table.proofs.Entries.{never, at-is, search-here, search-next, search-end}
@@ -12,10 +13,10 @@ use Rattle.table.proofs.find_from.Tie as tie
 
 abbrev Inv-loop : tie.InvT-loop
 Inv-loop job t from f k₀ k =
-    (k ≤ 16) × (firstMine (destination f) k (drop k (ownEntries job t)) ≡ firstMine (destination f) from (drop from (ownEntries job t)))
+    (k ≤ tableEntries) × (firstMine (destination f) k (drop k (ownEntries job t)) ≡ firstMine (destination f) from (drop from (ownEntries job t)))
 
 abbrev μ-loop : tie.MeasureT-loop
-μ-loop job t from f k₀ k = 16 - k
+μ-loop job t from f k₀ k = tableEntries - k
 
 loop-holds : tie.Need-loop-holds Inv-loop μ-loop
 loop-holds c = (search needs, refl)

@@ -5,16 +5,17 @@ use Prim.Native.Nat.{_-_, _≤_}
 use mathlib.Core.Path.{_≡_, refl, sym, ap, _∙_}
 use lib.ListN.{drop}
 use denote.Ref.{now}
+use Rattle.line.specs.Limits.{tableEntries}
 use Rattle.table.specs.Entries.{entryAt, entriesOf, isFree, unused, firstEntry, freeEntry}
 use Rattle.table.proofs.Entries.{never, at-is, free-here, free-next, free-end}
 use Rattle.table.proofs.free_entry.Statement.{statement}
 use Rattle.table.proofs.free_entry.Tie as tie
 
 abbrev Inv-loop : tie.InvT-loop
-Inv-loop t k₀ k = (k ≤ 16) × (firstEntry unused k (drop k (entriesOf t)) ≡ freeEntry (entriesOf t))
+Inv-loop t k₀ k = (k ≤ tableEntries) × (firstEntry unused k (drop k (entriesOf t)) ≡ freeEntry (entriesOf t))
 
 abbrev μ-loop : tie.MeasureT-loop
-μ-loop t k₀ k = 16 - k
+μ-loop t k₀ k = tableEntries - k
 
 -- a turn of the loop, seen from behind the test's call
 abbrev turn : tie.After-is-free Inv-loop μ-loop → tie.At-loop Inv-loop μ-loop

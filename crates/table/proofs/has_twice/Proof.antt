@@ -4,6 +4,7 @@ use native.Mathlib.Omega.{arith}
 use Prim.Native.Nat.{_-_, _≤_}
 use mathlib.Core.Path.{_≡_, refl, sym, _∙_}
 use lib.ListN.{drop}
+use Rattle.line.specs.Limits.{tableEntries}
 use Rattle.table.specs.Entries.{ownEntries}
 use Rattle.table.specs.Tests.{twice}
 use Rattle.table.proofs.Entries.{twice-here, twice-later, twice-end}
@@ -11,10 +12,10 @@ use Rattle.table.proofs.has_twice.Statement.{statement}
 use Rattle.table.proofs.has_twice.Tie as tie
 
 abbrev Inv-loop : tie.InvT-loop
-Inv-loop job t k₀ k = (k ≤ 16) × (twice (drop k (ownEntries job t)) ≡ twice (ownEntries job t))
+Inv-loop job t k₀ k = (k ≤ tableEntries) × (twice (drop k (ownEntries job t)) ≡ twice (ownEntries job t))
 
 abbrev μ-loop : tie.MeasureT-loop
-μ-loop job t k₀ k = 16 - k
+μ-loop job t k₀ k = tableEntries - k
 
 ends-differ-requires : tie.Need-ends-differ-requires Inv-loop μ-loop
 ends-differ-requires c κs = search needs

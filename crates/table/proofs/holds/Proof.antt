@@ -6,16 +6,17 @@ use native.Mathlib.Nat.{zero-add}
 use mathlib.Core.Path.{_≡_}
 use lib.ListN.{drop}
 use denote.Ref.{now}
+use Rattle.line.specs.Limits.{tableEntries}
 use Rattle.table.specs.Entries.{ownEntries, held}
 use Rattle.table.proofs.Entries.{held-step, held-end}
 use Rattle.table.proofs.holds.Statement.{statement}
 use Rattle.table.proofs.holds.Tie as tie
 
 abbrev Inv-loop : tie.InvT-loop
-Inv-loop job t n₀ k₀ n k = (k ≤ 16) × (n ≤ k) × (n + held (drop k (ownEntries job t)) ≡ held (ownEntries job t))
+Inv-loop job t n₀ k₀ n k = (k ≤ tableEntries) × (n ≤ k) × (n + held (drop k (ownEntries job t)) ≡ held (ownEntries job t))
 
 abbrev μ-loop : tie.MeasureT-loop
-μ-loop job t n₀ k₀ n k = 16 - k
+μ-loop job t n₀ k₀ n k = tableEntries - k
 
 loop-holds : tie.Need-loop-holds Inv-loop μ-loop
 loop-holds c = (search needs, search needs, zero-add _)

@@ -6,6 +6,7 @@ use native.Mathlib.Omega.{arith}
 use borrow.Author.Needs.{needs}
 use denote.Ref.{now}
 use lib.ListN.{length, set}
+use Rattle.line.specs.Limits.{blockSize}
 use Rattle.line.specs.Line.{capture}
 use Rattle.totals.specs.Totals.{recounted, blockTotal}
 use Rattle.totals.proofs.Laws.{begin, turn, end, none-recounted, length-recounted}
@@ -14,7 +15,7 @@ use Rattle.totals.proofs.recount.Tie as tie
 
 abbrev Inv-loop : tie.InvT-loop
 Inv-loop octets marks totals₀ from to end k₀ totals k =
-    (from / 256 ≤ k) × (k ≤ end) × (totals ≡ recounted (capture octets marks) from (256 * k) totals₀)
+    (from / blockSize ≤ k) × (k ≤ end) × (totals ≡ recounted (capture octets marks) from (blockSize * k) totals₀)
 
 abbrev μ-loop : tie.MeasureT-loop
 μ-loop octets marks totals₀ from to end k₀ totals k = end - k
@@ -43,7 +44,7 @@ slice-write-totals c =
     let l = c .before .before in
     let s = start l in
     let a = s .args in
-    let n = ap length (l .loop .inv .2) ∙ length-recounted (capture (now (a .octets)) (now (a .marks))) (a .from) (256 * l .loop .k) (now (a .totals)) in
+    let n = ap length (l .loop .inv .2) ∙ length-recounted (capture (now (a .octets)) (now (a .marks))) (a .from) (blockSize * l .loop .k) (now (a .totals)) in
     let m = s .pre .2 in
     omega arith
 
@@ -70,7 +71,7 @@ same-length : tie.Need-same-length Inv-loop μ-loop
 same-length c =
     let l = c .before in
     let a = start l .args in
-    ap length (l .loop .inv .2) ∙ length-recounted (capture (now (a .octets)) (now (a .marks))) (a .from) (256 * l .loop .k) (now (a .totals))
+    ap length (l .loop .inv .2) ∙ length-recounted (capture (now (a .octets)) (now (a .marks))) (a .from) (blockSize * l .loop .k) (now (a .totals))
 
 returns : tie.Need-returns Inv-loop μ-loop
 returns c =

@@ -5,19 +5,20 @@ use mathlib.Core.Path.{_≡_, refl, sym, ap, _∙_}
 use borrow.Author.Needs.{needs}
 use denote.Ref.{now}
 use lib.ListN.{length, getD, take}
+use Rattle.line.specs.Limits.{blockSize}
 use Rattle.station.specs.Station.{total}
 use Rattle.totals.proofs.Tests.{each-low, sum-next}
 use Rattle.totals.proofs.sum_of.Statement.{statement}
 use Rattle.totals.proofs.sum_of.Tie as tie
 
 abbrev Inv-loop : tie.InvT-loop
-Inv-loop totals n sum₀ i₀ sum i = (i ≤ n) × (sum ≤ 256 * i) × (sum ≡ total (take i totals))
+Inv-loop totals n sum₀ i₀ sum i = (i ≤ n) × (sum ≤ blockSize * i) × (sum ≡ total (take i totals))
 
 abbrev μ-loop : tie.MeasureT-loop
 μ-loop totals n sum₀ i₀ sum i = n - i
 
 -- a total is 256 at most
-low : (c : tie.After-shared-slice-known Inv-loop μ-loop) → getD (now (c .before .before .before .args .totals)) (c .before .before .loop .i) 0 ≤ 256
+low : (c : tie.After-shared-slice-known Inv-loop μ-loop) → getD (now (c .before .before .before .args .totals)) (c .before .before .loop .i) 0 ≤ blockSize
 low c = each-low _ (c .before .before .before .pre .2) _
 
 loop-holds : tie.Need-loop-holds Inv-loop μ-loop

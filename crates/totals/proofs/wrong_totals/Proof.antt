@@ -5,6 +5,9 @@ use Rattle.totals.specs.Totals.{wrongTotals}
 use Rattle.totals.proofs.wrong_totals.Statement.{statement}
 use Rattle.totals.proofs.wrong_totals.Tie as tie
 
+sub-result : tie.Need-sub-result
+sub-result c = search needs
+
 add-result : tie.Need-add-result
 add-result c = search needs
 
@@ -13,4 +16,4 @@ unfolding wrongTotals
 returns c = refl
 
 pub wrong-totals-spec : {M : Type 1} → statement M
-wrong-totals-spec = tie.close (tie.spec add-result returns)
+wrong-totals-spec = tie.close (tie.spec sub-result add-result returns)

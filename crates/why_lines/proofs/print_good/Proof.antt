@@ -1,10 +1,11 @@
 -- `why_lines::print_good` meets its contract. What `split` wrote is the front of each buffer. Assumes nothing.
-use Prim.Native.Nat.{_/_, _≤_}
+use Prim.Native.Nat.{_*_, _/_, _≤_}
 use native.Mathlib.Omega.{arith}
 use mathlib.Core.Path.{sym, ap₂, _∙_}
 use lib.ListN.{length}
 use lib.Seq.{length-take-le}
 use denote.Ref.{now}
+use Rattle.line.specs.Limits.{mostRecords}
 use Rattle.why_lines.specs.Whys.{captureWhys}
 use Rattle.lines.proofs.Puts.{put-as, put-front}
 use Rattle.lines.proofs.Records.{good-short}
@@ -14,7 +15,7 @@ use Rattle.why_lines.proofs.print_good.Statement.{statement}
 use Rattle.why_lines.proofs.print_good.Tie as tie
 
 -- the input is short
-short : (c : tie.Start) → length (now (c .args .input)) ≤ 65536
+short : (c : tie.Start) → length (now (c .args .input)) ≤ 2 * mostRecords
 short c = good-short (now (c .args .input)) (c .pre .0)
 
 room-requires : tie.Need-room-requires
