@@ -23,7 +23,8 @@ use Rattle.station.specs.declared.Outcome.{Outcome}
 use Rattle.station.specs.declared.Outcome.the-variants.{Cut, BadPreamble, Undersized, Oversized, WrongFcs, WrongLength, Filtered, PauseTaken, PfcTaken, ControlDropped, HandedOut}
 use Rattle.station.specs.Station.{isGroup}
 use Rattle.fields.specs.Fields.{destination, firstField, fieldPlace, field}
-use Rattle.fields.specs.Tags.{tagCount, mostTags}
+use Rattle.fields.specs.Tags.{tagCount}
+use Rattle.line.specs.Limits.{mostTags}
 use Rattle.fields.proofs.Tags.{run-none}
 use Rattle.fcs.specs.Fcs.{fcsOf}
 use Rattle.frame.specs.Frame.{undersized, overLimit, oversized, covered, wrongFcs}

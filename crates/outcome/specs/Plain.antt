@@ -5,6 +5,7 @@ use mathlib.Core.Path.{_≡_}
 use mathlib.Core.Bool.{false, cond}
 use mathlib.Core.List.{List, _++_}
 use lib.ListN.{length, take, drop}
+use Rattle.line.specs.Limits.{preambleSize, leastFrame, leastType}
 use Rattle.line.specs.Line.{terminate, preamble}
 use Rattle.station.specs.declared.Address.{Address}
 use Rattle.station.specs.declared.Outcome.{Outcome}
@@ -24,7 +25,7 @@ openingOf a = preamble ++ a .0
 -- a first field that is no tag (rule 4: the limit is M), "1536 or more is a type" (rule 6), and not that of a control frame (rules 8 to 10)
 pub record Ordinary (field : ℕ) : Type 0 where
   pub untagged : isTagKind field ≡ false
-  pub type : 1536 ≤ field
+  pub type : leastType ≤ field
   pub uncontrolled : field ≡ 0x8808 → ⊥
 
 -- a run ended by the control octet `by`, with the opening of the own address and the limit M
@@ -33,11 +34,11 @@ pub record Plain (opening : List ℕ) (limit : ℕ) (run : List ℕ) (by : ℕ) 
   pub ended : by ≡ terminate
   -- rule 2: the preamble is right; rule 7: the destination is the own address, and no group, so that it is not broadcast
   pub opens : take 13 run ≡ opening
-  pub single : isGroup (drop 7 opening) ≡ false
+  pub single : isGroup (drop preambleSize opening) ≡ false
   -- rule 3: the preamble and 64 octets at least
-  pub long : 71 ≤ length run
+  pub long : preambleSize + leastFrame ≤ length run
   -- rule 4: the preamble and M octets at most
-  pub within : length run ≤ limit + 7
+  pub within : length run ≤ limit + preambleSize
   pub ordinary : Ordinary (firstField (frameOf run))
 
 -- what becomes of it: rule 5, else outcome 11; and the check is made

@@ -1,5 +1,6 @@
 // What becomes of one run: the table of outcomes and the status word (document 01, "Reading one Start", "Status word"). Meaning: specs/.
 use fields::Layout;
+use line::LEAST_TYPE;
 use line::PREAMBLE_SIZE;
 use station::Address;
 use station::Outcome;
@@ -139,6 +140,9 @@ pub fn judge(t: &[u32], s: Settings, job: u8, table: &[u8; 128], run: &[u8], by:
 
 // ---- the quick way for the frame most seen
 
+// The preamble and the shortest frame.
+const LEAST_RUN: usize = 71;
+
 // How a run to an own address opens: the preamble, and that address.
 pub fn opening(own: Address) -> [u8; 13]
     ensures { λ r. ⌜ r ≡ openingOf own ⌝ }
@@ -176,7 +180,7 @@ fn opens(want: &[u8], run: &[u8]) -> bool
 fn is_ordinary(field: u16) -> bool
     ensures { λ r. ⌜ (r ≡ true → Ordinary field) ⌝ }
 {
-    if field < 1536 {
+    if field < LEAST_TYPE {
         return false;
     }
     if fields::is_tag_kind(field) {
@@ -192,16 +196,16 @@ pub fn is_plain(want: &[u8; 13], limit: u16, run: &[u8], by: u8) -> bool
     if by != 0xFD {
         return false;
     }
-    if run.len() < 71 {
+    if run.len() < LEAST_RUN {
         return false;
     }
-    if (limit as usize) + 7 < run.len() {
+    if (limit as usize) + PREAMBLE_SIZE < run.len() {
         return false;
     }
     if !opens(want, run) {
         return false;
     }
-    if want[7] % 2 == 1 {
+    if want[PREAMBLE_SIZE] % 2 == 1 {
         return false;
     }
     is_ordinary(fields::high_first(run, 19))
