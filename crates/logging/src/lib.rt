@@ -242,6 +242,9 @@ fn keep_on(
     let records = log.len() / RECORD_SIZE;
     let mut counters = state.counters;
     let mut timers = state.timers;
+    // of the settings, what the quick way looks at: it is lent no more, which would be copied for each frame
+    let want = outcome::opening(s.own);
+    let limit = s.limit;
     let mut n: usize = 0;
     let mut at = place;
     let mut k = extent_of(log);
@@ -284,7 +287,12 @@ fn keep_on(
                 kept: n,
             };
         }
-        let judged = outcome::judge(t, s, job, table, &octets[from..end], octets[end]);
+        // the frame most seen; all else goes by the rules
+        let judged = if outcome::is_plain(&want, limit, &octets[from..end], octets[end]) {
+            outcome::judge_plain(t, &octets[from..end])
+        } else {
+            outcome::judge(t, s, job, table, &octets[from..end], octets[end])
+        };
         let o = judged.outcome;
         station::count(o, &mut counters);
         if flow::sets_timers(o) {
@@ -303,12 +311,12 @@ fn keep_on(
     }
 }
 
-// Whether tables of the FCS pay: 8,192 symbols are left, and the log has records for as many frames of 64 octets as fill them.
+// Whether tables of the FCS pay: 4,096 symbols are left, and the log has records for as many frames of 64 octets as fill them.
 fn pays(symbols: usize, log: usize) -> bool {
-    if symbols < 8192 {
+    if symbols < 4096 {
         return false;
     }
-    1568 <= log
+    784 <= log
 }
 
 // A walk from a place on that appends the record of each Start it counts, until `none`, `open` or a full log. In a long one the tables of the FCS are
