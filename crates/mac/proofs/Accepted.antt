@@ -9,6 +9,7 @@ use lib.ListN.{length, take, drop, replicate, length-append, length-replicate, l
 use lib.Seq.{drop-at, take-at, take-length}
 use lib.Dec.{eqb, ltb, leb, lit<}
 use borrow.Author.Tests.{eq-eqb, ne-eqb, le-ltb, lt-ltb, ltb-true, ltb-false, eqb-false}
+use Rattle.line.specs.Limits.{leastFrame, tagSize, leastType, mostLength, leastData, mostTags}
 use Rattle.line.specs.Line.{start, terminate, preamble, ended}
 use Rattle.line.specs.Octets.{sameOctets, highFirstAt, highFirst}
 use Rattle.line.specs.Table.{first}
@@ -54,9 +55,9 @@ module _ (s : Settings) (own : List (Option Address)) (f dst : List ℕ) (n : �
   unfolding badPreamble preamble sameOctets
   not-bad-preamble = ap (λ (b : Bool). b || false) (le-ltb (length (preamble ++ f)) 7 (omega arith))
 
-  not-undersized : 46 ≤ length p → undersized f ≡ false
+  not-undersized : leastData ≤ length p → undersized f ≡ false
   unfolding undersized
-  not-undersized h = le-ltb (length f) 64 (let k = x .size in omega arith)
+  not-undersized h = le-ltb (length f) leastFrame (let k = x .size in omega arith)
 
   not-wrong-length : kept t n (length p) ≡ true → wrongLength (s .checking) f ≡ false
   not-wrong-length h =
@@ -79,7 +80,7 @@ module _ (s : Settings) (own : List (Option Address)) (f dst : List ℕ) (n : �
   unfolding dropsControl
   not-dropped = rw (x .plain)
 
-  handed-out : 46 ≤ length p → oversized (s .limit) f ≡ false → kept t n (length p) ≡ true → accepts s own dst ≡ true
+  handed-out : leastData ≤ length p → oversized (s .limit) f ≡ false → kept t n (length p) ≡ true → accepts s own dst ≡ true
       → outcome s own (preamble ++ f) terminate ≡ HandedOut
   unfolding outcome outcomes
   handed-out long allowed keep heard =
@@ -100,7 +101,7 @@ module _ (s : Settings) (own : List (Option Address)) (f dst : List ℕ) (n : �
 -- ---- the facts, of a client frame: `a` the two addresses, `dst` and `src`, `n` the field, `p` the data with its padding
 
 -- from the parts: `h` is all that stands before the field
-parts : (b a r h : List ℕ) (n : ℕ) (p : List ℕ) (t : ℕ) (dst src : List ℕ) → length dst ≡ 6 → a ≡ dst ++ src → length h ≡ 12 + 4 * t → n < 65536
+parts : (b a r h : List ℕ) (n : ℕ) (p : List ℕ) (t : ℕ) (dst src : List ℕ) → length dst ≡ 6 → a ≡ dst ++ src → length h ≡ 12 + tagSize * t → n < 65536
     → b ++ fcs b ≡ a ++ r → b ++ fcs b ≡ h ++ (highFirst n ++ (p ++ fcs b)) → tagCount (b ++ fcs b) ≡ t → isControlFrame (b ++ fcs b) ≡ false
     → Facts (b ++ fcs b) dst n p t
 unfolding destination
@@ -116,7 +117,8 @@ parts b a r h n p t dst src six ea hl lt e₁ e₂ et ec =
       right = fcs-right b;
     }
 
-module _ (dst src : List ℕ) (six : length dst ≡ 6) (srcSix : length src ≡ 6) (ts : List Tag) (few : length ts ≤ 8) (n : ℕ) (lt : n < 65536) (p : List ℕ) where
+module _ (dst src : List ℕ) (six : length dst ≡ 6) (srcSix : length src ≡ 6) (ts : List Tag) (few : length ts ≤ mostTags) (n : ℕ) (lt : n < 65536)
+    (p : List ℕ) where
   twelve : length (dst ++ src) ≡ 12
   twelve = simp length-append (omega arith)
 
@@ -142,31 +144,31 @@ or-right : (a b : Bool) → (a || b) ≡ false → b ≡ false
 or-right true b h = absurd (true≢false h)
 or-right false b h = h
 
-padded-length : (d : List ℕ) → length (padded d) ≡ length d + (46 - length d)
+padded-length : (d : List ℕ) → length (padded d) ≡ length d + (leastData - length d)
 unfolding padded
 padded-length d = simp (length-append, length-replicate)
 
 -- "Data under 46 octets is padded": no other is
-pub padded-long : (d : List ℕ) → 46 ≤ length d → padded d ≡ d
+pub padded-long : (d : List ℕ) → leastData ≤ length d → padded d ≡ d
 unfolding padded
-padded-long d h = ap (λ (k : ℕ). d ++ replicate k 0) (let e : 46 - length d ≡ 0 = omega arith in e) ∙ append-nil d
+padded-long d h = ap (λ (k : ℕ). d ++ replicate k 0) (let e : leastData - length d ≡ 0 = omega arith in e) ∙ append-nil d
 
 -- a type that is not refused: what each test of `badType` leaves
-type-tests : (t : ℕ) → badType (ByType t) ≡ false → (1536 ≤ t) × (eqb t 0x8100 ≡ false) × (eqb t 0x8808 ≡ false) × (eqb t 0x88A8 ≡ false)
+type-tests : (t : ℕ) → badType (ByType t) ≡ false → (leastType ≤ t) × (eqb t 0x8100 ≡ false) × (eqb t 0x8808 ≡ false) × (eqb t 0x88A8 ≡ false)
 unfolding badType
 type-tests t h =
-    let a = ltb t 1536 in
+    let a = ltb t leastType in
     let b = eqb t 0x8100 in
     let c = eqb t 0x8808 in
     let abc = or-left (a || b || c) (eqb t 0x88A8) h in
     let ab = or-left (a || b) c abc in
-    (ltb-false t 1536 (or-left a b ab), or-right a b ab, or-right (a || b) c abc, or-right (a || b || c) (eqb t 0x88A8) h)
+    (ltb-false t leastType (or-left a b ab), or-right a b ab, or-right (a || b) c abc, or-right (a || b || c) (eqb t 0x88A8) h)
 
 -- a field that is neither a tag's nor a control frame's
 no-tag : (g : Form) (d : List ℕ) → badType g ≡ false → (m : ℕ) → longData m g d ≡ false → (isTagKind (fieldSent g d) ≡ false) × (eqb (fieldSent g d) 0x8808 ≡ false)
 unfolding longData fieldSent isTagKind
 no-tag ByLength d h m g =
-    let k : length d ≤ 1500 = ltb-false 1500 (length d) g in
+    let k : length d ≤ mostLength = ltb-false mostLength (length d) g in
     (ap₂ _||_ (ne-eqb (length d) 0x8100 (λ e. omega arith)) (ne-eqb (length d) 0x88A8 (λ e. omega arith)), ne-eqb (length d) 0x8808 (λ e. omega arith))
 no-tag (ByType t) d h m g = let k = type-tests t h in (ap₂ _||_ (k .1) (k .3), k .2)
 
@@ -178,29 +180,30 @@ few-tags c h = let n = ltb-false 8 (c .count) h in omega (arith, length-take (c 
 -- the field has 16 bits
 field-bits : (g : Form) (d : List ℕ) (m : ℕ) → Bits16 g → longData m g d ≡ false → fieldSent g d < 65536
 unfolding longData fieldSent Bits16
-field-bits ByLength d m b h = let k : length d ≤ 1500 = ltb-false 1500 (length d) h in omega arith
+field-bits ByLength d m b h = let k : length d ≤ mostLength = ltb-false mostLength (length d) h in omega arith
 field-bits (ByType t) d m b h = b
 
 keeps : (t : ℕ) (g : Form) (d : List ℕ) (m : ℕ) → badType g ≡ false → longData m g d ≡ false → kept t (fieldSent g d) (length (padded d)) ≡ true
 unfolding longData fieldSent
 keeps t ByLength d m h g =
-    let k : length d ≤ 1500 = ltb-false 1500 (length d) g in
+    let k : length d ≤ mostLength = ltb-false mostLength (length d) g in
     let j = padded-length d in
-    by-test (ltb (length d) 46)
-    (λ e. kept-short t (length d) (length (padded d)) (ltb-true (length d) 46 e) (let i = ltb-true (length d) 46 e in omega arith))
-    (λ e. let i = ltb-false (length d) 46 e in ap (λ (l : List ℕ). kept t (length d) (length l)) (padded-long d i) ∙ kept-long t (length d) i k)
+    by-test (ltb (length d) leastData)
+    (λ e. kept-short t (length d) (length (padded d)) (ltb-true (length d) leastData e) (let i = ltb-true (length d) leastData e in omega arith))
+    (λ e. let i = ltb-false (length d) leastData e in ap (λ (l : List ℕ). kept t (length d) (length l)) (padded-long d i) ∙ kept-long t (length d) i k)
 keeps t (ByType n) d m h g = kept-type t n (length (padded d)) (type-tests n h .0)
 
 -- what is taken of the padded data, with lengths checked
-taken : (g : Form) (d : List ℕ) → badType g ≡ false → cond (ltb (fieldSent g d) 46) (take (fieldSent g d) (padded d)) (padded d) ≡ delivered g d
+taken : (g : Form) (d : List ℕ) → badType g ≡ false → cond (ltb (fieldSent g d) leastData) (take (fieldSent g d) (padded d)) (padded d) ≡ delivered g d
 unfolding fieldSent delivered
 taken ByLength d h =
-    by-test (ltb (length d) 46)
-    (λ e. ap (λ (b : Bool). cond b (take (length d) (padded d)) (padded d)) e ∙ (unfold padded in take-at d (replicate (46 - length d) 0) (length d) refl))
-    (λ e. ap (λ (b : Bool). cond b (take (length d) (padded d)) (padded d)) e ∙ padded-long d (ltb-false (length d) 46 e))
+    by-test (ltb (length d) leastData)
+    (λ e. ap (λ (b : Bool). cond b (take (length d) (padded d)) (padded d)) e
+    ∙ (unfold padded in take-at d (replicate (leastData - length d) 0) (length d) refl))
+    (λ e. ap (λ (b : Bool). cond b (take (length d) (padded d)) (padded d)) e ∙ padded-long d (ltb-false (length d) leastData e))
 taken (ByType t) d h =
-    let big : 1536 ≤ t = type-tests t h .0 in
-    ap (λ (b : Bool). cond b (take t (padded d)) (padded d)) (le-ltb t 46 (omega arith))
+    let big : leastType ≤ t = type-tests t h .0 in
+    ap (λ (b : Bool). cond b (take t (padded d)) (padded d)) (le-ltb t leastData (omega arith))
 
 -- ---- the two together
 
@@ -237,5 +240,5 @@ module _ (tx rx : Settings) (own : List (Option Address)) (fr : Frame) (w : Carr
   unfolding clientData handedOf
   read-back =
       let x = facts in
-      ap₂ (λ (a : ℕ) (l : List ℕ). cond (ltb a 46) (take a l) l) (x .field-is) (x .data-is)
+      ap₂ (λ (a : ℕ) (l : List ℕ). cond (ltb a leastData) (take a l) l) (x .field-is) (x .data-is)
       ∙ taken (fr .client .form) (fr .octets) (w .form)

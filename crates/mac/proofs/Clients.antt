@@ -6,6 +6,7 @@ use mathlib.Core.Bool.{Bool, true, false}
 use mathlib.Core.List.{List, [], _∷_, _++_}
 use mathlib.Core.Option.{Option, none, some}
 use lib.ListN.{length, drop}
+use Rattle.line.specs.Limits.{leadSize}
 use Rattle.line.specs.Line.{Symbol, capture, isStart, run, ending, AfterStart, unended, ended, endedBy, afterStart, MetStart, metStarts}
 use Rattle.line.proofs.Symbols.{by-test, met-start, met-other}
 use Rattle.line.proofs.Starts.{drop-next}
@@ -69,7 +70,7 @@ module _ (s : Settings) (job : ℕ) (es : List Entry) (os ms : List ℕ) where
 
   -- one counted Start
   hands : (i : ℕ) (r : List ℕ) (w v : ℕ) (o : Outcome) → r ≡ run (drop (i + 1) c)
-      → handedBy os (Counted o w (handedPart s o (i + 8) (frameOf r)) v) ≡ byOutcome o [] [] [] [] (clientData (s .checking) (frameOf r) ∷ [])
+      → handedBy os (Counted o w (handedPart s o (i + leadSize) (frameOf r)) v) ≡ byOutcome o [] [] [] [] (clientData (s .checking) (frameOf r) ∷ [])
   unfolding handedBy handedPart
   hands i r w v Cut e = refl
   hands i r w v BadPreamble e = refl

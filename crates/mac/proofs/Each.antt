@@ -5,6 +5,7 @@ use mathlib.Core.Path.{_≡_, refl, sym, _∙_, subst}
 use mathlib.Core.List.{List, [], _∷_}
 use mathlib.Core.Option.{Option}
 use lib.ListN.{length, drop}
+use Rattle.line.specs.Limits.{leadSize}
 use Rattle.line.specs.Line.{Symbol, capture, run, ending, AfterStart, unended, ended, afterStart, MetStart, metStarts}
 use Rattle.station.specs.declared.Address.{Address}
 use Rattle.station.specs.declared.Settings.{Settings}
@@ -39,7 +40,7 @@ module _ (s : Settings) (job : ℕ) (es : List Entry) (os ms : List ℕ) where
   none-handed = part-inside os emptyPart (omega arith)
 
   hands : (i : ℕ) (r : List ℕ) (o : Outcome) → r ≡ run (drop (i + 1) c)
-      → partOf os (handedPart s o (i + 8) (frameOf r)) ≡ byOutcome o [] [] [] [] (clientData (s .checking) (frameOf r))
+      → partOf os (handedPart s o (i + leadSize) (frameOf r)) ≡ byOutcome o [] [] [] [] (clientData (s .checking) (frameOf r))
   unfolding handedPart
   hands i r Cut e = none-handed
   hands i r BadPreamble e = none-handed

@@ -11,6 +11,7 @@ use lib.ListN.{length, drop, length-map}
 use borrow.Author.Tests.{not-true}
 use Rattle.line.specs.declared.Found.{Found}
 use Rattle.line.specs.declared.Found.the-variants.{At}
+use Rattle.line.specs.Limits.{leadSize}
 use Rattle.line.specs.Line.{Symbol, capture, isData, isControl, isStart, idle, start, terminate, firstWhere, findStart, run, ending, endedBy, afterStart}
 use Rattle.line.specs.Table.{Table, first}
 use Rattle.line.proofs.Symbols.{by-test, run-data, run-control, ending-data, ending-control}
@@ -178,7 +179,7 @@ module _ (s : Settings) (own : List (Option Address)) (st : State) (os ms : List
   same-frame : (i : ℕ) → frameOf (run (drop (i + 1) (capture (likeError os ms) ms))) ≡ frameOf (run (drop (i + 1) c))
   same-frame i = ap frameOf (ap run (ap (drop (i + 1)) (capture-like os ms) ∙ drop-map (i + 1) c) ∙ same-run (drop (i + 1) c))
 
-  same-handed : (i : ℕ) (o : Outcome) → Same (handedPart s o (i + 8) (frameOf (run (drop (i + 1) c))))
+  same-handed : (i : ℕ) (o : Outcome) → Same (handedPart s o (i + leadSize) (frameOf (run (drop (i + 1) c))))
   unfolding handedPart
   same-handed i Cut = same-empty
   same-handed i BadPreamble = same-empty
@@ -193,7 +194,7 @@ module _ (s : Settings) (own : List (Option Address)) (st : State) (os ms : List
   same-handed i HandedOut =
       let ck : Bool = s .checking in
       let e = same-frame i in
-      ap (λ (f : List ℕ). partOf (likeError os ms) (record { at = i + 8 + dataPlace f; len = handedLength ck f })) (sym e)
+      ap (λ (f : List ℕ). partOf (likeError os ms) (record { at = i + leadSize + dataPlace f; len = handedLength ck f })) (sym e)
       ∙ handed-part ck (likeError os ms) ms i ∙ ap (clientData ck) e ∙ sym (handed-part ck os ms i)
 
   same-answer : (i : ℕ) (e : Option Symbol) → Same (answerPart (readStart s own st i (endedBy (run (drop (i + 1) c)) e) .answer))

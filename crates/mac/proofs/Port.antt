@@ -9,6 +9,7 @@ use mathlib.Core.Bool.{true, false, false≢true}
 use mathlib.Core.List.{List, [], _∷_, _++_, map, append-nil}
 use mathlib.Core.Logic.{_⊎_, inl, inr, ⊎-elim}
 use lib.ListN.{length, replicate, length-append}
+use Rattle.line.specs.Limits.{aroundBody, fullGap, mostDeficit, lanes}
 use Rattle.line.specs.Line.{Symbol, isData, isControl, isStart, asData, asControl, start, idle, preamble, MetStart, metStarts}
 use Rattle.line.specs.Table.{first}
 use Rattle.line.proofs.Symbols.{by-test, met-start}
@@ -67,11 +68,11 @@ frame-starts place idles body =
 
 -- ---- a frame on this port
 
-goes-out : (st : State) (n place : ℕ) (body : List ℕ) → place % 4 ≡ 0 → st .deficit ≤ 3
+goes-out : (st : State) (n place : ℕ) (body : List ℕ) → place % lanes ≡ 0 → st .deficit ≤ mostDeficit
     → GoesOut st place (symbolsOn FourLane (st .deficit) place body) (stateSent st n (gapOn FourLane (st .deficit) place body .count))
 unfolding symbolsOn gapOn stateSent
 goes-out st n place body aligned low =
-    let at : ℕ = place + 12 + length body in
+    let at : ℕ = place + aroundBody + length body in
     let idles : ℕ = gapAt FourLane at (st .deficit) .size - 1 in
     let k = four-lane at (st .deficit) in
     let least = k .least in
@@ -83,7 +84,7 @@ goes-out st n place body aligned low =
     record {
       starts = frame-starts place idles body;
       aligned = aligned;
-      ends = ap (λ (i : ℕ). i % 4) end ∙ k .lands;
+      ends = ap (λ (i : ℕ). i % lanes) end ∙ k .lands;
       count = low;
       next-count = k .small low;
       missing = omega arith;
@@ -91,11 +92,12 @@ goes-out st n place body aligned low =
       most = omega arith;
     }
 
-of-frame : {s : Settings} {count place : ℕ} {os ms body : List ℕ} → Framed s FourLane count os ms place body → (place % 4 ≡ 0) × (count ≤ 3)
+of-frame : {s : Settings} {count place : ℕ} {os ms body : List ℕ} → Framed s FourLane count os ms place body → (place % lanes ≡ 0) × (count ≤ mostDeficit)
 of-frame {s} {count} {place} {os} k = (divisible os place (k .starts), deficit-to-3 count (k .low))
 
 -- of such a frame's call, once its table has answered
-port-aligned : (st : State) (os ms : List ℕ) (c : Sends) → onFourLanes c ≡ true → first (refusalsOf st os ms c) ≡ Fine → (placeOf c % 4 ≡ 0) × (st .deficit ≤ 3)
+port-aligned : (st : State) (os ms : List ℕ) (c : Sends) → onFourLanes c ≡ true → first (refusalsOf st os ms c) ≡ Fine
+    → (placeOf c % lanes ≡ 0) × (st .deficit ≤ mostDeficit)
 unfolding onFourLanes refusalsOf clientChecked
 port-aligned st os ms (sendsClient s Plain p c d) h = absurd (false≢true h)
 port-aligned st os ms (sendsClient s FourLane p c d) h = λ e. of-frame (passed s st FourLane os ms p c d e .framed)
@@ -105,7 +107,7 @@ port-aligned st os ms (sendsPfc s Plain p k) h = absurd (false≢true h)
 port-aligned st os ms (sendsPfc s FourLane p k) h = λ e. of-frame (passed-control s FourLane (st .deficit) os ms p _ (pfcBody s k) e .1)
 port-aligned st os ms (fillsIdle p n) h = absurd (false≢true h)
 
-asked-out : (st : State) (n : ℕ) (c : Sends) → onFourLanes c ≡ true → placeOf c % 4 ≡ 0 → st .deficit ≤ 3
+asked-out : (st : State) (n : ℕ) (c : Sends) → onFourLanes c ≡ true → placeOf c % lanes ≡ 0 → st .deficit ≤ mostDeficit
     → GoesOut st (placeOf c) (symbolsAsked st c) (stateSent st n (countAfter st c))
 unfolding onFourLanes symbolsAsked countAfter
 asked-out st n (sendsClient s Plain p c d) h = absurd (false≢true h)
@@ -116,7 +118,7 @@ asked-out st n (sendsPfc s Plain p k) h = absurd (false≢true h)
 asked-out st n (sendsPfc s FourLane p k) h = goes-out st n p (pfcBody s k)
 asked-out st n (fillsIdle p m) h = absurd (false≢true h)
 
-out-or-not : (k : Checked) (st : State) (os ms : List ℕ) (c : Sends) → onFourLanes c ≡ true → (k ≡ Fine → (placeOf c % 4 ≡ 0) × (st .deficit ≤ 3))
+out-or-not : (k : Checked) (st : State) (os ms : List ℕ) (c : Sends) → onFourLanes c ≡ true → (k ≡ Fine → (placeOf c % lanes ≡ 0) × (st .deficit ≤ mostDeficit))
     → (x : Sending) → x ≡ sendChecked k st os ms (placeOf c) (symbolsAsked st c) (countAfter st c)
     → ((written k (symbolsAsked st c) ≡ []) × (x .given .state ≡ st)) ⊎ GoesOut st (placeOf c) (written k (symbolsAsked st c)) (x .given .state)
 unfolding sendChecked written
@@ -181,14 +183,14 @@ only-this-port st c h = by (does st c)
 
 -- ---- any sequence of calls
 
-one-gap : (new : List Symbol) → 9 ≤ gapSize new → gapOfFrame new ≡ gapSize new ∷ []
+one-gap : (new : List Symbol) → fullGap - mostDeficit ≤ gapSize new → gapOfFrame new ≡ gapSize new ∷ []
 unfolding gapSize gapOfFrame
 one-gap [] h = absurd (omega arith)
 one-gap (x ∷ l) h = refl
 
 -- what one call's gaps, n of them, come to, with the count before and after it
 abbrev Missing : List ℕ → ℕ → ℕ → Type 0
-Missing gaps count after = (total gaps + after ≡ 12 * length gaps + count) × (count ≤ 3 → after ≤ 3)
+Missing gaps count after = (total gaps + after ≡ fullGap * length gaps + count) × (count ≤ mostDeficit → after ≤ mostDeficit)
 
 call-missing : (st : State) (c : Call) → Missing (gapsOf st c) (st .deficit) (afterCall st c .deficit)
 unfolding gapsOf total
@@ -218,7 +220,7 @@ all-missing st (c ∷ cs) =
     (omega arith, λ k. rest .1 (one .1 k))
 
 -- "the count is exactly what is missing": from any count on
-pub deficit-is : (st : State) (cs : List Call) → total (allGaps st cs) + afterCalls st cs .deficit ≡ 12 * length (allGaps st cs) + st .deficit
+pub deficit-is : (st : State) (cs : List Call) → total (allGaps st cs) + afterCalls st cs .deficit ≡ fullGap * length (allGaps st cs) + st .deficit
 deficit-is st cs = all-missing st cs .0
 
 pub gaps-between : (st : State) (cs : List Call) → st .deficit ≡ 0 → Between (length (allGaps st cs)) (total (allGaps st cs)) (afterCalls st cs .deficit)

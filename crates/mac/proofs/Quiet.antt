@@ -11,6 +11,7 @@ use mathlib.Core.Logic.{_⊎_, ⊎-elim}
 use lib.ListN.{length, getD}
 use lib.Dec.{ltb}
 use borrow.Author.Tests.{ltb-false, ltb-true, lt-ltb, eqb-true, eq-eqb}
+use Rattle.line.specs.Limits.{quantumSlots}
 use Rattle.line.specs.Line.{Symbol, isData, isControl, isStart, asData, asControl, start, preamble, startCount}
 use Rattle.line.specs.Table.{Table, _⇒_, _∣_, first}
 use Rattle.line.proofs.Symbols.{by-test, met-start}
@@ -87,37 +88,37 @@ held-writes-none st k h c e = by (does st c)
 
 unfoldable Waits : ℕ → List Event → Type 0
 Waits t [] = Unit {0}
-Waits t (isSet q ∷ es) = Waits (64 * q .0) es
+Waits t (isSet q ∷ es) = Waits (quantumSlots * q .0) es
 Waits t (isWritten x starts ∷ es) = (0 < t → starts ≡ false) × Waits (t - 1) es
 
 time-append : (t : ℕ) (a b : List Event) → timeAfter t (a ++ b) ≡ timeAfter (timeAfter t a) b
 unfolding timeAfter
 time-append t [] b = refl
-time-append t (isSet q ∷ a) b = time-append (64 * q .0) a b
+time-append t (isSet q ∷ a) b = time-append (quantumSlots * q .0) a b
 time-append t (isWritten x starts ∷ a) b = time-append (t - 1) a b
 
 waits-append : (t : ℕ) (a b : List Event) → Waits t a → Waits (timeAfter t a) b → Waits t (a ++ b)
 unfolding Waits timeAfter
 waits-append t [] b v w = w
-waits-append t (isSet q ∷ a) b v w = waits-append (64 * q .0) a b v w
+waits-append t (isSet q ∷ a) b v w = waits-append (quantumSlots * q .0) a b v w
 waits-append t (isWritten x starts ∷ a) b v w = (v .0, waits-append (t - 1) a b (v .1) w)
 
 waits-behind : (t : ℕ) (a b : List Event) → Waits t (a ++ b) → Waits (timeAfter t a) b
 unfolding Waits timeAfter
 waits-behind t [] b w = w
-waits-behind t (isSet q ∷ a) b w = waits-behind (64 * q .0) a b w
+waits-behind t (isSet q ∷ a) b w = waits-behind (quantumSlots * q .0) a b w
 waits-behind t (isWritten x starts ∷ a) b w = waits-behind (t - 1) a b (w .1)
 
 -- settings alone, and symbols alone
 sets-wait : (t : ℕ) (qs : List Quanta) → Waits t (map isSet qs)
 unfolding Waits
 sets-wait t [] = tt
-sets-wait t (q ∷ qs) = sets-wait (64 * q .0) qs
+sets-wait t (q ∷ qs) = sets-wait (quantumSlots * q .0) qs
 
 sets-time : (t : Slots) (qs : List Quanta) → timeAfter (t .0) (map isSet qs) ≡ latest qs t .0
 unfolding timeAfter latest
 sets-time t [] = refl
-sets-time t (q ∷ qs) = sets-time (record { 0 = 64 * q .0 }) qs
+sets-time t (q ∷ qs) = sets-time (record { 0 = quantumSlots * q .0 }) qs
 
 -- each symbol takes one off
 written-time : (t : ℕ) (mine : Bool) (l : List Symbol) → timeAfter t (writtenBy mine l) ≡ t - length l
@@ -223,7 +224,7 @@ quiet k st eight cs before after q e j h =
     let t : ℕ = timer (st .timers) k .0 in
     let w : Waits t (before ++ (isSet q ∷ after)) = subst (Waits t) e (events-wait k st cs eight) in
     let v : Waits (timeAfter t before) (isSet q ∷ after) = waits-behind t before (isSet q ∷ after) w in
-    waits-next (64 * q .0) after v j h
+    waits-next (quantumSlots * q .0) after v j h
 
 -- ---- what the events are made of
 

@@ -12,6 +12,7 @@ use mathlib.Core.Logic.{_↔_, _⊎_, inl, inr, ⊎-elim}
 use lib.ListN.{length, getD, drop, length-append, List·getD-eq-default}
 use lib.Dec.{eqb, ltb, lit<}
 use borrow.Author.Tests.{ltb-true, ltb-false, lt-ltb}
+use Rattle.line.specs.Limits.{quantumSlots}
 use Rattle.line.specs.Line.{Symbol}
 use Rattle.line.proofs.Symbols.{by-test}
 use Rattle.station.specs.declared.Settings.{Settings}
@@ -173,12 +174,12 @@ timer-falls k st (c ∷ cs) w =
 
 -- "Setting replaces the old time": a call leaves the last that it sets the class to. Only one that reads sets any, since `readBy` of the others is empty
 pub timer-set : (st : State) (k : ℕ) → k < length (st .timers) → (c : Call) (before : List Quanta) (q : Quanta) → setsClass k st c ≡ before ++ (q ∷ [])
-    → timer (afterCall st c .timers) k .0 ≡ 64 * q .0
+    → timer (afterCall st c .timers) k .0 ≡ quantumSlots * q .0
 timer-set st k h c before q e =
     ⊎-elim (λ none. absurd (not-empty before q (sym none ∙ e)))
     (λ none. let n = ap length none in
     let l = ap (λ (t : Slots). t .0) (ap (λ (qs : List Quanta). latest qs (timer (st .timers) k)) e ∙ latest-append before (q ∷ []) (timer (st .timers) k)) in
-    let last : latest (q ∷ []) (latest before (timer (st .timers) k)) .0 ≡ 64 * q .0 = (unfold latest in refl) in
+    let last : latest (q ∷ []) (latest before (timer (st .timers) k)) .0 ≡ quantumSlots * q .0 = (unfold latest in refl) in
     call-timer st k h c ∙ omega arith)
     (sets-or-writes st k c)
   where

@@ -12,6 +12,7 @@ use lib.Seq.{drop-drop}
 use borrow.Author.Tests.{eqb-true, ltb-false, le-ltb}
 use Rattle.line.specs.declared.Found.{Found}
 use Rattle.line.specs.declared.Found.the-variants.{At}
+use Rattle.line.specs.Limits.{leadSize}
 use Rattle.line.specs.Line.{Symbol, capture, findStart, run, ending, AfterStart, unended, ended, endedBy, afterStart, isStart, MetStart, metStarts}
 use Rattle.line.specs.Table.{first}
 use Rattle.line.proofs.Symbols.{by-test, met-start, met-other}
@@ -83,7 +84,7 @@ module _ (s : Settings) (own : List (Option Address)) (n : ℕ) where
   whole-one st i (ended r by) ms ih =
       let f : List ℕ = frameOf r in
       let o = outcome s own r by in
-      counts o (status s o f) (handedPart s o (i + 8) f) (wayCarried s own o f) refl (ih (readStart s own st i (ended r by) .state))
+      counts o (status s o f) (handedPart s o (i + leadSize) f) (wayCarried s own o f) refl (ih (readStart s own st i (ended r by) .state))
 
   whole : (st : State) (ms : List MetStart) → Whole (through s own st n ms)
   unfolding through

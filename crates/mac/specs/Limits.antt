@@ -4,6 +4,7 @@ use mathlib.Core.Bool.{Bool, true, false, not, _&&_}
 use mathlib.Core.List.{List, [], _∷_, _++_, map}
 use lib.ListN.{length, replicate}
 use lib.Dec.{eqb}
+use Rattle.line.specs.Limits.{plainIdles}
 use Rattle.line.specs.Line.{Symbol, asData, asControl, start, terminate, preamble, octetsOf, marksOf}
 use Rattle.line.specs.Octets.{sameOctets, highFirst}
 use Rattle.station.specs.declared.Settings.{Settings}
@@ -28,7 +29,7 @@ use Rattle.writing.specs.declared.Kind.{Kind}
 use Rattle.writing.specs.declared.Kind.the-variants.{Customer, Service}
 use Rattle.writing.specs.declared.Tag.{Tag}
 use Rattle.writing.specs.declared.Form.the-variants.{ByLength}
-use Rattle.writing.specs.Frames.{plainIdles, clientBody, onLine, pauseSymbols, pfcSymbols}
+use Rattle.writing.specs.Frames.{clientBody, onLine, pauseSymbols, pfcSymbols}
 use Rattle.writing.specs.Gaps.{symbolsOn}
 use Rattle.send.specs.Sending.{Sending}
 use Rattle.mac.specs.Demand3.{Frame, Asked, rowFrames, rowFrom, sendRow}

@@ -5,6 +5,7 @@ use mathlib.Core.Bool.{Bool, true, false, not, cond, _&&_}
 use mathlib.Core.List.{List, [], _∷_, _++_}
 use mathlib.Core.Logic.{_⊎_}
 use lib.ListN.{length}
+use Rattle.line.specs.Limits.{fullGap, mostDeficit, lanes}
 use Rattle.line.specs.Line.{Symbol, isControl, isStart, metStarts}
 use Rattle.station.specs.declared.Port.{Port}
 use Rattle.station.specs.declared.Port.the-variants.{Plain, FourLane}
@@ -61,16 +62,16 @@ allGaps st (c ∷ cs) = gapsOf st c ++ allGaps (afterCall st c) cs
 pub record GoesOut (st : State) (place : ℕ) (new : List Symbol) (after : State) : Type 0 where
   -- "accepts Start only at places divisible by four": the one Start that is written stands at the place, and that is divisible
   pub starts : startPlaces (metStarts place new) ≡ place ∷ []
-  pub aligned : place % 4 ≡ 0
+  pub aligned : place % lanes ≡ 0
   -- where the frame ends, with its gap, the next one may start
-  pub ends : (place + length new) % 4 ≡ 0
+  pub ends : (place + length new) % lanes ≡ 0
   -- "a deficit count from 0 to 3", before and after it
-  pub count : st .deficit ≤ 3
-  pub next-count : after .deficit ≤ 3
+  pub count : st .deficit ≤ mostDeficit
+  pub next-count : after .deficit ≤ mostDeficit
   -- what the gap is short of 12 is added to the count, and what it is longer is taken off
-  pub missing : gapSize new + after .deficit ≡ 12 + st .deficit
-  pub least : 9 ≤ gapSize new
-  pub most : gapSize new ≤ 15
+  pub missing : gapSize new + after .deficit ≡ fullGap + st .deficit
+  pub least : fullGap - mostDeficit ≤ gapSize new
+  pub most : gapSize new ≤ fullGap + mostDeficit
 
 -- of a call on this port: it writes nothing and leaves the state, or its frame goes out
 abbrev pub OutOrNot : State → Call → Type 0
@@ -79,10 +80,10 @@ OutOrNot st c = ((writes st c ≡ []) × (afterCall st c ≡ st)) ⊎ GoesOut st
 -- each of these places is divisible by four
 unfoldable pub AllDivided : List ℕ → Type 0
 AllDivided [] = Unit {0}
-AllDivided (p ∷ ps) = (p % 4 ≡ 0) × AllDivided ps
+AllDivided (p ∷ ps) = (p % lanes ≡ 0) × AllDivided ps
 
 -- "From a count of 0, n gaps together lie between 12 × n - 3 and 12 × n, and the count is exactly what is missing."
 pub record Between (n together count : ℕ) : Type 0 where
-  pub least : 12 * n - 3 ≤ together
-  pub most : together ≤ 12 * n
-  pub missing : together + count ≡ 12 * n
+  pub least : fullGap * n - mostDeficit ≤ together
+  pub most : together ≤ fullGap * n
+  pub missing : together + count ≡ fullGap * n

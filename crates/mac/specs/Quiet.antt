@@ -7,6 +7,7 @@ use mathlib.Core.Bool.{Bool, true, false, _&&_}
 use mathlib.Core.List.{List, [], _∷_, _++_, map}
 use lib.ListN.{getD}
 use lib.Dec.{eqb}
+use Rattle.line.specs.Limits.{quantumSlots}
 use Rattle.line.specs.Line.{Symbol, isStart}
 use Rattle.station.specs.declared.State.{State}
 use Rattle.station.specs.declared.Quanta.{Quanta}
@@ -57,7 +58,7 @@ writtenNext (isWritten x starts ∷ es) = starts ∷ writtenNext es
 unfoldable pub Quiet : List Event → Type 0
 Quiet es =
     (before after : List Event) (q : Quanta) → es ≡ before ++ (isSet q ∷ after)
-    → (j : ℕ) → j < 64 * q .0 → getD (writtenNext after) j false ≡ false
+    → (j : ℕ) → j < quantumSlots * q .0 → getD (writtenNext after) j false ≡ false
 
 -- "symbols that we write": those of the events, in order
 unfoldable pub symbolsOf : List Event → List Symbol
@@ -68,7 +69,7 @@ symbolsOf (isWritten x starts ∷ es) = x ∷ symbolsOf es
 -- what is left of a wait of t symbols: a reading that sets the class puts it to 64 × q, a symbol that we write takes one off
 unfoldable pub timeAfter : ℕ → List Event → ℕ
 timeAfter t [] = t
-timeAfter t (isSet q ∷ es) = timeAfter (64 * q .0) es
+timeAfter t (isSet q ∷ es) = timeAfter (quantumSlots * q .0) es
 timeAfter t (isWritten x starts ∷ es) = timeAfter (t - 1) es
 
 -- "Control frames and other classes may start": two states that have the same deficit count and, where the call is for a client frame, the same timer of

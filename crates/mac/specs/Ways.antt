@@ -5,6 +5,7 @@ use mathlib.Core.List.{List}
 use lib.ListN.{length, drop}
 use Rattle.line.specs.declared.Found.{Found}
 use Rattle.line.specs.declared.Found.the-variants.{At}
+use Rattle.line.specs.Limits.{leadSize}
 use Rattle.line.specs.Line.{capture, findStart, AfterStart, unended, ended, afterStart}
 use Rattle.line.specs.Table.{first}
 use Rattle.station.specs.declared.Settings.{Settings}
@@ -24,7 +25,7 @@ use Rattle.receive.specs.Reading.{stateAfter, handedPart, readRefusals}
 unfoldable pub runBefore : Settings → State → ℕ → List ℕ → Outcome → Reading
 runBefore s st i run o =
     record {
-      answer = Counted o (status s o (frameOf run)) (handedPart s o (i + 8) (frameOf run)) 0;
+      answer = Counted o (status s o (frameOf run)) (handedPart s o (i + leadSize) (frameOf run)) 0;
       start = i;
       next = i + 1 + length run;
       state = stateAfter o (frameOf run) st;

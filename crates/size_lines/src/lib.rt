@@ -1,4 +1,5 @@
 // What the crew's program `size_table` prints (document 02, item 13): the size table of a capture, a line with a bar for each band. Meaning: specs/.
+use line::MOST_RECORDS;
 use lines::put_followed;
 use lines::put_octet;
 use sizes::SizeTable;
@@ -8,6 +9,7 @@ ghost use mathlib.Core.Path.{_≡_};
 ghost use mathlib.Core.Bool.{false};
 ghost use Prim.Native.Nat.{_+_, _≤_, _<_};
 ghost use lib.ListN.{length};
+ghost use Rattle.line.specs.Limits.{mostRecords};
 ghost use Rattle.line.specs.Line.{overwrite};
 ghost use Rattle.splice.specs.Written.{Put};
 ghost use Rattle.lines.specs.Lines.{badInput};
@@ -126,10 +128,10 @@ fn put_table(out: &mut [u8], t: SizeTable) -> usize
 // ---- the whole output
 
 // Room for the longest capture.
-fn room() -> [u8; 32768]
-    ensures { λ r. ⌜ length r ≡ 32768 ⌝ }
+fn room() -> [u8; MOST_RECORDS]
+    ensures { λ r. ⌜ length r ≡ mostRecords ⌝ }
 {
-    [0u8; 32768]
+    [0u8; MOST_RECORDS]
 }
 
 // The output of a whole input of at most 32,768 records.

@@ -8,6 +8,7 @@ use Prim.Native.Nat.{ℕ, _+_, _-_, _*_, _≤_, _<_}
 use borrow.Author.Needs.{needs}
 use lib.ListN.{length}
 use denote.Ref.{now}
+use Rattle.line.specs.Limits.{mostRecords}
 use Rattle.station.specs.declared.Settings.{Settings}
 use Rattle.station.specs.Station.{fresh}
 use Rattle.table.specs.Entries.{entriesOf}
@@ -40,7 +41,7 @@ abbrev turn : tie.After-take-symbol Inv-loop μ-loop → tie.At-loop Inv-loop μ
 turn c = c .before .before .before .before .before .before
 
 -- the input is short
-short : (c : tie.At-loop Inv-loop μ-loop) → length (now (call c .args .input)) ≤ 65536
+short : (c : tie.At-loop Inv-loop μ-loop) → length (now (call c .args .input)) ≤ 2 * mostRecords
 short c = good-short (now (call c .args .input)) (call c .pre .0)
 
 -- so that two lines more have room

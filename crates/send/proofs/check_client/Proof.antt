@@ -199,7 +199,7 @@ room c =
     let k = g .before in
     let a = at8 (k .before) .args in
     let size = size-is (a .port) (a .state .deficit) (a .place) (clientBody (a .s) (a .client) (now (a .d))) _ (body-is k) in
-    let need = ap (λ (x : Gap). 12 + k .client-size .result + x .size) (g .gap-behind .ensures) in
+    let need = ap (λ (x : Gap). aroundBody + k .client-size .result + x .size) (g .gap-behind .ensures) in
     c .no-room .ensures ∙ room-by (now (a .octets)) (a .place) _ _ (size ∙ sym need)
 
 past-9 : (c : tie.Else9) → past 9 (at9 c)

@@ -1,11 +1,12 @@
 -- `size_lines::print_good` meets its contract. What `split` wrote is the front of each buffer. Assumes nothing.
-use Prim.Native.Nat.{_/_, _≤_}
+use Prim.Native.Nat.{_*_, _/_, _≤_}
 use native.Mathlib.Omega.{arith}
 use mathlib.Core.Path.{sym, _∙_}
 use lib.ListN.{length}
 use lib.Seq.{length-take-le}
 use denote.Ref.{now}
 use borrow.Author.Needs.{needs}
+use Rattle.line.specs.Limits.{mostRecords}
 use Rattle.lines.proofs.Puts.{put-as, put-front}
 use Rattle.lines.proofs.Records.{good-short}
 use Rattle.size_lines.proofs.Laws.{good-printed, sizes-printed}
@@ -24,7 +25,7 @@ abbrev made : tie.After-none → tie.After-empty
 made c = c .before .before .before
 
 -- the input is short
-short : (c : tie.Start) → length (now (c .args .input)) ≤ 65536
+short : (c : tie.Start) → length (now (c .args .input)) ≤ 2 * mostRecords
 short c = good-short (now (c .args .input)) (c .pre .0)
 
 room-requires : tie.Need-room-requires
