@@ -62,9 +62,9 @@ data-to : (c : tie.After-first-mark) → (let e = ended (passed c) in let a = ca
 data-to c =
     let d = passed c in
     let a = called (ended d) .args in
-    passed-as (data-passed (now (a .octets)) (now (a .marks)))
-    (passed-on _ _ _ _ _ (passed-on _ _ _ _ _ (passed-on _ _ _ _ _ (d .pass-data .ensures) (c .before .before .pass-data2 .ensures)) (c .before .pass-words .ensures))
-    (c .first-mark .ensures .passed))
+    let blocks = passed-on _ _ _ _ _ (d .pass-data .ensures) (c .before .before .pass-data2 .ensures) in
+    let words = passed-on _ _ _ _ _ blocks (c .before .pass-words .ensures) in
+    passed-as (data-passed (now (a .octets)) (now (a .marks))) (passed-on _ _ _ _ _ words (c .first-mark .ensures .passed))
 
 returns-3 : tie.Need-returns-3
 unfolding findControl

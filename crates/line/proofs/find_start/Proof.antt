@@ -59,7 +59,8 @@ others-to c =
     let os = now (a .octets) in
     let ms = now (a .marks) in
     let e = ended h .shorter .result in
-    let one = passed-one (Miss isStart os ms) (a .place) (a .place) e (passed-none (Miss isStart os ms) (a .place) e (omega arith)) (omega arith) (sym (h .is-start .ensures) ∙ c .before .before .if2 .left) in
+    let other = sym (h .is-start .ensures) ∙ c .before .before .if2 .left in
+    let one = passed-one (Miss isStart os ms) (a .place) (a .place) e (passed-none (Miss isStart os ms) (a .place) e (omega arith)) (omega arith) other in
     passed-on _ _ _ _ _ (passed-on _ _ _ _ _ one (passed-as (idle-passed os ms) (c .before .pass-words .ensures))) (c .start-from .ensures .passed)
 
 returns-3 : tie.Need-returns-3
