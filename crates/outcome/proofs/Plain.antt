@@ -24,7 +24,7 @@ use Rattle.station.specs.declared.Outcome.the-variants.{Cut, BadPreamble, Under
 use Rattle.station.specs.Station.{isGroup}
 use Rattle.fields.specs.Fields.{destination, firstField, fieldPlace, field}
 use Rattle.fields.specs.Tags.{tagCount}
-use Rattle.line.specs.Limits.{mostTags}
+use Rattle.line.specs.Limits.{leastFrame, mostTags}
 use Rattle.fields.proofs.Tags.{run-none}
 use Rattle.fcs.specs.Fcs.{fcsOf}
 use Rattle.frame.specs.Frame.{undersized, overLimit, oversized, covered, wrongFcs}
@@ -89,12 +89,12 @@ module _ (s : Settings) (own : List (Option Address)) (run : List ℕ) (by : ℕ
 
   rule-3 : undersized f ≡ false
   unfolding undersized
-  rule-3 = let l = p .long in let n = octets in le-ltb (length f) 64 (omega arith)
+  rule-3 = let l = p .long in let n = octets in le-ltb (length f) leastFrame (omega arith)
 
   -- no tag: the limit is M, and the first field is the real one
   no-tag : tagCount f ≡ 0
-  unfolding tagCount mostTags firstField
-  no-tag = run-none f 12 8 (p .ordinary .untagged)
+  unfolding tagCount firstField
+  no-tag = run-none f 12 mostTags (p .ordinary .untagged)
 
   rule-4 : oversized (s .limit) f ≡ false
   unfolding oversized overLimit
