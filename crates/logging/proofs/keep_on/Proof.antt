@@ -59,11 +59,14 @@ Inv-loop t s job table state octets marks place log₀ records counters₀ timer
 abbrev μ-loop : tie.MeasureT-loop
 μ-loop t s job table state octets marks place log₀ records counters₀ timers₀ want limit n₀ at₀ k₀ log counters timers n at k = length octets - at
 
--- the places that others look back to: the call, from a turn of the loop; the turn, from where its Start is found; that, from where the end of its run is
--- found; that, from where room is made; that, from where there is room; both, from where the frame is seen to be plain or not; where the outcome is known,
--- from where the timers are; the end of the run, from there; and the timers, from where the record is made
+-- the places that others look back to: the call and the opening, from a turn of the loop; the turn, from where its Start is found; that, from where the end
+-- of its run is found; that, from where room is made; that, from where there is room; that and the run's end, from where the frame is seen to be plain or
+-- not; where the outcome is known, from where the timers are; the run's end, from there; and the timers, from where the record is made
 abbrev call : tie.At-loop Inv-loop μ-loop → tie.Start Inv-loop μ-loop
 call c = c .before .before .before .before .before .before .before .before .before .before
+
+abbrev opened : tie.At-loop Inv-loop μ-loop → tie.After-opening Inv-loop μ-loop
+opened c = c .before .before .before
 
 abbrev turning : tie.After-known-told Inv-loop μ-loop → tie.At-loop Inv-loop μ-loop
 turning c = c .before .before .before .before
@@ -364,7 +367,7 @@ outcome-is c =
     let s = call l .args .s in
     ⊎-elim {C = k .if2 .judged .outcome ≡ becomes c}
     (λ w.
-    let p = subst (λ (o : List ℕ). Plain o (s .limit) (run c) (by c)) (l .before .before .before .opening .ensures) (k .before .is-plain .ensures (w .0 .taken)) in
+    let p = subst (λ (o : List ℕ). Plain o (s .limit) (run c) (by c)) (opened l .opening .ensures) (k .before .is-plain .ensures (w .0 .taken)) in
     judged-outcome s (own l) (run c) (by c) (w .3 ∙ plain-is s (own l) (run c) (by c) p (w .2 .ensures)))
     (λ w. judged-outcome s (own l) (run c) (by c) (w .4 ∙ w .3 .ensures))
     (k .if2 .came)
