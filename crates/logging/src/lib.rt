@@ -311,12 +311,12 @@ fn keep_on(
     }
 }
 
-// Whether tables of the FCS pay: 4,096 symbols are left, and the log has records for as many frames of 64 octets as fill them.
-fn pays(symbols: usize, log: usize) -> bool {
-    if symbols < 4096 {
+// Whether tables of the FCS pay: they pay for a walk from the place on, and the log has records for 49 frames of 64 octets, which take 4,096 symbols.
+fn pays(octets: &[u8], marks: &[u8], place: usize, log: usize) -> bool {
+    if log < 784 {
         return false;
     }
-    784 <= log
+    receive::tables_pay(octets, marks, place)
 }
 
 // A walk from a place on that appends the record of each Start it counts, until `none`, `open` or a full log. In a long one the tables of the FCS are
@@ -343,7 +343,7 @@ pub fn walk_log(
             kept: 0,
         };
     }
-    if !pays(octets.len() - place, log.len()) {
+    if !pays(octets, marks, place, log.len()) {
         let none = [0u32; 1];
         return keep_on(&none[..0], s, job, table, state, octets, marks, place, log);
     }

@@ -290,7 +290,46 @@ fn walk_on(
     }
 }
 
-// The whole walk in one call: every Start in its order. In a long capture the tables of the FCS are made once and lent.
+// The place after a symbol.
+fn behind(place: usize) -> usize {
+    std::num::wrapping_add_usize(place, 1)
+}
+
+// Where the Start after the one at `start` stands, or the run that is left.
+fn next_start(octets: &[u8], marks: &[u8], start: usize) -> Found {
+    let Found::At(end) = line::find_control(octets, marks, behind(start)) else {
+        return Found::Nothing;
+    };
+    line::find_start(octets, marks, end)
+}
+
+// Whether the tables of the FCS pay from a place on: 4,096 symbols are left, and three Starts stand among the first 1,536, so that frames are short. A
+// check of a long frame looks nothing up. No promise hangs on it, only time; it is public for this repository's crates.
+pub fn tables_pay(octets: &[u8], marks: &[u8], place: usize) -> bool {
+    if octets.len() < place {
+        return false;
+    }
+    if octets.len() - place < 4096 {
+        return false;
+    }
+    if marks.len() < octets.len() {
+        return false;
+    }
+    let o = &octets[place..place + 1536];
+    let m = &marks[place..place + 1536];
+    let Found::At(first) = line::find_start(o, m, 0) else {
+        return false;
+    };
+    let Found::At(second) = next_start(o, m, first) else {
+        return false;
+    };
+    match next_start(o, m, second) {
+        Found::At(_) => true,
+        Found::Nothing => false,
+    }
+}
+
+// The whole walk in one call: every Start in its order. In a long capture of short frames the tables of the FCS are made once and lent.
 pub fn walk(
     s: Settings,
     job: u8,
@@ -308,7 +347,7 @@ pub fn walk(
             state,
         };
     }
-    if octets.len() < 8192 {
+    if !tables_pay(octets, marks, 0) {
         let none = [0u32; 1];
         return walk_on(&none[..0], s, job, table, state, octets, marks);
     }

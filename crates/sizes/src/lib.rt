@@ -167,7 +167,7 @@ pub fn add_capture(
             sizes: t,
         };
     }
-    if octets.len() < 8192 {
+    if !receive::tables_pay(octets, marks, 0) {
         let none = [0u32; 1];
         let short = add_walk(&none[..0], t, s, job, table, octets, marks);
         return Added {

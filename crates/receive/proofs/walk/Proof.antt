@@ -27,6 +27,9 @@ returns c = sym (walked-refused _ _ _ _ _ _ _ (sym (c .before .before .before .c
 enum-told : tie.Need-enum-told
 enum-told c = search needs
 
+tables-pay-requires : tie.Need-tables-pay-requires
+tables-pay-requires c κs = search needs
+
 array-share-prefix-none : tie.Need-array-share-prefix-none
 array-share-prefix-none c = search needs
 
@@ -34,7 +37,7 @@ slice-aggregate-walk-on : tie.Need-slice-aggregate-walk-on
 slice-aggregate-walk-on c = search needs
 
 walk-on-requires : tie.Need-walk-on-requires
-walk-on-requires c κs = ((λ h. absurd (omega arith)), fine (c .before .before))
+walk-on-requires c κs = ((λ h. absurd (omega arith)), fine (c .before .before .before))
 
 returns-2 : tie.Need-returns-2
 returns-2 c = search needs
@@ -49,7 +52,7 @@ slice-aggregate-walk-on-2 : tie.Need-slice-aggregate-walk-on-2
 slice-aggregate-walk-on-2 c = search needs
 
 walk-on-requires-2 : tie.Need-walk-on-requires-2
-walk-on-requires-2 c κs = ((λ h. c .before .before .make-tables .ensures), fine (c .before .before .before .before .before))
+walk-on-requires-2 c κs = ((λ h. c .before .before .make-tables .ensures), fine (c .before .before .before .before .before .before))
 
 returns-3 : tie.Need-returns-3
 returns-3 c = search needs
@@ -62,6 +65,7 @@ walk-spec =
     enum-known-checked
     returns
     enum-told
+    tables-pay-requires
     array-share-prefix-none
     slice-aggregate-walk-on
     walk-on-requires
