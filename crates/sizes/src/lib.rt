@@ -140,6 +140,7 @@ fn add_walk(
                 octets: lengths,
             };
         };
+        // the frame most seen by the quick way, as in `receive::walk`
         let judged = if outcome::is_plain(&want, limit, &octets[from..end], octets[end]) {
             outcome::judge_plain(lent, &octets[from..end])
         } else {

@@ -2,7 +2,7 @@
 -- The measure is what is left of the capture. Assumes nothing.
 use Prim.Native.Nat.{ℕ, _+_, _-_, _*_, _/_, _≤_, _<_}
 use native.Mathlib.Omega.{arith}
-use mathlib.Core.Path.{_≡_, refl, sym, ap, ap₂, _∙_}
+use mathlib.Core.Path.{_≡_, refl, sym, ap, ap₂, _∙_, subst}
 use mathlib.Core.List.{List}
 use mathlib.Core.Option.{Option}
 use mathlib.Core.Logic.{⊎-elim}
@@ -24,6 +24,9 @@ use Rattle.flow.proofs.Stays.{stays}
 use Rattle.table.specs.Entries.{entriesOf, ownEntries}
 use Rattle.table.proofs.Entries.{entries-sixteen}
 use Rattle.outcome.specs.Outcomes.{outcome, frameOf}
+use Rattle.outcome.specs.Outcomes as rules
+use Rattle.outcome.specs.Plain.{Plain}
+use Rattle.outcome.proofs.Plain.{plain-is}
 use Rattle.outcome.proofs.Rules.{judged-outcome}
 use Rattle.log.specs.declared.Record.{Record}
 use Rattle.log.specs.Log.{octetsOfRecord, extent, roomy}
@@ -45,7 +48,7 @@ use Rattle.logging.proofs.keep_on.Statement.{statement}
 use Rattle.logging.proofs.keep_on.Tie as tie
 
 abbrev Inv-loop : tie.InvT-loop
-Inv-loop t s job table state octets marks place log₀ records counters₀ timers₀ n₀ at₀ k₀ log counters timers n at k =
+Inv-loop t s job table state octets marks place log₀ records counters₀ timers₀ want limit n₀ at₀ k₀ log counters timers n at k =
     (keepFrom (length octets + 1 - n) s job (entriesOf table) (at-state (state .deficit) counters timers) octets marks at n log
     ≡ walkLogged s job (entriesOf table) (at-state (state .deficit) counters₀ timers₀) octets marks place log₀)
     × (n ≤ at)
@@ -54,13 +57,13 @@ Inv-loop t s job table state octets marks place log₀ records counters₀ timer
     × (k ≡ extent log)
 
 abbrev μ-loop : tie.MeasureT-loop
-μ-loop t s job table state octets marks place log₀ records counters₀ timers₀ n₀ at₀ k₀ log counters timers n at k = length octets - at
+μ-loop t s job table state octets marks place log₀ records counters₀ timers₀ want limit n₀ at₀ k₀ log counters timers n at k = length octets - at
 
 -- the places that others look back to: the call, from a turn of the loop; the turn, from where its Start is found; that, from where the end of its run is
--- found; that, from where room is made; that, from where there is room; that, from where the outcome is known; that, from where the timers are; and that,
--- from where the record is made
+-- found; that, from where room is made; that, from where there is room; that, from where the frame is seen to be plain or not, and from where the outcome is
+-- known; that, from where the timers are; and that, from where the record is made
 abbrev call : tie.At-loop Inv-loop μ-loop → tie.Start Inv-loop μ-loop
-call c = c .before .before .before .before .before .before .before .before .before
+call c = c .before .before .before .before .before .before .before .before .before .before
 
 abbrev turning : tie.After-known-told Inv-loop μ-loop → tie.At-loop Inv-loop μ-loop
 turning c = c .before .before .before .before
@@ -74,16 +77,19 @@ ending c = c .before .before
 abbrev roomed : tie.Else1 Inv-loop μ-loop → tie.After-room Inv-loop μ-loop
 roomed c = c .before .before .before
 
-abbrev free : tie.After-judge Inv-loop μ-loop → tie.Else1 Inv-loop μ-loop
-free c = c .before .before .before
+abbrev tested : tie.After-is-plain Inv-loop μ-loop → tie.Else1 Inv-loop μ-loop
+tested c = c .before .before .before .before
 
-abbrev settled : tie.Joined2 Inv-loop μ-loop → tie.After-judge Inv-loop μ-loop
+abbrev free : tie.Joined2 Inv-loop μ-loop → tie.Else1 Inv-loop μ-loop
+free c = tested (c .before)
+
+abbrev settled : tie.Joined3 Inv-loop μ-loop → tie.Joined2 Inv-loop μ-loop
 settled c = c .before .before .before .before
 
-abbrev judged : tie.Joined2 Inv-loop μ-loop → tie.After-known-told2 Inv-loop μ-loop
+abbrev judged : tie.Joined3 Inv-loop μ-loop → tie.After-known-told2 Inv-loop μ-loop
 judged c = ending (roomed (free (settled c)))
 
-abbrev made : tie.After-record-of-run Inv-loop μ-loop → tie.Joined2 Inv-loop μ-loop
+abbrev made : tie.After-record-of-run Inv-loop μ-loop → tie.Joined3 Inv-loop μ-loop
 made c = c .before .before .before
 
 -- the job's own entries, the octets, the log at a turn, the Start's place and that of the end of its run
@@ -142,12 +148,15 @@ inside c =
     let l = turning (starting (ending r)) in
     room-left (log l) (good l) (r .room .result) (r .room .ensures .1) (λ e. c .if1 .left (e ∙ ap (λ (m : ℕ). m / 16) (l .loop .inv .3)))
 
+opening-requires : tie.Need-opening-requires Inv-loop μ-loop
+opening-requires c κs = search needs
+
 extent-of-requires : tie.Need-extent-of-requires Inv-loop μ-loop
 extent-of-requires c κs = search needs
 
 loop-holds : tie.Need-loop-holds Inv-loop μ-loop
 loop-holds c =
-    let k = c .before .before .before .before .before .before .before .before in
+    let k = c .before .before .before .before .before .before .before .before .before in
     let a = k .args in
     let os = now (a .octets) in
     let e : length os + 1 - 0 ≡ length os + 1 = omega arith in
@@ -218,20 +227,47 @@ returns-3 c =
     ∙ sym (loop-full _ _ _ _ _ _ (fine l) _ (found-start (starting k)) _ (found-end k) _ _ _ _ (more l) (good l) h)
     ∙ i .0
 
+sub-is-plain : tie.Need-sub-is-plain Inv-loop μ-loop
+sub-is-plain c = let e = end-inside (ending (roomed (c .before))) in omega arith
+
+part-is-plain-start : tie.Need-part-is-plain-start Inv-loop μ-loop
+part-is-plain-start c = let e = end-inside (ending (roomed (c .before))) in omega arith
+
+part-is-plain-end : tie.Need-part-is-plain-end Inv-loop μ-loop
+part-is-plain-end c = let e = end-inside (ending (roomed (c .before))) in omega arith
+
+shared-slice-read-is-plain : tie.Need-shared-slice-read-is-plain Inv-loop μ-loop
+shared-slice-read-is-plain c = let e = end-inside (ending (roomed (c .before .before .before))) in omega arith
+
+is-plain-requires : tie.Need-is-plain-requires Inv-loop μ-loop
+is-plain-requires c κs = search needs
+
+sub-judge-plain : tie.Need-sub-judge-plain Inv-loop μ-loop
+sub-judge-plain c = let e = end-inside (ending (roomed (tested (c .before)))) in omega arith
+
+part-judge-plain-start : tie.Need-part-judge-plain-start Inv-loop μ-loop
+part-judge-plain-start c = let e = end-inside (ending (roomed (tested (c .before)))) in omega arith
+
+part-judge-plain-end : tie.Need-part-judge-plain-end Inv-loop μ-loop
+part-judge-plain-end c = let e = end-inside (ending (roomed (tested (c .before)))) in omega arith
+
+judge-plain-requires : tie.Need-judge-plain-requires Inv-loop μ-loop
+judge-plain-requires c κs = call (turning (starting (ending (roomed (tested (c .before .before)))))) .pre .0
+
 sub-judge : tie.Need-sub-judge Inv-loop μ-loop
-sub-judge c = let e = end-inside (ending (roomed c)) in omega arith
+sub-judge c = let e = end-inside (ending (roomed (tested (c .before)))) in omega arith
 
 part-judge-start : tie.Need-part-judge-start Inv-loop μ-loop
-part-judge-start c = let e = end-inside (ending (roomed c)) in omega arith
+part-judge-start c = let e = end-inside (ending (roomed (tested (c .before)))) in omega arith
 
 part-judge-end : tie.Need-part-judge-end Inv-loop μ-loop
-part-judge-end c = let e = end-inside (ending (roomed c)) in omega arith
+part-judge-end c = let e = end-inside (ending (roomed (tested (c .before)))) in omega arith
 
 shared-slice-read-judge : tie.Need-shared-slice-read-judge Inv-loop μ-loop
-shared-slice-read-judge c = let e = end-inside (ending (roomed (c .before .before))) in omega arith
+shared-slice-read-judge c = let e = end-inside (ending (roomed (tested (c .before .before .before)))) in omega arith
 
 judge-requires : tie.Need-judge-requires Inv-loop μ-loop
-judge-requires c κs = call (turning (starting (ending (roomed (c .before .before))))) .pre .0
+judge-requires c κs = call (turning (starting (ending (roomed (tested (c .before .before .before)))))) .pre .0
 
 count-requires : tie.Need-count-requires Inv-loop μ-loop
 count-requires c κs = search needs
@@ -273,7 +309,7 @@ record-of-run-requires c κs =
     omega arith
 
 -- the log with room, from where the record is made
-abbrev place : tie.Joined2 Inv-loop μ-loop → tie.After-room Inv-loop μ-loop
+abbrev place : tie.Joined3 Inv-loop μ-loop → tie.After-room Inv-loop μ-loop
 place c = roomed (free (settled c))
 
 same-size : (c : tie.After-room Inv-loop μ-loop) → length (c .room .last .0) ≡ length (log (turning (starting (ending c))))
@@ -307,35 +343,57 @@ loop-less : tie.Need-loop-less Inv-loop μ-loop
 loop-less c = let k = judged (made (wrote c .before)) in let e = end-inside k in let s = start-inside (starting k) in omega arith
 
 -- the run, its outcome and the record of its frame
-abbrev run : tie.Joined2 Inv-loop μ-loop → List ℕ
+abbrev run : tie.Joined3 Inv-loop μ-loop → List ℕ
 run c = let k = judged c in between (octets (turning (starting k))) (start (starting k) + 1) (end k)
 
-abbrev becomes : tie.Joined2 Inv-loop μ-loop → Outcome
+abbrev becomes : tie.Joined3 Inv-loop μ-loop → Outcome
 becomes c = let k = judged c in let l = turning (starting k) in outcome (call l .args .s) (own l) (run c) (getD (octets l) (end k) 0)
 
-abbrev recorded : tie.Joined2 Inv-loop μ-loop → Record
+abbrev recorded : tie.Joined3 Inv-loop μ-loop → Record
 recorded c = let k = starting (judged c) in recordOfFrame (call (turning k) .args .s) (own (turning k)) (start k) (frameOf (run c)) (becomes c)
 
-outcome-is : (c : tie.Joined2 Inv-loop μ-loop) → settled c .judge .result .outcome ≡ becomes c
+-- what is judged is what the rules say, by the quick way too
+abbrev Ruled : tie.Joined2 Inv-loop μ-loop → List ℕ → ℕ → Type 0
+Ruled c r by = let l = turning (starting (ending (roomed (free c)))) in c .if2 .judged ≡ rules.judged (call l .args .s) (own l) r by
+
+ruled : (c : tie.Joined2 Inv-loop μ-loop)
+    → let k = ending (roomed (free c)) in
+    let os = octets (turning (starting k)) in
+    Ruled c (between os (start (starting k) + 1) (end k)) (getD os (end k) 0)
 unfolding between
-outcome-is c = judged-outcome _ _ _ _ (settled c .judge .ensures)
+ruled c =
+    let k = ending (roomed (free c)) in
+    let l = turning (starting k) in
+    let a = call l .args in
+    let r : List ℕ = between (octets l) (start (starting k) + 1) (end k) in
+    let by = getD (octets l) (end k) 0 in
+    ⊎-elim {C = Ruled c r by}
+    (λ w.
+    let p = subst (λ (o : List ℕ). Plain o (a .s .limit) r by) (l .before .before .before .opening .ensures) (c .before .is-plain .ensures (w .0 .taken)) in
+    w .3 ∙ plain-is (a .s) (own l) r by p (w .2 .ensures))
+    (λ w. w .4 ∙ w .3 .ensures)
+    (c .if2 .came)
+
+outcome-is : (c : tie.Joined3 Inv-loop μ-loop) → settled c .if2 .judged .outcome ≡ becomes c
+unfolding between
+outcome-is c = judged-outcome _ _ _ _ (ruled (settled c))
 
 -- the counters and the timers after a turn, these set or left as they were
-counters-now : (c : tie.Joined2 Inv-loop μ-loop) → c .before .before .count .last .1 .0 ≡ counted (becomes c) (turning (starting (judged c)) .loop .counters)
+counters-now : (c : tie.Joined3 Inv-loop μ-loop) → c .before .before .count .last .1 .0 ≡ counted (becomes c) (turning (starting (judged c)) .loop .counters)
 counters-now c = c .before .before .count .ensures ∙ ap (λ (x : Outcome). counted x (turning (starting (judged c)) .loop .counters)) (outcome-is c)
 
-abbrev Moved : tie.Joined2 Inv-loop μ-loop → Outcome → Type 0
-Moved c o = c .if2 .timers ≡ timersAfter o (frameOf (run c)) (turning (starting (judged c)) .loop .timers)
+abbrev Moved : tie.Joined3 Inv-loop μ-loop → Outcome → Type 0
+Moved c o = c .if3 .timers ≡ timersAfter o (frameOf (run c)) (turning (starting (judged c)) .loop .timers)
 
-timers-now : (c : tie.Joined2 Inv-loop μ-loop) → Moved c (becomes c)
+timers-now : (c : tie.Joined3 Inv-loop μ-loop) → Moved c (becomes c)
 unfolding between
 timers-now c =
-    let o = settled c .judge .result .outcome in
+    let o = settled c .if2 .judged .outcome in
     let was = turning (starting (judged c)) .loop .timers in
     ⊎-elim {C = Moved c o}
     (λ w. w .4 ∙ w .3 .ensures ∙ ap (λ (l : List ℕ). timersAfter o l was) (w .2 .ensures))
     (λ w. w .1 ∙ stays _ _ _ (sym (c .before .sets-timers .ensures) ∙ w .0 .left))
-    (c .if2 .came)
+    (c .if3 .came)
     ∙ ap (λ (x : Outcome). timersAfter x (frameOf (run c)) was) (outcome-is c)
 
 -- the log after a turn
@@ -374,7 +432,7 @@ loop-again c =
     let end-is = found-end k in
     let fuel : length (octets l) + 1 - (l .loop .n + 1) ≡ length (octets l) + 1 - l .loop .n - 1 = omega arith in (
       ap₂ (λ (b : ℕ) (y : List ℕ).
-          keepFrom b (a .s) (a .job) es (at-state (a .state .deficit) (j .before .before .count .last .1 .0) (j .if2 .timers)) (octets l) (now (a .marks))
+          keepFrom b (a .s) (a .job) es (at-state (a .state .deficit) (j .before .before .count .last .1 .0) (j .if3 .timers)) (octets l) (now (a .marks))
           (end k) (l .loop .n + 1) y)
           fuel same
           ∙ ap₂ (λ (cs : List ℕ) (ts : List Slots).
@@ -395,6 +453,7 @@ keep-on-spec =
     (tie.spec
     Inv-loop
     μ-loop
+    opening-requires
     extent-of-requires
     loop-holds
     find-start-requires
@@ -411,6 +470,15 @@ keep-on-spec =
     room-requires
     same-length-3
     returns-3
+    sub-is-plain
+    part-is-plain-start
+    part-is-plain-end
+    shared-slice-read-is-plain
+    is-plain-requires
+    sub-judge-plain
+    part-judge-plain-start
+    part-judge-plain-end
+    judge-plain-requires
     sub-judge
     part-judge-start
     part-judge-end
