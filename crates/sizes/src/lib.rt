@@ -123,6 +123,8 @@ fn add_walk(
 {
     let mut frames = t.frames;
     let mut lengths = t.octets;
+    let want = outcome::opening(s.own);
+    let limit = s.limit;
     let mut at: usize = 0;
     loop {
         let Found::At(start) = line::find_start(octets, marks, at) else {
@@ -138,7 +140,12 @@ fn add_walk(
                 octets: lengths,
             };
         };
-        let judged = outcome::judge(lent, s, job, table, &octets[from..end], octets[end]);
+        // the frame most seen by the quick way, as in `receive::walk`
+        let judged = if outcome::is_plain(&want, limit, &octets[from..end], octets[end]) {
+            outcome::judge_plain(lent, &octets[from..end])
+        } else {
+            outcome::judge(lent, s, job, table, &octets[from..end], octets[end])
+        };
         let o = judged.outcome;
         if is_sized(o) {
             let f = outcome::frame_of(&octets[from..end]);

@@ -1,11 +1,12 @@
 -- `sizes::add_walk` meets its contract. The invariant: with what is left to add here, the table is whole. The measure is what is left of the capture.
 -- Assumes nothing.
-use mathlib.Core.Path.{_≡_, sym, ap, ap₂, _∙_}
+use mathlib.Core.Path.{_≡_, sym, ap, ap₂, _∙_, subst}
 use mathlib.Core.List.{List}
+use mathlib.Core.Logic.{⊎-elim}
 use denote.Ref.{now}
 use native.Mathlib.Omega.{arith}
 use Prim.Native.Nat.{ℕ, _+_, _-_, _≤_, _<_}
-use lib.ListN.{length}
+use lib.ListN.{length, getD}
 use borrow.Author.Needs.{needs}
 use Rattle.line.specs.Limits.{mostSymbols}
 use Rattle.line.specs.Octets.{between}
@@ -15,7 +16,9 @@ use Rattle.line.proofs.Places.{start-found, control-found}
 use Rattle.station.specs.declared.Outcome.{Outcome}
 use Rattle.station.specs.Station.{fresh}
 use Rattle.table.specs.Entries.{entriesOf, ownEntries}
-use Rattle.outcome.specs.Outcomes.{frameOf}
+use Rattle.outcome.specs.Outcomes.{frameOf, judged}
+use Rattle.outcome.specs.Plain.{Plain}
+use Rattle.outcome.proofs.Plain.{plain-is}
 use Rattle.outcome.proofs.Rules.{judged-outcome}
 use Rattle.receive.specs.Walk.{walk}
 use Rattle.receive.proofs.Refusals.{passed}
@@ -31,18 +34,19 @@ abbrev of : List ℕ → List ℕ → SizeTable
 of frames lengths = record { frames = frames; octets = lengths }
 
 abbrev Inv-loop : tie.InvT-loop
-Inv-loop lent s job table octets marks frames₀ lengths₀ at₀ frames lengths at =
+Inv-loop lent s job table octets marks frames₀ lengths₀ want limit at₀ frames lengths at =
     (addLeft (of frames lengths) s (ownEntries job table) octets marks at
     ≡ withFrames (of frames₀ lengths₀) (frameLengths (walk s job (entriesOf table) fresh octets marks)))
     × (at ≤ length octets)
 
 abbrev μ-loop : tie.MeasureT-loop
-μ-loop lent s job table octets marks frames₀ lengths₀ at₀ frames lengths at = length octets - at
+μ-loop lent s job table octets marks frames₀ lengths₀ want limit at₀ frames lengths at = length octets - at
 
 -- the places that others look back to: the call, from a turn of the loop; the turn, from where its Start is found; that, from where the end of its
--- run is found; that, from where the outcome is known; that, from where it is one of those that are added; and that, from where the frame is
+-- run is found; that, from where the frame is seen to be plain or not; where the outcome is known, from where it is one of those that are added; and that,
+-- from where the frame is
 abbrev call : tie.At-loop Inv-loop μ-loop → tie.Start Inv-loop μ-loop
-call c = c .before .before .before .before .before .before
+call c = c .before .before .before .before .before .before .before
 
 abbrev turning : tie.After-known-told Inv-loop μ-loop → tie.At-loop Inv-loop μ-loop
 turning c = c .before .before .before .before
@@ -50,13 +54,13 @@ turning c = c .before .before .before .before
 abbrev starting : tie.After-known-told2 Inv-loop μ-loop → tie.After-known-told Inv-loop μ-loop
 starting c = c .before .before .before .before
 
-abbrev ending : tie.After-judge Inv-loop μ-loop → tie.After-known-told2 Inv-loop μ-loop
-ending c = c .before .before .before
+abbrev ending : tie.After-is-plain Inv-loop μ-loop → tie.After-known-told2 Inv-loop μ-loop
+ending c = c .before .before .before .before
 
-abbrev sizing : tie.Then1 Inv-loop μ-loop → tie.After-judge Inv-loop μ-loop
+abbrev sizing : tie.Then2 Inv-loop μ-loop → tie.Joined1 Inv-loop μ-loop
 sizing c = c .before .before
 
-abbrev grown : tie.After-put-frame Inv-loop μ-loop → tie.Then1 Inv-loop μ-loop
+abbrev grown : tie.After-put-frame Inv-loop μ-loop → tie.Then2 Inv-loop μ-loop
 grown c = c .before .before .before .before .before
 
 -- the octets, the Start's place and that of the end of its run
@@ -90,8 +94,11 @@ end-inside c =
     let e = control-found _ _ (passed _ _ _ _ _ _ (call (turning (starting c)) .pre .1) .even) _ _ (found-end c) in
     (e .0, e .1)
 
+opening-requires : tie.Need-opening-requires Inv-loop μ-loop
+opening-requires c κs = search needs
+
 loop-holds : tie.Need-loop-holds Inv-loop μ-loop
-loop-holds c = (left-start _ _ _ _ _ _ (c .before .before .before .before .before .pre .1), omega arith)
+loop-holds c = (left-start _ _ _ _ _ _ (c .before .before .before .before .before .before .pre .1), omega arith)
 
 find-start-requires : tie.Need-find-start-requires Inv-loop μ-loop
 find-start-requires c κs = search needs
@@ -125,32 +132,59 @@ returns-2 c =
     let unended = sym (c .before .before .find-control .ensures) ∙ c .enum-told2 .given .1 in
     sym (turn-open _ _ _ _ _ _ _ (found-start k) unended) ∙ turning k .loop .inv .0
 
+sub-is-plain : tie.Need-sub-is-plain Inv-loop μ-loop
+sub-is-plain c = let e = end-inside (c .before) in omega arith
+
+part-is-plain-start : tie.Need-part-is-plain-start Inv-loop μ-loop
+part-is-plain-start c = let e = end-inside (c .before) in omega arith
+
+part-is-plain-end : tie.Need-part-is-plain-end Inv-loop μ-loop
+part-is-plain-end c = let e = end-inside (c .before) in omega arith
+
+shared-slice-read-is-plain : tie.Need-shared-slice-read-is-plain Inv-loop μ-loop
+shared-slice-read-is-plain c = let e = end-inside (c .before .before .before) in omega arith
+
+is-plain-requires : tie.Need-is-plain-requires Inv-loop μ-loop
+is-plain-requires c κs = search needs
+
+sub-judge-plain : tie.Need-sub-judge-plain Inv-loop μ-loop
+sub-judge-plain c = let e = end-inside (ending (c .before)) in omega arith
+
+part-judge-plain-start : tie.Need-part-judge-plain-start Inv-loop μ-loop
+part-judge-plain-start c = let e = end-inside (ending (c .before)) in omega arith
+
+part-judge-plain-end : tie.Need-part-judge-plain-end Inv-loop μ-loop
+part-judge-plain-end c = let e = end-inside (ending (c .before)) in omega arith
+
+judge-plain-requires : tie.Need-judge-plain-requires Inv-loop μ-loop
+judge-plain-requires c κs = call (turning (starting (ending (c .before .before)))) .pre .0
+
 sub-judge : tie.Need-sub-judge Inv-loop μ-loop
-sub-judge c = let e = end-inside c in omega arith
+sub-judge c = let e = end-inside (ending (c .before)) in omega arith
 
 part-judge-start : tie.Need-part-judge-start Inv-loop μ-loop
-part-judge-start c = let e = end-inside c in omega arith
+part-judge-start c = let e = end-inside (ending (c .before)) in omega arith
 
 part-judge-end : tie.Need-part-judge-end Inv-loop μ-loop
-part-judge-end c = let e = end-inside c in omega arith
+part-judge-end c = let e = end-inside (ending (c .before)) in omega arith
 
 shared-slice-read-judge : tie.Need-shared-slice-read-judge Inv-loop μ-loop
-shared-slice-read-judge c = let e = end-inside (c .before .before) in omega arith
+shared-slice-read-judge c = let e = end-inside (ending (c .before .before .before)) in omega arith
 
 judge-requires : tie.Need-judge-requires Inv-loop μ-loop
-judge-requires c κs = call (turning (starting (c .before .before))) .pre .0
+judge-requires c κs = call (turning (starting (ending (c .before .before .before)))) .pre .0
 
 is-sized-requires : tie.Need-is-sized-requires Inv-loop μ-loop
 is-sized-requires c κs = search needs
 
 sub-frame-of : tie.Need-sub-frame-of Inv-loop μ-loop
-sub-frame-of c = let e = end-inside (ending (sizing c)) in omega arith
+sub-frame-of c = let e = end-inside (ending (sizing c .before)) in omega arith
 
 part-frame-of-start : tie.Need-part-frame-of-start Inv-loop μ-loop
-part-frame-of-start c = let e = end-inside (ending (sizing c)) in omega arith
+part-frame-of-start c = let e = end-inside (ending (sizing c .before)) in omega arith
 
 part-frame-of-end : tie.Need-part-frame-of-end Inv-loop μ-loop
-part-frame-of-end c = let e = end-inside (ending (sizing c)) in omega arith
+part-frame-of-end c = let e = end-inside (ending (sizing c .before)) in omega arith
 
 frame-of-requires : tie.Need-frame-of-requires Inv-loop μ-loop
 frame-of-requires c κs = search needs
@@ -158,27 +192,51 @@ frame-of-requires c κs = search needs
 put-frame-requires : tie.Need-put-frame-requires Inv-loop μ-loop
 put-frame-requires c κs = search needs
 
--- the frame of the run, and the table before a turn
-abbrev frame : tie.After-judge Inv-loop μ-loop → List ℕ
-frame c = let k = ending c in frameOf (between (octets (starting k)) (start (starting k) + 1) (end k))
+-- the run, the octet that ended it, its frame, and the table before a turn
+abbrev run : tie.Joined1 Inv-loop μ-loop → List ℕ
+run c = let k = ending (c .before) in between (octets (starting k)) (start (starting k) + 1) (end k)
 
-abbrev was : tie.After-judge Inv-loop μ-loop → SizeTable
-was c = let l = turning (starting (ending c)) .loop in of (l .frames) (l .lengths)
+abbrev by : tie.Joined1 Inv-loop μ-loop → ℕ
+by c = let k = ending (c .before) in getD (octets (starting k)) (end k) 0
+
+abbrev frame : tie.Joined1 Inv-loop μ-loop → List ℕ
+frame c = frameOf (run c)
+
+abbrev was : tie.Joined1 Inv-loop μ-loop → SizeTable
+was c = let l = turning (starting (ending (c .before))) .loop in of (l .frames) (l .lengths)
+
+-- what is judged is what the rules say, by the quick way too
+abbrev Ruled : tie.Joined1 Inv-loop μ-loop → Type 0
+Ruled c =
+    let a = call (turning (starting (ending (c .before)))) .args in
+    c .if1 .judged ≡ judged (a .s) (ownEntries (a .job) (now (a .table))) (run c) (by c)
+
+ruled : (c : tie.Joined1 Inv-loop μ-loop) → Ruled c
+unfolding between
+ruled c =
+    let l = turning (starting (ending (c .before))) in
+    let a = call l .args in
+    ⊎-elim {C = Ruled c}
+    (λ w.
+    let p = subst (λ (o : List ℕ). Plain o (a .s .limit) (run c) (by c)) (l .before .opening .ensures) (c .before .is-plain .ensures (w .0 .taken)) in
+    w .3 ∙ plain-is (a .s) (ownEntries (a .job) (now (a .table))) (run c) (by c) p (w .2 .ensures))
+    (λ w. w .4 ∙ w .3 .ensures)
+    (c .if1 .came)
 
 -- a table x after a turn: if it has what the turn is to add, what is left to add to it is what was left before the turn
-turned : (c : tie.After-judge Inv-loop μ-loop) (x : SizeTable) → x ≡ withFrames (was c) (lengthIf (c .judge .result .outcome) (length (frame c)))
-    → let k = ending c in
+turned : (c : tie.Joined1 Inv-loop μ-loop) (x : SizeTable) → x ≡ withFrames (was c) (lengthIf (c .if1 .judged .outcome) (length (frame c)))
+    → let k = ending (c .before) in
     let l = turning (starting k) in
     let a = call l .args in
     let own = ownEntries (a .job) (now (a .table)) in
     addLeft x (a .s) own (now (a .octets)) (now (a .marks)) (end k) ≡ addLeft (was c) (a .s) own (now (a .octets)) (now (a .marks)) (l .loop .at)
 unfolding between
 turned c x h =
-    let k = ending c in
+    let k = ending (c .before) in
     let a = call (turning (starting k)) .args in
     let own = ownEntries (a .job) (now (a .table)) in
     let even = passed _ _ _ _ _ _ (call (turning (starting k)) .pre .1) .even in
-    let o = judged-outcome _ _ _ _ (c .judge .ensures) in
+    let o = judged-outcome _ _ _ _ (ruled c) in
     let e = end-inside k in
     ap (λ (y : SizeTable). addLeft y (a .s) own (now (a .octets)) (now (a .marks)) (end k))
     (h ∙ ap (λ (y : Outcome). withFrames (was c) (lengthIf y (length (frame c)))) o)
@@ -186,7 +244,7 @@ turned c x h =
 
 loop-less : tie.Need-loop-less Inv-loop μ-loop
 loop-less c =
-    let k = ending (sizing (grown c)) in
+    let k = ending (sizing (grown c) .before) in
     let e = end-inside k in
     let s = start-inside (starting k) in
     omega arith
@@ -198,18 +256,18 @@ loop-again c =
     let j = sizing t in
     let p = c .put-frame .ensures in
     let f = c .before .before .before .frame-of .ensures in
-    let e = end-inside (ending j) in (
+    let e = end-inside (ending (j .before)) in (
       turned j _
           (ap₂ of (p .0) (p .1)
           ∙ ap (λ (l : List ℕ). withFrame (was j) (length l)) f
-          ∙ sym (frame-added (was j) (j .judge .result .outcome) (length (frame j)) (sym (t .before .is-sized .ensures) ∙ t .if1 .taken)))
-          ∙ turning (starting (ending j)) .loop .inv .0,
+          ∙ sym (frame-added (was j) (j .if1 .judged .outcome) (length (frame j)) (sym (t .before .is-sized .ensures) ∙ t .if2 .taken)))
+          ∙ turning (starting (ending (j .before))) .loop .inv .0,
       omega arith,
     )
 
 loop-less-2 : tie.Need-loop-less-2 Inv-loop μ-loop
 loop-less-2 c =
-    let k = ending (c .before .before) in
+    let k = ending (c .before .before .before) in
     let e = end-inside k in
     let s = start-inside (starting k) in
     omega arith
@@ -217,9 +275,9 @@ loop-less-2 c =
 loop-again-2 : tie.Need-loop-again-2 Inv-loop μ-loop
 loop-again-2 c =
     let j = c .before .before in
-    let e = end-inside (ending j) in (
-      turned j _ (sym (frame-left (was j) (j .judge .result .outcome) (length (frame j)) (sym (c .before .is-sized .ensures) ∙ c .if1 .left)))
-          ∙ turning (starting (ending j)) .loop .inv .0,
+    let e = end-inside (ending (j .before)) in (
+      turned j _ (sym (frame-left (was j) (j .if1 .judged .outcome) (length (frame j)) (sym (c .before .is-sized .ensures) ∙ c .if2 .left)))
+          ∙ turning (starting (ending (j .before))) .loop .inv .0,
       omega arith,
     )
 
@@ -229,6 +287,7 @@ add-walk-spec =
     (tie.spec
     Inv-loop
     μ-loop
+    opening-requires
     loop-holds
     find-start-requires
     enum-known-start
@@ -239,6 +298,15 @@ add-walk-spec =
     enum-known-end
     enum-told-2
     returns-2
+    sub-is-plain
+    part-is-plain-start
+    part-is-plain-end
+    shared-slice-read-is-plain
+    is-plain-requires
+    sub-judge-plain
+    part-judge-plain-start
+    part-judge-plain-end
+    judge-plain-requires
     sub-judge
     part-judge-start
     part-judge-end
