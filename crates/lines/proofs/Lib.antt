@@ -1,4 +1,5 @@
 pub mod Digits
 pub mod Puts
 pub mod Records
+pub mod Shows
 pub mod Steps
