@@ -125,3 +125,7 @@ pub shown-whole : {from next room most k : ℕ} {old text held : List ℕ} → S
 shown-whole {from} {next} {room} {most} {k} {old} {text} {held} p h few is =
     let e : next ≡ length text = omega (arith, p .goes) in
     (is ∙ ap (λ (n : ℕ). min room (n - from)) e ∙ sym (part-long room from text), (shown-part p h, omega arith))
+
+-- a part ends inside the whole
+pub part-inside : (room from most k : ℕ) (text : List ℕ) → k ≡ length (part room from text) → length text ≤ most → from ≤ most → from + k ≤ most
+part-inside room from most k text e few h = let n = part-long room from text in omega arith
