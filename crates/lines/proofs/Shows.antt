@@ -7,7 +7,8 @@ use lib.ListN.{length, take, drop, set, length-append, length-take, length-drop,
 use lib.Seq.{sets, set-out, sets-eq, length-sets, drop-nil}
 use Rattle.line.specs.Line.{overwrite}
 use Rattle.splice.proofs.Laws.{sets-sets}
-use Rattle.lines.specs.Parts.{part, Shown}
+use Rattle.lines.specs.Parts.{part}
+use Rattle.lines.specs.Shown.{Shown}
 
 -- ---- one octet, before the part, behind it and in it
 

@@ -24,7 +24,8 @@ use Rattle.receive.specs.declared.Reading.{Reading}
 use Rattle.receive.specs.Reading.{reading}
 use Rattle.receive.specs.Values.{isCounted}
 use Rattle.receive.specs.Walk.{readingsFrom, walk}
-use Rattle.lines.specs.Lines.{programSettings, programTable, fourNumbers, lastLine, openNumber, linesOf, captureLines}
+use Rattle.lines.specs.Lines.{programSettings, programTable, fourNumbers, lastLine, linesOf, captureLines}
+use Rattle.lines.specs.Shown.{openNumber}
 
 -- an answer that the test for a counted Start does not take
 abbrev others : List ℕ

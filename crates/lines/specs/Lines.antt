@@ -56,13 +56,6 @@ unfoldable pub lastLine : ℕ → ℕ → List ℕ
 lastLine n o =
     (115 ∷ 116 ∷ 97 ∷ 114 ∷ 116 ∷ 115 ∷ space ∷ []) ++ followed n space ++ (111 ∷ 112 ∷ 101 ∷ 110 ∷ space ∷ []) ++ followed o newline
 
--- what it says of an answer that is no counted Start
-abbrev pub openNumber : Answer → ℕ
-openNumber (Refused x) = 0
-openNumber Nothing = 0
-openNumber Open = 1
-openNumber (Counted o w p v) = 0
-
 -- the lines of readings, where n Starts are counted already: "One line per counted Start: its place, outcome, status word, octets handed out, all
 -- decimal", and the last line. No reading of the program is refused.
 unfoldable pub linesOf : ℕ → List Reading → List ℕ

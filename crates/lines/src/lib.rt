@@ -13,8 +13,9 @@ ghost use lib.ListN.{length};
 ghost use Rattle.line.specs.Line.{overwrite};
 ghost use Rattle.station.specs.Numbers.{outcomeNumber};
 ghost use Rattle.lines.specs.Decimal.{decimal};
-ghost use Rattle.lines.specs.Lines.{programSettings, followed, fourNumbers, lastLine, openNumber, captureLines, badInput, printed, recordOctets, recordMarks};
-ghost use Rattle.lines.specs.Parts.{part, Shown};
+ghost use Rattle.lines.specs.Lines.{programSettings, followed, fourNumbers, lastLine, captureLines, badInput, printed, recordOctets, recordMarks};
+ghost use Rattle.lines.specs.Parts.{part};
+ghost use Rattle.lines.specs.Shown.{Shown, openNumber};
 ghost use Rattle.splice.specs.Written.{Put};
 
 // ---- writers: each gives the place behind what it wrote, and asks for the room; those that are public are so for this repository's crates only
@@ -63,7 +64,7 @@ fn put_line(out: &mut [u8], at: usize, a: u64, b: u64, c: u64, d: u64) -> usize
 }
 
 // The last line: 84 octets at most.
-pub fn put_last(out: &mut [u8], at: usize, n: u64, opened: u64) -> usize
+fn put_last(out: &mut [u8], at: usize, n: u64, opened: u64) -> usize
     requires { ⌜ at + 84 ≤ length (now out) ⌝ }
     ensures { λ r. ⌜ Put (now (out .entry)) at (lastLine n opened) r (now (out .exit)) ⌝ }
     ensures { λ r. ⌜ r ≤ at + 84 ⌝ }
@@ -75,14 +76,7 @@ pub fn put_last(out: &mut [u8], at: usize, n: u64, opened: u64) -> usize
 }
 
 // The line of a Start that was counted.
-pub fn put_counted(
-    out: &mut [u8],
-    at: usize,
-    start: usize,
-    o: Outcome,
-    word: u64,
-    len: usize,
-) -> usize
+fn put_counted(out: &mut [u8], at: usize, start: usize, o: Outcome, word: u64, len: usize) -> usize
     requires { ⌜ at + 84 ≤ length (now out) ⌝ }
     ensures { λ r. ⌜ Put (now (out .entry)) at (fourNumbers start (outcomeNumber o) word len) r (now (out .exit)) ⌝ }
     ensures { λ r. ⌜ r ≤ at + 84 ⌝ }

@@ -7,7 +7,8 @@ ghost use Prim.Native.Nat.{_≤_};
 ghost use lib.ListN.{length};
 ghost use Rattle.line.specs.Line.{overwrite};
 ghost use Rattle.lines.specs.Lines.{badInput, printed};
-ghost use Rattle.lines.specs.Parts.{part, Shown};
+ghost use Rattle.lines.specs.Parts.{part};
+ghost use Rattle.lines.specs.Shown.{Shown};
 
 // What the last line says of a run in progress.
 fn open_number(running: bool) -> u64

@@ -19,7 +19,8 @@ use Rattle.reason.proofs.Why.{the-type}
 use Rattle.reason.specs.declared.Explained.{Explained}
 use Rattle.reason.specs.Reasons.{explained}
 use Rattle.reason.specs.Values.{hasReason}
-use Rattle.why_lines.specs.Whys.{whyLine, openNumber, explainedFrom, whysOf, captureWhys, printedWhys}
+use Rattle.why_lines.specs.Ended.{openNumber}
+use Rattle.why_lines.specs.Whys.{whyLine, explainedFrom, whysOf, captureWhys, printedWhys}
 
 -- an answer that the test for a reason does not take
 abbrev others : List ℕ

@@ -11,7 +11,6 @@ use Rattle.lines.specs.Decimal.{decimal}
 use Rattle.lines.specs.Lines.{space, newline, programSettings, programJob, programTable, followed, lastLine, badInput, recordOctets, recordMarks}
 use Rattle.reason.specs.declared.Reason.{Reason}
 use Rattle.reason.specs.declared.Reason.the-variants.{CutAt, ShortRun, WrongOctet, TooShort, TooLong, FcsDiffers, LengthBroken, NotForUs, TookPause, TookPfc, DroppedControl, Handed}
-use Rattle.reason.specs.declared.Why.{Why}
 use Rattle.reason.specs.declared.Why.the-variants.{Refused, Nothing, Open, Because}
 use Rattle.reason.specs.declared.Explained.{Explained}
 use Rattle.table.specs.declared.Entry.{Entry}
@@ -117,13 +116,6 @@ explainedFrom (suc left) s job es os ms p =
       | true ↦ explainedFrom left s job es os ms (explained s job es os ms p .next)
       | false ↦ []
     ]
-
--- what the last line says of an answer that has no reason
-abbrev pub openNumber : Why → ℕ
-openNumber (Refused x) = 0
-openNumber Nothing = 0
-openNumber Open = 1
-openNumber (Because r) = 0
 
 -- a line for each reason, where n Starts are counted already, and the last line, as the printing program has it. No call of the program is refused.
 unfoldable pub whysOf : ℕ → List Explained → List ℕ

@@ -15,10 +15,12 @@ ghost use lib.ListN.{length};
 ghost use Rattle.line.specs.Line.{overwrite};
 ghost use Rattle.splice.specs.Written.{Put};
 ghost use Rattle.lines.specs.Lines.{badInput};
-ghost use Rattle.lines.specs.Parts.{part, Shown};
+ghost use Rattle.lines.specs.Parts.{part};
+ghost use Rattle.lines.specs.Shown.{Shown};
 ghost use Rattle.reason.specs.declared.Reason.the-variants.{CutAt, ShortRun, WrongOctet, FcsDiffers, LengthBroken, NotForUs, Handed};
 ghost use Rattle.why_lines.specs.Hex.{hexDigit, hexOctet, hex16, hex32};
-ghost use Rattle.why_lines.specs.Whys.{withNumber, withHex16, withHex32, hexThen, threeOctets, endName, sizes, opcodeText, reasonText, whyLine, openNumber, captureWhys, printedWhys};
+ghost use Rattle.why_lines.specs.Ended.{openNumber};
+ghost use Rattle.why_lines.specs.Whys.{withNumber, withHex16, withHex32, hexThen, threeOctets, endName, sizes, opcodeText, reasonText, whyLine, captureWhys, printedWhys};
 
 // ---- hexadecimal digits, of a fixed width
 

@@ -8,7 +8,7 @@ use lib.ListN.{length, getD, take}
 use lib.Seq.{take-suc, take-length}
 use denote.Ref.{now}
 use borrow.Author.Needs.{needs}
-use Rattle.lines.specs.Parts.{Shown}
+use Rattle.lines.specs.Shown.{Shown}
 use Rattle.lines.proofs.Shows.{shown-none, shown-then, shown-as}
 use Rattle.lines.proofs.show.Statement.{statement}
 use Rattle.lines.proofs.show.Tie as tie
