@@ -2,12 +2,13 @@
 """The programs `readings`, `plain_readings`, `why` and `size_table`, as built, against the independent model (tools/oracle/model.py).
 
 `tests/printing.py [FOLDER] [N] [SEED]` runs each of FOLDER (target/bin if none is named) on every sample, on the edges of document 01, "The
-printing program", and on N drawn inputs (300), each whole from a file and, of `readings`, again in short pieces through a pipe. Standard output is
-compared to the octet; exit status 0 and nothing on standard error are asked for. It says how many inputs agree, or the first difference, and then
-exits 1.
+printing program", and on N drawn inputs (300), each whole from a file and, of `readings`, again in short pieces through a pipe; on the edges also with
+little stack. Standard output is compared to the octet; exit status 0 and nothing on standard error are asked for. It says how many inputs agree, or the
+first difference, and then exits 1.
 """
 import fcntl
 import random
+import resource
 import subprocess
 import sys
 import tempfile
@@ -27,6 +28,8 @@ from size_text import size_lines  # noqa: E402
 SLOW = 5  # seconds that 32,768 Starts may take: far above what they do, so that no busy machine fails this
 HANGS = 60  # seconds after which a program is given up
 SMALL = 2000  # octets: up to here pieces are of 1 to 7 octets, above it longer
+STACK = 512  # KB of stack that each program does with: `readings` and `why` take 264, `plain_readings` 208, `size_table` 160
+PART = 131072  # octets of a part of the output, after each of which `readings`, `plain_readings` and `why` begin anew
 RUN = ROOT / "tools" / "run_x86_64"  # what rt builds is for x86-64
 SOURCE = [2, 0, 0, 0, 0, 9]
 STARTS = "32,768 Starts"
@@ -47,6 +50,18 @@ def one_run(n):
     return records([(START, 1)] + [(o, 0) for o in PREAMBLE] + [(0, 0)] * (n - 7) + [(TERMINATE, 1)])
 
 
+def filling(most):
+    """Idles and Starts, so that the lines of the Starts, with the last one, have `most` octets."""
+    for idles in range(10000):
+        left, n = most, 0
+        while left > len(f"starts {n} open 1\n"):
+            left -= len(f"{idles + n} 1 0 0\n")
+            n += 1
+        if left == len(f"starts {n} open 1\n"):
+            return records([(IDLE, 1)] * idles + [(START, 1)] * (n + 1))
+    raise ValueError(most)
+
+
 def edges():
     most = MOST_RECORDS
     return {
@@ -65,6 +80,10 @@ def edges():
         # the walk takes other tables for the FCS from 8,192 symbols on
         "8,191 records of frames": frames(100, 8191),
         "8,192 records of frames": frames(100, 8192),
+        "a part that is filled": filling(PART),
+        "a part that is filled but for one octet": filling(PART - 1),
+        "a part and one octet": filling(PART + 1),
+        "two parts that are filled": filling(2 * PART),
         "one octet": b"\x01",
         "one record": b"\x01\xfb",
     }
@@ -103,12 +122,16 @@ def drawn(rng):
 # ---- Running
 
 
-def whole(program, data, _):
+def whole(program, data, _, before=None):
     with tempfile.TemporaryFile() as file:
         file.write(data)
         file.seek(0)
-        p = subprocess.run([RUN, program], stdin=file, capture_output=True, timeout=HANGS)
+        p = subprocess.run([RUN, program], stdin=file, capture_output=True, timeout=HANGS, preexec_fn=before)
     return p.stdout, p.stderr, p.returncode
+
+
+def with_little_stack(program, data, rng):
+    return whole(program, data, rng, lambda: resource.setrlimit(resource.RLIMIT_STACK, (STACK * 1024, STACK * 1024)))
 
 
 def unread(pipe):
@@ -170,7 +193,7 @@ def agree(program, text, ways, inputs, rng):
                 wrong = difference(run(program, data, rng), due)
             except subprocess.TimeoutExpired:
                 wrong = f"not done after {HANGS} s"
-            if name == STARTS and how == "whole":
+            if name == STARTS and run is not in_pieces:
                 took = time.monotonic() - began
                 wrong = wrong or (took > SLOW and f"it takes {took:.1f} s")
             if wrong:
@@ -191,11 +214,11 @@ def main():
     inputs = {path.name: path.read_bytes() for path in sorted((ROOT / "samples").glob("*.capture"))}
     inputs.update(edges())
     inputs.update({f"drawn input {i} of seed {seed}": drawn(rng) for i in range(n)})
-    agree(folder / "readings", printed, [("whole", whole), ("in pieces", in_pieces)], inputs, rng)
-    # "prints what `readings` prints, octet for octet" (document 02, item 12)
-    agree(folder / "plain_readings", printed, [("whole", whole), ("in pieces", in_pieces)], inputs, rng)
-    agree(folder / "why", whys, [("whole", whole)], inputs, rng)
-    agree(folder / "size_table", size_lines, [("whole", whole), ("in pieces", in_pieces)], inputs, rng)
+    both = [("whole", whole), ("in pieces", in_pieces)]
+    # `plain_readings` "prints what `readings` prints, octet for octet" (document 02, item 12)
+    for name, text, ways in (("readings", printed, both), ("plain_readings", printed, both), ("why", whys, [("whole", whole)]), ("size_table", size_lines, both)):
+        agree(folder / name, text, ways, inputs, rng)
+        agree(folder / name, text, [(f"with {STACK} KB of stack", with_little_stack)], edges(), rng)
 
 
 if __name__ == "__main__":

@@ -1,4 +1,6 @@
+pub mod Claims
 pub mod Digits
 pub mod Puts
 pub mod Records
+pub mod Shows
 pub mod Steps

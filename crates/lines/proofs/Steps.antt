@@ -5,11 +5,12 @@ use mathlib.Core.Bool.{Bool, true, false}
 use mathlib.Core.List.{List, [], _∷_, _++_}
 use native.Mathlib.Omega.{arith}
 use native.Mathlib.Numerals.{add-one}
+use denote.Enum.Declared.{tagOf}
+use types.Run.{OneOf, miss}
 use lib.ListN.{length}
 use Rattle.station.specs.declared.Settings.{Settings}
 use Rattle.station.specs.declared.State.{State}
 use Rattle.station.specs.declared.Outcome.{Outcome}
-use Rattle.station.specs.declared.Refusal.{Refusal}
 use Rattle.station.specs.declared.Part.{Part}
 use Rattle.station.specs.Numbers.{outcomeNumber}
 use Rattle.station.specs.Station.{fresh}
@@ -18,11 +19,23 @@ use Rattle.table.specs.Entries.{entriesOf}
 use Rattle.table.specs.Calls.{emptyTable}
 use Rattle.receive.specs.declared.Answer.{Answer}
 use Rattle.receive.specs.declared.Answer.the-variants.{Refused, Nothing, Open, Counted}
+use Rattle.receive.proofs.Answer.{the-type}
 use Rattle.receive.specs.declared.Reading.{Reading}
 use Rattle.receive.specs.Reading.{reading}
 use Rattle.receive.specs.Values.{isCounted}
 use Rattle.receive.specs.Walk.{readingsFrom, walk}
 use Rattle.lines.specs.Lines.{programSettings, programTable, fourNumbers, lastLine, linesOf, captureLines}
+use Rattle.lines.specs.Shown.{openNumber}
+
+-- an answer that the test for a counted Start does not take
+abbrev others : List ℕ
+others = 0 ∷ 1 ∷ 2 ∷ []
+
+pub not-counted : (a : Answer) → OneOf others (tagOf the-type a) → isCounted a ≡ false
+not-counted (Refused x) h = refl
+not-counted Nothing h = refl
+not-counted Open h = refl
+not-counted (Counted o w p v) h = absurd (miss others 3 tt h)
 
 module _ (n : ℕ) (r : Reading) (rs : List Reading) where
   line-counted : (o : Outcome) (w : ℕ) (p : Part) (v : ℕ) → r .answer ≡ Counted o w p v
@@ -30,17 +43,15 @@ module _ (n : ℕ) (r : Reading) (rs : List Reading) where
   unfolding linesOf
   line-counted o w p v e = rw e
 
-  line-refused : (x : Refusal) → r .answer ≡ Refused x → linesOf n (r ∷ rs) ≡ lastLine n 0
+  line-ended : isCounted (r .answer) ≡ false → linesOf n (r ∷ rs) ≡ lastLine n (openNumber (r .answer))
   unfolding linesOf
-  line-refused x e = rw e
-
-  line-nothing : r .answer ≡ Nothing → linesOf n (r ∷ rs) ≡ lastLine n 0
-  unfolding linesOf
-  line-nothing e = rw e
-
-  line-open : r .answer ≡ Open → linesOf n (r ∷ rs) ≡ lastLine n 1
-  unfolding linesOf
-  line-open e = rw e
+  line-ended e = ended (r .answer) refl e
+    where
+      ended : (a : Answer) → r .answer ≡ a → isCounted a ≡ false → linesOf n (r ∷ rs) ≡ lastLine n (openNumber a)
+      ended (Refused x) h e = rw h
+      ended Nothing h e = rw h
+      ended Open h e = rw h
+      ended (Counted o w p v) h e = cc
 
 module _ (n : ℕ) (s : Settings) (job : ℕ) (es : List Entry) (st : State) (os ms : List ℕ) (p : ℕ) (left : ℕ) (more : 0 < left) (r : Reading) (is : r ≡ reading s job es st os ms p) where
   abbrev after : List Reading
@@ -63,14 +74,8 @@ module _ (n : ℕ) (s : Settings) (job : ℕ) (es : List Entry) (st : State) (os
       ∙ ap (λ (b : Bool). r ∷ elim b [ true ↦ readingsFrom (left - 1) s job es (r .state) os ms (r .next) | false ↦ [] ]) counts)
       ∙ line-counted n r (readingsFrom (left - 1) s job es (r .state) os ms (r .next)) o w q v e
 
-  pub lines-refused : (x : Refusal) → r .answer ≡ Refused x → linesOf n (readingsFrom left s job es st os ms p) ≡ lastLine n 0
-  lines-refused x e = ap (linesOf n) from-here ∙ line-refused n r after x e
-
-  pub lines-nothing : r .answer ≡ Nothing → linesOf n (readingsFrom left s job es st os ms p) ≡ lastLine n 0
-  lines-nothing e = ap (linesOf n) from-here ∙ line-nothing n r after e
-
-  pub lines-open : r .answer ≡ Open → linesOf n (readingsFrom left s job es st os ms p) ≡ lastLine n 1
-  lines-open e = ap (linesOf n) from-here ∙ line-open n r after e
+  pub lines-ended : isCounted (r .answer) ≡ false → linesOf n (readingsFrom left s job es st os ms p) ≡ lastLine n (openNumber (r .answer))
+  lines-ended e = ap (linesOf n) from-here ∙ line-ended n r after e
 
 -- no reading is left
 pub lines-none : (n : ℕ) (s : Settings) (job : ℕ) (es : List Entry) (st : State) (os ms : List ℕ) (p : ℕ) → linesOf n (readingsFrom 0 s job es st os ms p) ≡ lastLine n 0

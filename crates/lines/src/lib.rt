@@ -10,13 +10,15 @@ use station::Settings;
 ghost use mathlib.Core.Path.{_≡_};
 ghost use mathlib.Core.Bool.{false};
 ghost use mathlib.Core.List.{[], _∷_};
-ghost use Prim.Native.Nat.{_+_, _*_, _/_, _≤_};
+ghost use Prim.Native.Nat.{_+_, _-_, _*_, _/_, _≤_, min};
 ghost use lib.ListN.{length};
 ghost use Rattle.line.specs.Limits.{mostRecords};
 ghost use Rattle.line.specs.Line.{overwrite};
 ghost use Rattle.station.specs.Numbers.{outcomeNumber};
 ghost use Rattle.lines.specs.Decimal.{decimal};
 ghost use Rattle.lines.specs.Lines.{programSettings, followed, fourNumbers, lastLine, captureLines, badInput, printed, recordOctets, recordMarks};
+ghost use Rattle.lines.specs.Parts.{part};
+ghost use Rattle.lines.specs.Shown.{Shown, openNumber};
 ghost use Rattle.splice.specs.Written.{Put};
 
 // ---- writers: each gives the place behind what it wrote, and asks for the room; those that are public are so for this repository's crates only
@@ -65,7 +67,7 @@ fn put_line(out: &mut [u8], at: usize, a: u64, b: u64, c: u64, d: u64) -> usize
 }
 
 // The last line: 84 octets at most.
-pub fn put_last(out: &mut [u8], at: usize, n: u64, opened: u64) -> usize
+fn put_last(out: &mut [u8], at: usize, n: u64, opened: u64) -> usize
     requires { ⌜ at + 84 ≤ length (now out) ⌝ }
     ensures { λ r. ⌜ Put (now (out .entry)) at (lastLine n opened) r (now (out .exit)) ⌝ }
     ensures { λ r. ⌜ r ≤ at + 84 ⌝ }
@@ -74,6 +76,89 @@ pub fn put_last(out: &mut [u8], at: usize, n: u64, opened: u64) -> usize
     let j = put_followed(out, i, n, 32);
     let k = put(out, j, b"open ");
     put_followed(out, k, opened, 10)
+}
+
+// The line of a Start that was counted.
+fn put_counted(out: &mut [u8], at: usize, start: usize, o: Outcome, word: u64, len: usize) -> usize
+    requires { ⌜ at + 84 ≤ length (now out) ⌝ }
+    ensures { λ r. ⌜ Put (now (out .entry)) at (fourNumbers start (outcomeNumber o) word len) r (now (out .exit)) ⌝ }
+    ensures { λ r. ⌜ r ≤ at + 84 ⌝ }
+{
+    let k = station::outcome_number(o);
+    put_line(out, at, start as u64, k as u64, word, len as u64)
+}
+
+// ---- a part of the output: of a text longer than `out`, the octets from place `from` of it on that `out` has room for; `at` is a place of the text
+
+// One octet.
+fn show_octet(out: &mut [u8], from: usize, at: usize, v: u8) -> usize
+    requires { ⌜ at ≤ 4294967295 ⌝ }
+    ensures { λ r. ⌜ Shown from (now (out .entry)) at (v ∷ []) r (now (out .exit)) ⌝ }
+{
+    if at < from {
+        return at + 1;
+    }
+    let k = at - from;
+    if out.len() <= k {
+        return at + 1;
+    }
+    out[k] = v;
+    at + 1
+}
+
+// All of src.
+pub fn show(out: &mut [u8], from: usize, at: usize, src: &[u8]) -> usize
+    requires { ⌜ at + length (now src) ≤ 4294967295 ⌝ }
+    ensures { λ r. ⌜ Shown from (now (out .entry)) at (now (src .entry)) r (now (out .exit)) ⌝ }
+{
+    let mut to = at;
+    let mut j: usize = 0;
+    while j < src.len() {
+        to = show_octet(out, from, to, src[j]);
+        j += 1;
+    }
+    to
+}
+
+// The line of a Start that was counted.
+pub fn show_counted(
+    out: &mut [u8],
+    from: usize,
+    at: usize,
+    start: usize,
+    o: Outcome,
+    word: u64,
+    len: usize,
+) -> usize
+    requires { ⌜ at + 84 ≤ 4294967295 ⌝ }
+    ensures { λ r. ⌜ Shown from (now (out .entry)) at (fourNumbers start (outcomeNumber o) word len) r (now (out .exit)) ⌝ }
+    ensures { λ r. ⌜ r ≤ at + 84 ⌝ }
+{
+    let mut line = [0u8; 84];
+    let k = put_counted(&mut line, 0, start, o, word, len);
+    show(out, from, at, &line[..k])
+}
+
+// The last line.
+pub fn show_last(out: &mut [u8], from: usize, at: usize, n: u64, opened: u64) -> usize
+    requires { ⌜ at + 84 ≤ 4294967295 ⌝ }
+    ensures { λ r. ⌜ Shown from (now (out .entry)) at (lastLine n opened) r (now (out .exit)) ⌝ }
+    ensures { λ r. ⌜ r ≤ at + 84 ⌝ }
+{
+    let mut line = [0u8; 84];
+    let k = put_last(&mut line, 0, n, opened);
+    show(out, from, at, &line[..k])
+}
+
+// How many octets the part has, of a text of `total`.
+pub fn part_length(total: usize, from: usize) -> usize
+    ensures { λ r. ⌜ r ≡ min 131072 (total - from) ⌝ }
+{
+    if total <= from {
+        return 0;
+    }
+    let k = total - from;
+    if 131072 < k { 131072 } else { k }
 }
 
 // ---- the lines of a capture
@@ -93,28 +178,23 @@ pub fn settings() -> Settings
     }
 }
 
-// The line of a Start that was counted.
-pub fn put_counted(
-    out: &mut [u8],
-    at: usize,
-    start: usize,
-    o: Outcome,
-    word: u64,
-    len: usize,
-) -> usize
-    requires { ⌜ at + 84 ≤ length (now out) ⌝ }
-    ensures { λ r. ⌜ Put (now (out .entry)) at (fourNumbers start (outcomeNumber o) word len) r (now (out .exit)) ⌝ }
-    ensures { λ r. ⌜ r ≤ at + 84 ⌝ }
+// What the last line says of an answer that is no counted Start.
+fn open_number(a: Answer) -> u64
+    ensures { λ r. ⌜ r ≡ openNumber a ⌝ }
 {
-    let k = station::outcome_number(o);
-    put_line(out, at, start as u64, k as u64, word, len as u64)
+    match a {
+        Answer::Refused(_) => 0,
+        Answer::Nothing => 0,
+        Answer::Open => 1,
+        Answer::Counted(_, _, _, _) => 0,
+    }
 }
 
 // All lines: a reading after the other, each at the next place of the one before.
-fn put_lines(octets: &[u8], marks: &[u8], out: &mut [u8]) -> usize
-    requires { ⌜ 84 * (length (now octets) + 2) ≤ length (now out) ⌝ }
-    ensures { λ r. ⌜ Put (now (out .entry)) 0 (captureLines (now (octets .entry)) (now (marks .entry))) r (now (out .exit)) ⌝ }
-    ensures { λ r. ⌜ r ≤ length (now (out .entry)) ⌝ }
+fn show_lines(octets: &[u8], marks: &[u8], from: usize, out: &mut [u8]) -> usize
+    requires { ⌜ length (now octets) ≤ 32768 ⌝ }
+    ensures { λ r. ⌜ Shown from (now (out .entry)) 0 (captureLines (now (octets .entry)) (now (marks .entry))) r (now (out .exit)) ⌝ }
+    ensures { λ r. ⌜ r ≤ 2752680 ⌝ }
 {
     let s = settings();
     let none = table::empty();
@@ -126,20 +206,17 @@ fn put_lines(octets: &[u8], marks: &[u8], out: &mut [u8]) -> usize
     while 0 < left {
         let r = receive::read(s, 0, &none, st, octets, marks, place);
         let a = r.answer;
-        match a {
-            Answer::Refused(_) => return put_last(out, at, n, 0),
-            Answer::Nothing => return put_last(out, at, n, 0),
-            Answer::Open => return put_last(out, at, n, 1),
-            Answer::Counted(o, word, part, _way) => {
-                at = put_counted(out, at, r.start, o, word, part.len);
-            }
-        }
+        let Answer::Counted(o, word, part, _way) = a else {
+            let opened = open_number(a);
+            return show_last(out, from, at, n, opened);
+        };
+        at = show_counted(out, from, at, r.start, o, word, part.len);
         n += 1;
         st = r.state;
         place = r.next;
         left -= 1;
     }
-    put_last(out, at, n, 0)
+    show_last(out, from, at, n, 0)
 }
 
 // ---- the whole output
@@ -176,27 +253,38 @@ fn room() -> [u8; MOST_RECORDS]
     [0u8; MOST_RECORDS]
 }
 
-// The output of a whole input of at most 32,768 records.
-fn print_good(input: &[u8], out: &mut [u8]) -> usize
-    requires { ⌜ (badInput (now input) ≡ false) × (2752680 ≤ length (now out)) ⌝ }
-    ensures { λ r. ⌜ Put (now (out .entry)) 0 (printed (now (input .entry))) r (now (out .exit)) ⌝ }
-    ensures { λ r. ⌜ r ≤ length (now (out .entry)) ⌝ }
+// A part of the output of a whole input of at most 32,768 records, and how long that output is.
+fn show_good(input: &[u8], from: usize, out: &mut [u8]) -> usize
+    requires { ⌜ badInput (now input) ≡ false ⌝ }
+    ensures { λ r. ⌜ Shown from (now (out .entry)) 0 (printed (now (input .entry))) r (now (out .exit)) ⌝ }
+    ensures { λ r. ⌜ r ≤ 2752680 ⌝ }
 {
     let n = input.len() / 2;
     let mut o = room();
     let mut m = room();
     split(input, &mut o, &mut m);
-    put_lines(&o[..n], &m[..n], out)
+    show_lines(&o[..n], &m[..n], from, out)
 }
 
-// All that the program prints of its input, over the front of `out`; how many octets that is. 84 octets for each of 32,768 lines and more for
-// the last are enough.
-pub fn print_lines(input: &[u8], out: &mut [u8; 2752680]) -> usize
-    ensures { λ r. ⌜ r ≡ length (printed (now (input .entry))) ⌝ }
-    ensures { λ r. ⌜ now (out .exit) ≡ overwrite (now (out .entry)) 0 (printed (now (input .entry))) ⌝ }
+// A part of the output of any input, and how long that output is.
+fn show_all(input: &[u8], from: usize, out: &mut [u8]) -> usize
+    ensures { λ r. ⌜ Shown from (now (out .entry)) 0 (printed (now (input .entry))) r (now (out .exit)) ⌝ }
+    ensures { λ r. ⌜ r ≤ 2752680 ⌝ }
 {
     if bad_input(input) {
-        return put(out, 0, b"bad input\n");
+        return show(out, from, 0, b"bad input\n");
     }
-    print_good(input, out)
+    show_good(input, from, out)
+}
+
+// Of all that the program prints of its input, the octets from `from` on, as many as `out` has room for, over the front of `out`; how many that
+// is. A caller that asks for part after part, each from where the one before ended, has it all once a part is shorter than the room: 84 octets for each
+// of 32,768 lines and more for the last are enough.
+pub fn print_lines(input: &[u8], from: usize, out: &mut [u8; 131072]) -> usize
+    ensures { λ r. ⌜ r ≡ length (part 131072 from (printed (now (input .entry)))) ⌝ }
+    ensures { λ r. ⌜ now (out .exit) ≡ overwrite (now (out .entry)) 0 (part 131072 from (printed (now (input .entry)))) ⌝ }
+    ensures { λ r. ⌜ length (printed (now (input .entry))) ≤ 2752680 ⌝ }
+{
+    let total = show_all(input, from, out);
+    part_length(total, from)
 }

@@ -1,14 +1,14 @@
 // What the printing program prints (document 01, "The printing program"), by the plain reader (document 02, item 12): it goes through the records of its
 // input symbol by symbol and keeps no capture. What it prints is the definition of crate `lines`, so that it is the same on every input.
 use kept::Told;
-use splice::put;
 ghost use mathlib.Core.Path.{_≡_};
 ghost use mathlib.Core.Bool.{false, cond};
 ghost use Prim.Native.Nat.{_≤_};
 ghost use lib.ListN.{length};
 ghost use Rattle.line.specs.Line.{overwrite};
-ghost use Rattle.splice.specs.Written.{Put};
 ghost use Rattle.lines.specs.Lines.{badInput, printed};
+ghost use Rattle.lines.specs.Parts.{part};
+ghost use Rattle.lines.specs.Shown.{Shown};
 
 // What the last line says of a run in progress.
 fn open_number(running: bool) -> u64
@@ -17,11 +17,11 @@ fn open_number(running: bool) -> u64
     if running { 1 } else { 0 }
 }
 
-// The output of a whole input of at most 32,768 records: a line at each symbol that ends a run.
-fn put_steps(input: &[u8], out: &mut [u8]) -> usize
-    requires { ⌜ (badInput (now input) ≡ false) × (2752680 ≤ length (now out)) ⌝ }
-    ensures { λ r. ⌜ Put (now (out .entry)) 0 (printed (now (input .entry))) r (now (out .exit)) ⌝ }
-    ensures { λ r. ⌜ r ≤ length (now (out .entry)) ⌝ }
+// A part of the output of a whole input of at most 32,768 records, and how long that output is: a line at each symbol that ends a run.
+fn show_steps(input: &[u8], from: usize, out: &mut [u8]) -> usize
+    requires { ⌜ badInput (now input) ≡ false ⌝ }
+    ensures { λ r. ⌜ Shown from (now (out .entry)) 0 (printed (now (input .entry))) r (now (out .exit)) ⌝ }
+    ensures { λ r. ⌜ r ≤ 2752680 ⌝ }
 {
     let s = lines::settings();
     let none = table::empty();
@@ -34,10 +34,10 @@ fn put_steps(input: &[u8], out: &mut [u8]) -> usize
         let step = plain::take_symbol(s, 0, &none, p, input[k + 1], input[k]);
         let told = step.told;
         match told {
-            Told::Refused(_) => return lines::put_last(out, at, n, 0),
+            Told::Refused(_) => return lines::show_last(out, from, at, n, 0),
             Told::Quiet => {}
             Told::Counted(o, word, part, _way) => {
-                at = lines::put_counted(out, at, run.start as usize, o, word, part.len);
+                at = lines::show_counted(out, from, at, run.start as usize, o, word, part.len);
                 n += 1;
             }
         }
@@ -45,17 +45,26 @@ fn put_steps(input: &[u8], out: &mut [u8]) -> usize
         k += 2;
     }
     let opened = open_number(p.running);
-    lines::put_last(out, at, n, opened)
+    lines::show_last(out, from, at, n, opened)
 }
 
-// All that the program prints of its input, over the front of `out`; how many octets that is. 84 octets for each of 32,768 lines and more for
-// the last are enough.
-pub fn print_plain(input: &[u8], out: &mut [u8; 2752680]) -> usize
-    ensures { λ r. ⌜ r ≡ length (printed (now (input .entry))) ⌝ }
-    ensures { λ r. ⌜ now (out .exit) ≡ overwrite (now (out .entry)) 0 (printed (now (input .entry))) ⌝ }
+// A part of the output of any input, and how long that output is.
+fn show_plain(input: &[u8], from: usize, out: &mut [u8]) -> usize
+    ensures { λ r. ⌜ Shown from (now (out .entry)) 0 (printed (now (input .entry))) r (now (out .exit)) ⌝ }
+    ensures { λ r. ⌜ r ≤ 2752680 ⌝ }
 {
     if lines::bad_input(input) {
-        return put(out, 0, b"bad input\n");
+        return lines::show(out, from, 0, b"bad input\n");
     }
-    put_steps(input, out)
+    show_steps(input, from, out)
+}
+
+// Of all that the program prints of its input, the octets from `from` on, as many as `out` has room for, over the front of `out`; how many that is.
+pub fn print_plain(input: &[u8], from: usize, out: &mut [u8; 131072]) -> usize
+    ensures { λ r. ⌜ r ≡ length (part 131072 from (printed (now (input .entry)))) ⌝ }
+    ensures { λ r. ⌜ now (out .exit) ≡ overwrite (now (out .entry)) 0 (part 131072 from (printed (now (input .entry)))) ⌝ }
+    ensures { λ r. ⌜ length (printed (now (input .entry))) ≤ 2752680 ⌝ }
+{
+    let total = show_plain(input, from, out);
+    lines::part_length(total, from)
 }

@@ -1,3 +1,4 @@
 pub mod Claims
+pub mod Ended
 pub mod Hex
 pub mod Whys

@@ -2,8 +2,9 @@
 use line::MOST_RECORDS;
 use lines::put_decimal;
 use lines::put_followed;
-use lines::put_last;
 use lines::put_octet;
+use lines::show;
+use lines::show_last;
 use reason::Reason;
 use reason::Six;
 use reason::Why;
@@ -16,8 +17,11 @@ ghost use Rattle.line.specs.Limits.{mostRecords};
 ghost use Rattle.line.specs.Line.{overwrite};
 ghost use Rattle.splice.specs.Written.{Put};
 ghost use Rattle.lines.specs.Lines.{badInput};
+ghost use Rattle.lines.specs.Parts.{part};
+ghost use Rattle.lines.specs.Shown.{Shown};
 ghost use Rattle.reason.specs.declared.Reason.the-variants.{CutAt, ShortRun, WrongOctet, FcsDiffers, LengthBroken, NotForUs, Handed};
 ghost use Rattle.why_lines.specs.Hex.{hexDigit, hexOctet, hex16, hex32};
+ghost use Rattle.why_lines.specs.Ended.{openNumber};
 ghost use Rattle.why_lines.specs.Whys.{withNumber, withHex16, withHex32, hexThen, threeOctets, endName, sizes, opcodeText, reasonText, whyLine, captureWhys, printedWhys};
 
 // ---- hexadecimal digits, of a fixed width
@@ -255,13 +259,36 @@ fn put_why(out: &mut [u8], at: usize, start: usize, r: Reason) -> usize
     put_reason(out, i, r)
 }
 
+// The same, of a text of which `out` has a part (`lines::show`).
+fn show_why(out: &mut [u8], from: usize, at: usize, start: usize, r: Reason) -> usize
+    requires { ⌜ at + 96 ≤ 4294967295 ⌝ }
+    ensures { λ e. ⌜ Shown from (now (out .entry)) at (whyLine start r) e (now (out .exit)) ⌝ }
+    ensures { λ e. ⌜ e ≤ at + 96 ⌝ }
+{
+    let mut line = [0u8; 96];
+    let k = put_why(&mut line, 0, start, r);
+    show(out, from, at, &line[..k])
+}
+
 // ---- the lines of a capture
 
+// What the last line says of an answer that has no reason.
+fn open_number(a: Why) -> u64
+    ensures { λ r. ⌜ r ≡ openNumber a ⌝ }
+{
+    match a {
+        Why::Refused(_) => 0,
+        Why::Nothing => 0,
+        Why::Open => 1,
+        Why::Because(_) => 0,
+    }
+}
+
 // All lines: a Start after the other, each searched from the next place of the one before.
-fn put_whys(octets: &[u8], marks: &[u8], out: &mut [u8]) -> usize
-    requires { ⌜ 96 * (length (now octets) + 2) ≤ length (now out) ⌝ }
-    ensures { λ r. ⌜ Put (now (out .entry)) 0 (captureWhys (now (octets .entry)) (now (marks .entry))) r (now (out .exit)) ⌝ }
-    ensures { λ r. ⌜ r ≤ length (now (out .entry)) ⌝ }
+fn show_whys(octets: &[u8], marks: &[u8], from: usize, out: &mut [u8]) -> usize
+    requires { ⌜ length (now octets) ≤ 32768 ⌝ }
+    ensures { λ r. ⌜ Shown from (now (out .entry)) 0 (captureWhys (now (octets .entry)) (now (marks .entry))) r (now (out .exit)) ⌝ }
+    ensures { λ r. ⌜ r ≤ 3145920 ⌝ }
 {
     let s = lines::settings();
     let none = table::empty();
@@ -272,19 +299,16 @@ fn put_whys(octets: &[u8], marks: &[u8], out: &mut [u8]) -> usize
     while 0 < left {
         let e = reason::explain(s, 0, &none, octets, marks, place);
         let a = e.answer;
-        match a {
-            Why::Refused(_) => return put_last(out, at, n, 0),
-            Why::Nothing => return put_last(out, at, n, 0),
-            Why::Open => return put_last(out, at, n, 1),
-            Why::Because(r) => {
-                at = put_why(out, at, e.start, r);
-            }
-        }
+        let Why::Because(r) = a else {
+            let opened = open_number(a);
+            return show_last(out, from, at, n, opened);
+        };
+        at = show_why(out, from, at, e.start, r);
         n += 1;
         place = e.next;
         left -= 1;
     }
-    put_last(out, at, n, 0)
+    show_last(out, from, at, n, 0)
 }
 
 // ---- the whole output
@@ -296,27 +320,37 @@ fn room() -> [u8; MOST_RECORDS]
     [0u8; MOST_RECORDS]
 }
 
-// The output of a whole input of at most 32,768 records.
-fn print_good(input: &[u8], out: &mut [u8]) -> usize
-    requires { ⌜ (badInput (now input) ≡ false) × (3145920 ≤ length (now out)) ⌝ }
-    ensures { λ r. ⌜ Put (now (out .entry)) 0 (printedWhys (now (input .entry))) r (now (out .exit)) ⌝ }
-    ensures { λ r. ⌜ r ≤ length (now (out .entry)) ⌝ }
+// A part of the output of a whole input of at most 32,768 records, and how long that output is.
+fn show_good(input: &[u8], from: usize, out: &mut [u8]) -> usize
+    requires { ⌜ badInput (now input) ≡ false ⌝ }
+    ensures { λ r. ⌜ Shown from (now (out .entry)) 0 (printedWhys (now (input .entry))) r (now (out .exit)) ⌝ }
+    ensures { λ r. ⌜ r ≤ 3145920 ⌝ }
 {
     let n = input.len() / 2;
     let mut o = room();
     let mut m = room();
     lines::split(input, &mut o, &mut m);
-    put_whys(&o[..n], &m[..n], out)
+    show_whys(&o[..n], &m[..n], from, out)
 }
 
-// All that the program prints of its input, over the front of `out`; how many octets that is. 96 octets for each of 32,768 lines and more for
-// the last are enough.
-pub fn print_whys(input: &[u8], out: &mut [u8; 3145920]) -> usize
-    ensures { λ r. ⌜ r ≡ length (printedWhys (now (input .entry))) ⌝ }
-    ensures { λ r. ⌜ now (out .exit) ≡ overwrite (now (out .entry)) 0 (printedWhys (now (input .entry))) ⌝ }
+// A part of the output of any input, and how long that output is.
+fn show_all(input: &[u8], from: usize, out: &mut [u8]) -> usize
+    ensures { λ r. ⌜ Shown from (now (out .entry)) 0 (printedWhys (now (input .entry))) r (now (out .exit)) ⌝ }
+    ensures { λ r. ⌜ r ≤ 3145920 ⌝ }
 {
     if lines::bad_input(input) {
-        return put(out, 0, b"bad input\n");
+        return show(out, from, 0, b"bad input\n");
     }
-    print_good(input, out)
+    show_good(input, from, out)
+}
+
+// Of all that the program prints of its input, the octets from `from` on, as many as `out` has room for, over the front of `out`; how many that
+// is. 96 octets for each of 32,768 lines and more for the last are enough.
+pub fn print_whys(input: &[u8], from: usize, out: &mut [u8; 131072]) -> usize
+    ensures { λ r. ⌜ r ≡ length (part 131072 from (printedWhys (now (input .entry)))) ⌝ }
+    ensures { λ r. ⌜ now (out .exit) ≡ overwrite (now (out .entry)) 0 (part 131072 from (printedWhys (now (input .entry)))) ⌝ }
+    ensures { λ r. ⌜ length (printedWhys (now (input .entry))) ≤ 3145920 ⌝ }
+{
+    let total = show_all(input, from, out);
+    lines::part_length(total, from)
 }

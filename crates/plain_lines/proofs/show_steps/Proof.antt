@@ -1,4 +1,4 @@
--- `plain_lines::put_steps` meets its contract. The invariant: with the lines of the symbols left, the output is whole. The measure is how many octets are
+-- `plain_lines::show_steps` meets its contract. The invariant: with the lines of the symbols left, the output is whole. The measure is how many octets are
 -- left. Assumes nothing.
 use native.Mathlib.Omega.{arith}
 use mathlib.Core.Path.{_≡_, refl, sym, ap, ap₂, _∙_}
@@ -16,22 +16,22 @@ use Rattle.plain.specs.declared.Plain.{Plain}
 use Rattle.plain.specs.Plain.{freshPlain}
 use Rattle.plain.specs.Fed.{plainReadings}
 use Rattle.lines.specs.Lines.{programSettings, lastLine, linesOf, printed}
-use Rattle.lines.proofs.Puts.{Rest, rest-start, rest-more, rest-last}
+use Rattle.lines.proofs.Shows.{Left, left-start, left-more, left-last}
 use Rattle.lines.proofs.Records.{good-short}
 use Rattle.plain_lines.proofs.Laws.{symbolsFrom, lines-quiet, lines-counted, lines-refused, lines-end, lines-all}
-use Rattle.plain_lines.proofs.put_steps.Statement.{statement}
-use Rattle.plain_lines.proofs.put_steps.Tie as tie
+use Rattle.plain_lines.proofs.show_steps.Statement.{statement}
+use Rattle.plain_lines.proofs.show_steps.Tie as tie
 
 abbrev Inv-loop : tie.InvT-loop
-Inv-loop input out₀ s none p₀ n₀ at₀ k₀ out p n at k =
+Inv-loop input from out₀ s none p₀ n₀ at₀ k₀ out p n at k =
     (length out ≡ length out₀)
     × (at ≤ 42 * k)
     × (n + n ≤ k)
     × (k ≤ length input)
-    × Rest out₀ (printed input) out at (linesOf n (plainReadings s 0 (entriesOf none) p (symbolsFrom k input)))
+    × Left from out₀ (printed input) out at (linesOf n (plainReadings s 0 (entriesOf none) p (symbolsFrom k input)))
 
 abbrev μ-loop : tie.MeasureT-loop
-μ-loop input out₀ s none p₀ n₀ at₀ k₀ out p n at k = length input - k
+μ-loop input from out₀ s none p₀ n₀ at₀ k₀ out p n at k = length input - k
 
 -- the places that others look back to: the call, from a turn of the loop, and that turn from behind its step
 abbrev call : tie.At-loop Inv-loop μ-loop → tie.Start Inv-loop μ-loop
@@ -42,11 +42,11 @@ turn c = c .before .before .before .before .before .before
 
 -- the input is short
 short : (c : tie.At-loop Inv-loop μ-loop) → length (now (call c .args .input)) ≤ 2 * mostRecords
-short c = good-short (now (call c .args .input)) (call c .pre .0)
+short c = good-short (now (call c .args .input)) (call c .pre)
 
--- so that two lines more have room
-room : (c : tie.At-loop Inv-loop μ-loop) → c .loop .at + 168 ≤ length (c .loop .out)
-room c = let h = short c in let p = call c .pre .1 in let i = c .loop .inv in omega arith
+-- so that a line more is within what all of them take
+room : (c : tie.At-loop Inv-loop μ-loop) → c .loop .at + 84 ≤ 2752680
+room c = let h = short c in let i = c .loop .inv in omega arith
 
 settings-requires : tie.Need-settings-requires Inv-loop μ-loop
 settings-requires c κs = search needs
@@ -69,12 +69,12 @@ loop-holds c =
       search needs,
       search needs,
       search needs,
-      rest-start
+      left-start
           (ap₂ (λ (set : Settings) (p : Plain). linesOf 0 (plainReadings set 0 (entriesOf (e .empty .result)) p (symbolsFrom 0 l)))
           (e .before .settings .ensures)
           (c .fresh .ensures ∙ ap freshPlain (c .before .fresh-state .ensures))
           ∙ ap (λ (t : List ℕ). linesOf 0 (plainReadings programSettings 0 (entriesOf t) (freshPlain fresh) (symbolsFrom 0 l))) (e .empty .ensures)
-          ∙ lines-all l (s .pre .0)),
+          ∙ lines-all l (s .pre)),
     )
 
 add-loop : tie.Need-add-loop Inv-loop μ-loop
@@ -95,8 +95,8 @@ take-symbol-requires c κs = search needs
 enum-told : tie.Need-enum-told Inv-loop μ-loop
 enum-told c = search needs
 
-put-last-requires : tie.Need-put-last-requires Inv-loop μ-loop
-put-last-requires c κs = let h = room (turn (c .before .before .before)) in omega arith
+show-last-requires : tie.Need-show-last-requires Inv-loop μ-loop
+show-last-requires c κs = let h = room (turn (c .before .before .before)) in omega arith
 
 same-length : tie.Need-same-length Inv-loop μ-loop
 same-length c = search needs
@@ -106,11 +106,11 @@ returns c =
     let e = c .before .before .before .before in
     let y = e .before .before in
     let l = turn y in
-    let p = c .before .before .put-last .ensures in
+    let p = c .before .before .show-last .ensures in
     let h = room l in
     let e₀ = l .loop .inv .0 in
     let more : l .loop .k + 1 < length (now (call l .args .input)) = omega arith in
-    (rest-last (l .loop .inv .4) (p .0) (lines-refused _ _ _ _ _ _ _ more _ (y .take-symbol .ensures) _ (e .enum-told .given .1)), omega arith)
+    (left-last (l .loop .inv .4) (p .0) (lines-refused _ _ _ _ _ _ _ more _ (y .take-symbol .ensures) _ (e .enum-told .given .1)), omega arith)
 
 enum-told-2 : tie.Need-enum-told-2 Inv-loop μ-loop
 enum-told-2 c = search needs
@@ -118,11 +118,11 @@ enum-told-2 c = search needs
 enum-known-told : tie.Need-enum-known-told Inv-loop μ-loop
 enum-known-told c = search needs
 
-cast-put-counted : tie.Need-cast-put-counted Inv-loop μ-loop
-cast-put-counted c = search needs
+cast-show-counted : tie.Need-cast-show-counted Inv-loop μ-loop
+cast-show-counted c = search needs
 
-put-counted-requires : tie.Need-put-counted-requires Inv-loop μ-loop
-put-counted-requires c κs = let h = room (turn (c .before .before .before .before .before)) in omega arith
+show-counted-requires : tie.Need-show-counted-requires Inv-loop μ-loop
+show-counted-requires c κs = let h = room (turn (c .before .before .before .before .before)) in omega arith
 
 add-n : tie.Need-add-n Inv-loop μ-loop
 add-n c = let h = short (turn (c .before .before .before .before .before .before .before .before)) in omega arith
@@ -155,15 +155,15 @@ loop-again c =
       omega arith,
       omega arith,
       omega arith,
-      rest-more (l .loop .inv .4) (p .0) (lines-counted _ _ _ _ _ _ _ more _ (y .take-symbol .ensures) _ _ _ _ (w .1 .given .1)),
+      left-more (l .loop .inv .4) (p .0) (lines-counted _ _ _ _ _ _ _ more _ (y .take-symbol .ensures) _ _ _ _ (w .1 .given .1)),
     ))
     (m .match .came)
 
 open-number-requires : tie.Need-open-number-requires Inv-loop μ-loop
 open-number-requires c κs = search needs
 
-put-last-requires-2 : tie.Need-put-last-requires-2 Inv-loop μ-loop
-put-last-requires-2 c κs = let h = room (c .before .before .before) in omega arith
+show-last-requires-2 : tie.Need-show-last-requires-2 Inv-loop μ-loop
+show-last-requires-2 c κs = let h = room (c .before .before .before) in omega arith
 
 same-length-2 : tie.Need-same-length-2 Inv-loop μ-loop
 same-length-2 c = search needs
@@ -172,14 +172,14 @@ returns-2 : tie.Need-returns-2 Inv-loop μ-loop
 returns-2 c =
     let o = c .before .before .before .before in
     let l = o .before .before in
-    let p = c .before .before .put-last2 .ensures in
+    let p = c .before .before .show-last2 .ensures in
     let h = room l in
     let e₀ = l .loop .inv .0 in
     let none : length (now (call l .args .input)) ≤ l .loop .k + 1 = omega arith in
-    (rest-last (l .loop .inv .4) (p .0) (lines-end _ _ _ _ _ _ _ none ∙ ap (lastLine (l .loop .n)) (sym (o .open-number .ensures))), omega arith)
+    (left-last (l .loop .inv .4) (p .0) (lines-end _ _ _ _ _ _ _ none ∙ ap (lastLine (l .loop .n)) (sym (o .open-number .ensures))), omega arith)
 
-pub put-steps-spec : {M : Type 1} → statement M
-put-steps-spec =
+pub show-steps-spec : {M : Type 1} → statement M
+show-steps-spec =
     tie.close
     (tie.spec
     Inv-loop
@@ -195,18 +195,18 @@ put-steps-spec =
     shared-slice-read-take-symbol-2
     take-symbol-requires
     enum-told
-    put-last-requires
+    show-last-requires
     same-length
     returns
     enum-told-2
     enum-known-told
-    cast-put-counted
-    put-counted-requires
+    cast-show-counted
+    show-counted-requires
     add-n
     add-k
     loop-less
     loop-again
     open-number-requires
-    put-last-requires-2
+    show-last-requires-2
     same-length-2
     returns-2)
