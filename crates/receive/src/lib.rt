@@ -10,6 +10,7 @@ use station::Refusal;
 use station::Settings;
 use station::State;
 ghost use mathlib.Core.Path.{_≡_};
+ghost use mathlib.Core.Bool.{true};
 ghost use Prim.Native.Nat.{_+_, _≤_};
 ghost use lib.ListN.{length};
 ghost use Rattle.line.specs.Limits.{mostSymbols};
@@ -317,9 +318,11 @@ fn three_starts(octets: &[u8], marks: &[u8]) -> bool {
     }
 }
 
-// Whether the tables of the FCS pay from a place on: they do for some fifty short frames. From 24,576 symbols on three Starts in 1,536 tell of enough of them,
-// from 4,096 on three in 256; the check of a long frame looks little up. No promise hangs on it, only time; it is public for this repository's crates only.
-pub fn tables_pay(octets: &[u8], marks: &[u8], place: usize) -> bool {
+// Whether the tables of the FCS pay from a place on: they do for some fifty short frames. From 24,576 symbols on three Starts in 1,536 tell of enough of
+// them, from 4,096 on three in 256; the check of a long frame looks little up. Only time hangs on it; it is public for this repository's crates only.
+pub fn tables_pay(octets: &[u8], marks: &[u8], place: usize) -> bool
+    ensures { λ r. ⌜ (r ≡ true → place + 4096 ≤ length (now (octets .entry))) ⌝ }
+{
     if octets.len() < place {
         return false;
     }
