@@ -78,12 +78,12 @@ static uint32_t (*const fenhamper_layout)(void) __attribute__((used)) = fenhampe
 #define FENHAMPER_RECORD_SIZE 16     /* octets of a record of a log */
 #define FENHAMPER_BLOCK 256          /* symbols, of which one total counts the Starts */
 #define FENHAMPER_MOST_BLOCKS 256    /* of a capture and of line buffers */
-#define FENHAMPER_STACK_READ 1280    /* every call but those below: octets of stack that it takes at most */
-#define FENHAMPER_STACK_SCREEN 1536  /* screen_data */
-#define FENHAMPER_STACK_SEND 640     /* send_client, send_pause, send_pfc, fill_idle, fill_totals, starts_before */
-#define FENHAMPER_STACK_COUNTED 768  /* send_client_counted, send_pause_counted, send_pfc_counted, fill_idle_counted */
-#define FENHAMPER_STACK_WALK 18944   /* walk, walk_log, sizes_add_capture */
-#define FENHAMPER_STACK_PLAIN 1536   /* plain_symbol, plain_fresh */
+#define FENHAMPER_STACK_READ 3072    /* every call but those below: octets of stack that it takes at most */
+#define FENHAMPER_STACK_SCREEN 3456  /* screen_data */
+#define FENHAMPER_STACK_SEND 2560    /* send_client, send_pause, send_pfc, fill_idle, fill_totals, starts_before */
+#define FENHAMPER_STACK_COUNTED 2816 /* send_client_counted, send_pause_counted, send_pfc_counted, fill_idle_counted */
+#define FENHAMPER_STACK_WALK 20448   /* walk, walk_log, sizes_add_capture */
+#define FENHAMPER_STACK_PLAIN 3328   /* plain_symbol, plain_fresh */
 #define FENHAMPER_PLAIN_FIRST 53     /* octets of a run that the plain reader keeps from its front, */
 #define FENHAMPER_PLAIN_LAST 4       /* and from its end */
 #define FENHAMPER_BANDS 7            /* of frame lengths, in a table of sizes */

@@ -77,9 +77,9 @@ def edges():
         "32,768 records without a Start": b"\x00\xfb" * most,
         "one run that fills 32,768 records": one_run(most - 2),
         "one open run that fills 32,768 records": one_run(most - 1)[:-2],
-        # the walk takes other tables for the FCS from 8,192 symbols on
-        "8,191 records of frames": frames(100, 8191),
-        "8,192 records of frames": frames(100, 8192),
+        # the walk takes other tables for the FCS from 4,096 symbols on
+        "4,095 records of frames": frames(100, 4095),
+        "4,096 records of frames": frames(100, 4096),
         "a part that is filled": filling(PART),
         "a part that is filled but for one octet": filling(PART - 1),
         "a part and one octet": filling(PART + 1),

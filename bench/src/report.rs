@@ -22,8 +22,8 @@ const SHOWN: [&str; 3] = ["walk", "read", "send"];
 const GOOD: [&str; 4] = ["64", "mix", "1518", "9018"];
 const LINE_RATE: f64 = 1.25;
 
-// From so many symbols on a walk makes tables of the FCS.
-const TABLES_FROM: usize = 8192;
+// From so many symbols on a walk makes tables of the FCS, if its first frames are short.
+const TABLES_FROM: usize = 4096;
 
 // Calls that are compared with each other.
 const LOGGED: (&str, &str) = ("walk_log", "walk");

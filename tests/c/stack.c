@@ -60,7 +60,7 @@ static void explain_one(void) {
 
 static void walk_short(void) {
   fenhamper_walked walked;
-  fenhamper_walk(&settings, 1, &table, &state, octets, 4096, marks, 4096, &walked);
+  fenhamper_walk(&settings, 1, &table, &state, octets, 4000, marks, 4000, &walked);
 }
 
 static void walk_long(void) {
@@ -71,7 +71,7 @@ static void walk_long(void) {
 static void walk_log_short(void) {
   fenhamper_kept kept;
   memset(logged, 0, sizeof logged);
-  fenhamper_walk_log(&settings, 1, &table, &state, octets, 4096, marks, 4096, 0, (uint8_t *)logged, sizeof logged, &kept);
+  fenhamper_walk_log(&settings, 1, &table, &state, octets, 4000, marks, 4000, 0, (uint8_t *)logged, sizeof logged, &kept);
 }
 
 static void walk_log_long(void) {
@@ -212,7 +212,7 @@ static void plain_end(void) {
 
 static void sizes_fresh(void) { fenhamper_sizes_fresh(&sizes); }
 
-static void sizes_short(void) { fenhamper_sizes_add_capture(&settings, 1, &table, octets, 4096, marks, 4096, &sizes); }
+static void sizes_short(void) { fenhamper_sizes_add_capture(&settings, 1, &table, octets, 4000, marks, 4000, &sizes); }
 
 static void sizes_long(void) { fenhamper_sizes_add_capture(&settings, 1, &table, octets, symbols, marks, symbols, &sizes); }
 
@@ -245,9 +245,9 @@ int main(void) {
   hold("read", read_one, FENHAMPER_STACK_READ);
   hold("explain", explain_one, FENHAMPER_STACK_READ);
   hold("screen_data", screen_data, FENHAMPER_STACK_SCREEN);
-  hold("walk, under 8,192 symbols", walk_short, FENHAMPER_STACK_WALK);
+  hold("walk, under 4,096 symbols", walk_short, FENHAMPER_STACK_WALK);
   hold("walk", walk_long, FENHAMPER_STACK_WALK);
-  hold("walk_log, under 8,192 symbols", walk_log_short, FENHAMPER_STACK_WALK);
+  hold("walk_log, under 4,096 symbols", walk_log_short, FENHAMPER_STACK_WALK);
   hold("walk_log", walk_log_long, FENHAMPER_STACK_WALK);
   hold("walk_log, compacting", walk_log_last, FENHAMPER_STACK_WALK);
   hold("log_append", log_append, FENHAMPER_STACK_READ);

@@ -74,7 +74,7 @@ def outcome_cases():
         for to in (multicast(1), multicast(2)):
             add(f"job {job}, to {to[5]}", s, sized(70, to=to), job=job, table=table)
     long = [(IDLE, 1)] * 8000
-    for n in (191 - 75, 192 - 75, 57461):  # with tables of the FCS from 8,192 symbols on
+    for n in (191 - 75, 192 - 75, 57461):  # and a long one
         add(f"{n} symbols behind a frame and 8,000", s, long + f + [(IDLE, 1)] * n, FULL)
 
 

@@ -64,26 +64,26 @@ pub const BLOCK: usize = sys::BLOCK;
 /// The most blocks of a capture or of line buffers: 256.
 pub const MOST_BLOCKS: usize = 256;
 
-/// Octets of stack that a reading or its reason takes at most, and a call on a log or a table: 1280.
-pub const STACK_READ: usize = 1280;
+/// Octets of stack that a reading or its reason takes at most, and a call on a log or a table: 3072.
+pub const STACK_READ: usize = 3072;
 
-/// Octets of stack that the [screen's data](crate::Listener::screen_data) takes at most: 1536.
-pub const STACK_SCREEN: usize = 1536;
+/// Octets of stack that the [screen's data](crate::Listener::screen_data) takes at most: 3456.
+pub const STACK_SCREEN: usize = 3456;
 
 /// Octets of stack that a sending call or an Idle fill into a [`Sender`](crate::Sender) takes at
-/// most, and filling totals or asking for Starts: 640.
-pub const STACK_SEND: usize = 640;
+/// most, and filling totals or asking for Starts: 2560.
+pub const STACK_SEND: usize = 2560;
 
 /// Octets of stack that a sending call or an Idle fill into a [`Line`](crate::Line) takes at most:
-/// 768.
-pub const STACK_COUNTED: usize = 768;
+/// 2816.
+pub const STACK_COUNTED: usize = 2816;
 
 /// Octets of stack that a walk takes at most, one that keeps its readings too, and a capture whose
-/// [sizes](crate::Sizes) are added: 18,944, of which 16,384 are for tables.
-pub const STACK_WALK: usize = 18944;
+/// [sizes](crate::Sizes) are added: 20,448, of which 16,384 are for tables.
+pub const STACK_WALK: usize = 20448;
 
-/// Octets of stack that a symbol of the [plain reader](crate::Plain) takes at most: 1536.
-pub const STACK_PLAIN: usize = 1536;
+/// Octets of stack that a symbol of the [plain reader](crate::Plain) takes at most: 3328.
+pub const STACK_PLAIN: usize = 3328;
 
 /// Octets of a run that the plain reader keeps from its front: 53.
 pub const PLAIN_FIRST: usize = sys::PLAIN_FIRST;

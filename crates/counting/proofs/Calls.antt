@@ -22,8 +22,8 @@ use Rattle.writing.specs.declared.Client.{Client}
 use Rattle.writing.specs.declared.Classes.{Classes}
 use Rattle.writing.specs.Frames.{clientBody, pauseBody, pfcBody, idleSymbols}
 use Rattle.writing.specs.Gaps.{gapOn, symbolsOn}
-use Rattle.send.specs.declared.Sent.{Sent}
-use Rattle.send.specs.Sending.{Sending, sending, sendChecked, refusedAt, pauseChecked, pfcChecked, idleChecked, frameSending, clientSending, pauseSending, pfcSending, idleSending}
+use Rattle.send.specs.declared.Sending.{Sending}
+use Rattle.send.specs.Sending.{SendCall, sendCall, sendChecked, refusedAt, pauseChecked, pfcChecked, idleChecked, frameSending, clientSending, pauseSending, pfcSending, idleSending}
 use Rattle.send.proofs.Refusals.{Room, Framed, inside-port, passed, passed-control, passed-idle}
 use Rattle.totals.specs.Totals.{blocks, recounted}
 use Rattle.totals.proofs.Tests.{Known, same-length, as-many}
@@ -31,23 +31,23 @@ use Rattle.counting.specs.Counting.{counting, frameTotals, countChecked}
 
 -- ---- the answer
 
-module _ (early : Checked) (st : State) (os ms : List ℕ) (place : ℕ) (ts : List ℕ) (base : Sending) where
-  pub count-refused : {r : Sent} (x : Refusal) → early ≡ Refused x → r ≡ refusedAt x place st → counting r os ms ts ≡ countChecked early st os ms place ts base
+module _ (early : Checked) (st : State) (os ms : List ℕ) (place : ℕ) (ts : List ℕ) (base : SendCall) where
+  pub count-refused : {r : Sending} (x : Refusal) → early ≡ Refused x → r ≡ refusedAt x place st → counting r os ms ts ≡ countChecked early st os ms place ts base
   unfolding countChecked
-  count-refused x h e = ap (λ (q : Sent). counting q os ms ts) e ∙ sym (ap (λ (q : Checked). countChecked q st os ms place ts base) h)
+  count-refused x h e = ap (λ (q : Sending). counting q os ms ts) e ∙ sym (ap (λ (q : Checked). countChecked q st os ms place ts base) h)
 
-  pub count-made : {r : Sent} {os′ ms′ ts′ : List ℕ} → early ≡ Fine → sending r os′ ms′ ≡ base → ts′ ≡ recounted (capture os′ ms′) place (r .place) ts
+  pub count-made : {r : Sending} {os′ ms′ ts′ : List ℕ} → early ≡ Fine → sendCall r os′ ms′ ≡ base → ts′ ≡ recounted (capture os′ ms′) place (r .place) ts
       → counting r os′ ms′ ts′ ≡ countChecked early st os ms place ts base
   unfolding countChecked
   count-made {r} {os′} {ms′} h e t =
       ap (counting r os′ ms′) t
-      ∙ ap (λ (x : Sending). record { sent = x; totals = recounted (capture (x .octets) (x .marks)) place (x .given .place) ts }) e
+      ∙ ap (λ (x : SendCall). record { sent = x; totals = recounted (capture (x .octets) (x .marks)) place (x .given .place) ts }) e
       ∙ sym (ap (λ (q : Checked). countChecked q st os ms place ts base) h)
 
 -- ---- what a call leaves, and what is known of one that is not refused
 
 -- what a call leaves of its buffers and place, refused or not
-pub record Leaves (os : List ℕ) (place : ℕ) (b : Sending) : Type 0 where
+pub record Leaves (os : List ℕ) (place : ℕ) (b : SendCall) : Type 0 where
   pub octets : length (b .octets) ≡ length os
   pub even : length (b .octets) ≡ length (b .marks)
   pub inside : b .given .place ≤ length (b .octets)
@@ -90,12 +90,12 @@ pub record Countable (os ms : List ℕ) (to : ℕ) (ts : List ℕ) : Type 0 wher
   pub inside : to ≤ length os
   pub count : length ts ≡ blocks (length os)
 
-pub countable : {os ms : List ℕ} {place : ℕ} {ts os′ ms′ : List ℕ} {r : Sent} (base : Sending)
-    → Known os ms place ts → Leaves os place base → sending r os′ ms′ ≡ base → Countable os′ ms′ (r .place) ts
+pub countable : {os ms : List ℕ} {place : ℕ} {ts os′ ms′ : List ℕ} {r : Sending} (base : SendCall)
+    → Known os ms place ts → Leaves os place base → sendCall r os′ ms′ ≡ base → Countable os′ ms′ (r .place) ts
 countable {os} {ms} {place} {ts} {os′} {ms′} {r} base k l e =
-    let o : length os′ ≡ length (base .octets) = ap (λ (x : Sending). length (x .octets)) e in
-    let m : length ms′ ≡ length (base .marks) = ap (λ (x : Sending). length (x .marks)) e in
-    let p : r .place ≡ base .given .place = ap (λ (x : Sending). x .given .place) e in
+    let o : length os′ ≡ length (base .octets) = ap (λ (x : SendCall). length (x .octets)) e in
+    let m : length ms′ ≡ length (base .marks) = ap (λ (x : SendCall). length (x .marks)) e in
+    let p : r .place ≡ base .given .place = ap (λ (x : SendCall). x .given .place) e in
     let lo = l .octets in
     let lm = l .even in
     let li = l .inside in

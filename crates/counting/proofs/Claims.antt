@@ -22,7 +22,7 @@ use Rattle.station.specs.Numbers.{checkedNumber}
 use Rattle.station.specs.Station.{isPauseMode, isPfcMode}
 use Rattle.station.proofs.Refusals.{fine-row}
 use Rattle.writing.specs.Frames.{pauseBody, pfcBody}
-use Rattle.send.specs.Sending.{wentRefusal, sendChecked, clientRefusals, controlRefusals, idleRefusals, clientChecked, pauseChecked, pfcChecked, idleChecked}
+use Rattle.send.specs.Sending.{sendRefusal, sendChecked, clientRefusals, controlRefusals, idleRefusals, clientChecked, pauseChecked, pfcChecked, idleChecked}
 use Rattle.send.specs.Sending.{frameSending, clientSending, pauseSending, pfcSending, idleSending}
 use Rattle.send.proofs.Refusals.{Room, passed, passed-control, passed-idle}
 use Rattle.totals.specs.Totals.{blockTotal, trueTotals, writtenInto, recounted, wrongTotals, highTotal, beforeRefusals}
@@ -89,7 +89,7 @@ module _ (st : State) (os ms ts : List ℕ) (place : ℕ) (new : List Symbol) (c
   abbrev lent : List ℕ → Lent
   lent l = record { octets = os; marks = ms; totals = l }
 
-  none-changed : (early k : Checked) → 0 < wentRefusal (made early k .sent .given .answer) → RefusedCall st (lent ts) place (made early k)
+  none-changed : (early k : Checked) → 0 < sendRefusal (made early k .sent .given .answer) → RefusedCall st (lent ts) place (made early k)
   unfolding countChecked sendChecked
   none-changed (Refused y) k h = record { at = refl; state = refl; lent = refl }
   none-changed Fine (Refused x) h =
@@ -112,7 +112,7 @@ module _ (st : State) (os ms ts : List ℕ) (place : ℕ) (new : List Symbol) (c
       ∙ ap trueTotals (sym same)
 
   number-is : (early k all : Checked) → ((x : Refusal) → early ≡ Refused x → all ≡ Refused x) → (early ≡ Fine → all ≡ k)
-      → wentRefusal (made early k .sent .given .answer) ≡ checkedNumber all
+      → sendRefusal (made early k .sent .given .answer) ≡ checkedNumber all
   unfolding countChecked sendChecked
   number-is (Refused x) k all f g = ap checkedNumber (sym (f x refl))
   number-is Fine (Refused x) all f g = ap checkedNumber (sym (g refl))
@@ -186,10 +186,10 @@ module _ (st : State) (l : Lent) (c : Sends) where
   as-many-left = ap length totals-left ∙ length-recounted _ (placeOf c) (x .sent .given .place) (l .totals)
 
   -- "A refused call changes none.": neither total nor anything else
-  pub refused-none : 0 < wentRefusal (x .sent .given .answer) → RefusedCall st l (placeOf c) x
+  pub refused-none : 0 < sendRefusal (x .sent .given .answer) → RefusedCall st l (placeOf c) x
   refused-none =
       subst
-      (λ (y : Counting). 0 < wentRefusal (y .sent .given .answer) → RefusedCall st l (placeOf c) y)
+      (λ (y : Counting). 0 < sendRefusal (y .sent .given .answer) → RefusedCall st l (placeOf c) y)
       (sym (counted-by st l c))
       (none-changed st (l .octets) (l .marks) (l .totals) (placeOf c) (symbolsAsked st c) (countAfter st c) _ _)
 
@@ -212,9 +212,9 @@ module _ (st : State) (l : Lent) (c : Sends) where
   all-later = then-others (l .octets) (l .totals) (comeFirst c) (refusalsOf st (l .octets) (l .marks) c)
 
   -- the number given is that of the whole table: "Refusals, after 3 and 19"
-  pub number-given : wentRefusal (x .sent .given .answer) ≡ checkedNumber (first (allRefusals st l c))
+  pub number-given : sendRefusal (x .sent .given .answer) ≡ checkedNumber (first (allRefusals st l c))
   number-given =
-      ap (λ (y : Counting). wentRefusal (y .sent .given .answer)) (counted-by st l c)
+      ap (λ (y : Counting). sendRefusal (y .sent .given .answer)) (counted-by st l c)
       ∙ number-is st (l .octets) (l .marks) (l .totals) (placeOf c) (symbolsAsked st c) (countAfter st c) _ _ _ all-early all-later
 
   -- but for its totals it is the call without them, refused by the whole table

@@ -17,7 +17,7 @@ use Rattle.writing.specs.declared.Client.{Client}
 use Rattle.writing.specs.declared.Classes.{Classes}
 use Rattle.writing.specs.Frames.{clientBody, pauseBody, pfcBody, idleSymbols}
 use Rattle.writing.specs.Gaps.{gapOn, symbolsOn}
-use Rattle.send.specs.Sending.{Sending, clientRefusals, controlRefusals, idleRefusals, clientSending, pauseSending, pfcSending, idleSending}
+use Rattle.send.specs.Sending.{SendCall, clientRefusals, controlRefusals, idleRefusals, clientSending, pauseSending, pfcSending, idleSending}
 use Rattle.totals.specs.Totals.{trueTotals, wrongTotals, highTotal, filled}
 use Rattle.counting.specs.Counting.{Counting, clientCounting, pauseCounting, pfcCounting, idleCounting}
 
@@ -47,7 +47,7 @@ placeOf (sendsPfc s port place k) = place
 placeOf (fillsIdle place n) = place
 
 -- what it gives and leaves without totals, and with them
-unfoldable pub sendingOf : State → List ℕ → List ℕ → Sends → Sending
+unfoldable pub sendingOf : State → List ℕ → List ℕ → Sends → SendCall
 sendingOf st os ms (sendsClient s port place c d) = clientSending s st port os ms place c d
 sendingOf st os ms (sendsPause s port place q) = pauseSending s st port os ms place q
 sendingOf st os ms (sendsPfc s port place k) = pfcSending s st port os ms place k

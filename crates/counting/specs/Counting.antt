@@ -14,17 +14,17 @@ use Rattle.station.specs.declared.Checked.the-variants.{Fine, Refused}
 use Rattle.station.specs.Station.{badSettings, badBuffers, badStart, highDeficit}
 use Rattle.writing.specs.declared.Client.{Client}
 use Rattle.writing.specs.declared.Classes.{Classes}
-use Rattle.send.specs.declared.Sent.{Sent}
-use Rattle.send.specs.Sending.{Sending, sending, refusedAt, clientSending, pauseSending, pfcSending, idleSending}
+use Rattle.send.specs.declared.Sending.{Sending}
+use Rattle.send.specs.Sending.{SendCall, sendCall, refusedAt, clientSending, pauseSending, pfcSending, idleSending}
 use Rattle.totals.specs.Totals.{recounted, wrongTotals, highTotal, beforeRefusals}
 
 -- a call's answer with its place and state, both lent buffers and the lent totals: a record, so that a promise is one equation
 pub record Counting : Type 0 where
-  pub sent : Sending
+  pub sent : SendCall
   pub totals : List ℕ
 
-abbrev pub counting : Sent → List ℕ → List ℕ → List ℕ → Counting
-counting r os ms ts = record { sent = sending r os ms; totals = ts }
+abbrev pub counting : Sending → List ℕ → List ℕ → List ℕ → Counting
+counting r os ms ts = record { sent = sendCall r os ms; totals = ts }
 
 -- "Refusals, after 3 and 19": the tests of a frame's call up to 22, on a port and with the deficit count
 unfoldable pub frameTotals : Settings → Port → ℕ → List ℕ → List ℕ → ℕ → List ℕ → Table Checked
@@ -39,7 +39,7 @@ frameTotals s port count os ms place ts =
 
 -- a call with totals: `early` is what the tests up to 22 give, `base` what the call without totals gives and leaves; its own refusals come after these.
 -- "Each sending call and Idle fill counts anew the blocks it writes into and touches no other total"; "A refused call changes none."
-unfoldable pub countChecked : Checked → State → List ℕ → List ℕ → ℕ → List ℕ → Sending → Counting
+unfoldable pub countChecked : Checked → State → List ℕ → List ℕ → ℕ → List ℕ → SendCall → Counting
 countChecked (Refused x) st os ms place ts base = counting (refusedAt x place st) os ms ts
 countChecked Fine st os ms place ts base =
     record { sent = base; totals = recounted (capture (base .octets) (base .marks)) place (base .given .place) ts }

@@ -1,7 +1,7 @@
 // The sending calls that keep the totals of a capture (document 02, item 9): each is the call without totals, and then a new count of the blocks that it
 // wrote into. Meaning: specs/.
-use send::Sent;
-use send::Went;
+use send::SendAnswer;
+use send::Sending;
 use station::Checked;
 use station::Port;
 use station::Quanta;
@@ -50,11 +50,11 @@ pub fn check_frame(
 }
 
 // A call that was refused.
-fn refused(x: Refusal, place: usize, state: State) -> Sent
+fn refused(x: Refusal, place: usize, state: State) -> Sending
     ensures { λ r. ⌜ r ≡ refusedAt x place state ⌝ }
 {
-    Sent {
-        answer: Went::Refused(x),
+    Sending {
+        answer: SendAnswer::Refused(x),
         place,
         state,
     }
@@ -71,7 +71,7 @@ pub fn send_client(
     place: usize,
     client: Client,
     data: &[u8],
-) -> Sent
+) -> Sending
     ensures { λ r. ⌜ counting r (now (octets .exit)) (now (marks .exit)) (now (totals .exit))
         ≡ clientCounting s state port (now (octets .entry)) (now (marks .entry)) (now (totals .entry)) place client (now («data» .entry)) ⌝ }
 {
@@ -94,7 +94,7 @@ pub fn send_pause(
     totals: &mut [u16],
     place: usize,
     quanta: Quanta,
-) -> Sent
+) -> Sending
     ensures { λ r. ⌜ counting r (now (octets .exit)) (now (marks .exit)) (now (totals .exit))
         ≡ pauseCounting s state port (now (octets .entry)) (now (marks .entry)) (now (totals .entry)) place quanta ⌝ }
 {
@@ -117,7 +117,7 @@ pub fn send_pfc(
     totals: &mut [u16],
     place: usize,
     classes: Classes,
-) -> Sent
+) -> Sending
     ensures { λ r. ⌜ counting r (now (octets .exit)) (now (marks .exit)) (now (totals .exit))
         ≡ pfcCounting s state port (now (octets .entry)) (now (marks .entry)) (now (totals .entry)) place classes ⌝ }
 {
@@ -138,7 +138,7 @@ pub fn fill_idle(
     totals: &mut [u16],
     place: usize,
     n: usize,
-) -> Sent
+) -> Sending
     ensures { λ r. ⌜ counting r (now (octets .exit)) (now (marks .exit)) (now (totals .exit))
         ≡ idleCounting state (now (octets .entry)) (now (marks .entry)) (now (totals .entry)) place n ⌝ }
 {

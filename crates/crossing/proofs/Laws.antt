@@ -44,7 +44,7 @@ use Rattle.log.proofs.Searches.{slot-stands}
 use Rattle.log.proofs.Calls.{good-log, read-used}
 use Rattle.logging.specs.Records.{recordAt, recordOfReading}
 use Rattle.logging.proofs.Readings.{reading-sound}
-use Rattle.crossing.specs.Records.{each, lowAt, countersOf, timersOf, stateOf, stateNumbers, partWithin, recordNamed}
+use Rattle.crossing.specs.Records.{atPlaces, lowAt, countersOf, timersOf, stateOf, stateNumbers, partWithin, recordNamed}
 use Rattle.crossing.specs.Records.{answerKind, readingNumbers, whyKind, explainNumbers}
 use Rattle.crossing.specs.Given.{recordLeft}
 use Rattle.crossing.specs.Bands.{sizesOf, sizesNumbers}
@@ -58,18 +58,18 @@ part-is os at len =
 
 -- ---- the values of a function at places in a row
 
-each-same : {A : Type 0} (f g : ℕ → A) → ((i : ℕ) → f i ≡ g i) → (at n : ℕ) → each f at n ≡ each g at n
-unfolding each
+each-same : {A : Type 0} (f g : ℕ → A) → ((i : ℕ) → f i ≡ g i) → (at n : ℕ) → atPlaces f at n ≡ atPlaces g at n
+unfolding atPlaces
 each-same f g h at zero = refl
 each-same f g h at (suc n) = ap₂ _∷_ (h at) (each-same f g h (at + 1) n)
 
-each-later : {A : Type 0} (f : ℕ → A) (at n : ℕ) → each f (at + 1) n ≡ each (λ (i : ℕ). f (i + 1)) at n
-unfolding each
+each-later : {A : Type 0} (f : ℕ → A) (at n : ℕ) → atPlaces f (at + 1) n ≡ atPlaces (λ (i : ℕ). f (i + 1)) at n
+unfolding atPlaces
 each-later f at zero = refl
 each-later f at (suc n) = ap (λ (l : List _). f (at + 1) ∷ l) (each-later f (at + 1) n)
 
-each-all : {A : Type 0} (d : A) (l : List A) → each (λ (i : ℕ). getD l i d) 0 (length l) ≡ l
-unfolding each
+each-all : {A : Type 0} (d : A) (l : List A) → atPlaces (λ (i : ℕ). getD l i d) 0 (length l) ≡ l
+unfolding atPlaces
 each-all d [] = refl
 each-all d (x ∷ xs) =
     ap (λ (l : List _). x ∷ l)
@@ -81,7 +81,7 @@ each-all d (x ∷ xs) =
 
 pub state-crosses : (st : State) → length (st .counters) ≡ 11 → length (st .timers) ≡ 8
     → ((i : ℕ) → timer (st .timers) i .0 % 4294967296 ≡ timer (st .timers) i .0) → stateOf (stateNumbers st) ≡ st
-unfolding stateOf countersOf timersOf stateNumbers each lowAt timer
+unfolding stateOf countersOf timersOf stateNumbers atPlaces lowAt timer
 state-crosses st eleven eight timers =
     let cs : countersOf (stateNumbers st) ≡ st .counters = rw eleven at (each-all 0 (st .counters)) in
     let ts : timersOf (stateNumbers st) ≡ st .timers =
@@ -92,12 +92,12 @@ state-crosses st eleven eight timers =
 
 -- the deficit count crosses whole, to the module and back
 pub deficit-crosses : (l : List ℕ) (st : State) → (stateOf l .deficit ≡ getD l 19 0) × (getD (stateNumbers st) 19 0 ≡ st .deficit)
-unfolding stateOf stateNumbers each
+unfolding stateOf stateNumbers atPlaces
 deficit-crosses l st = (refl, refl)
 
 -- a size table crosses whole, to the module and back
 pub sizes-cross : (l : List ℕ) → length l ≡ 14 → sizesNumbers (sizesOf l) ≡ l
-unfolding sizesOf sizesNumbers each
+unfolding sizesOf sizesNumbers atPlaces
 sizes-cross l fourteen = rw fourteen at (each-all 0 l)
 
 -- ---- records of a log

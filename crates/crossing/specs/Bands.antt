@@ -3,11 +3,11 @@ use Prim.Native.Nat.{ℕ}
 use mathlib.Core.List.{List, _++_}
 use lib.ListN.{getD}
 use Rattle.sizes.specs.declared.SizeTable.{SizeTable}
-use Rattle.crossing.specs.Records.{each}
+use Rattle.crossing.specs.Records.{atPlaces}
 
 -- a count for each of seven bands, of the numbers from `at` on; "every count is read whole"
 abbrev pub countsAt : List ℕ → ℕ → List ℕ
-countsAt l at = each (λ (i : ℕ). getD l i 0) at 7
+countsAt l at = atPlaces (λ (i : ℕ). getD l i 0) at 7
 
 -- a size table, of 14 numbers: the frames of each band, then their octets
 unfoldable pub sizesOf : List ℕ → SizeTable

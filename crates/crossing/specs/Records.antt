@@ -19,8 +19,8 @@ use Rattle.table.specs.Entries.{addressAt}
 use Rattle.receive.specs.declared.Answer.{Answer}
 use Rattle.receive.specs.declared.Answer.the-variants.{Nothing, Open, Counted}
 use Rattle.receive.specs.declared.Reading.{Reading}
-use Rattle.receive.specs.declared.WalkEnd.{WalkEnd}
-use Rattle.receive.specs.Values.{answerOutcome, answerRefusal, answerStatus, answerPart, answerWay, walkedRefusal, walkedStarts, walkedOpen}
+use Rattle.receive.specs.declared.Walking.{Walking}
+use Rattle.receive.specs.Values.{answerOutcome, answerRefusal, answerStatus, answerPart, answerWay, walkRefusal, walkStarts, walkOpen}
 use Rattle.reason.specs.declared.Six.{Six}
 use Rattle.reason.specs.declared.Reason.{Reason}
 use Rattle.reason.specs.declared.Reason.the-variants.{CutAt, ShortRun, WrongOctet, TooShort, TooLong, FcsDiffers}
@@ -42,13 +42,13 @@ use Rattle.writing.specs.declared.Kind.the-variants.{Customer, Service}
 use Rattle.writing.specs.declared.Tag.{Tag}
 use Rattle.writing.specs.declared.Form.{Form}
 use Rattle.writing.specs.declared.Form.the-variants.{ByLength, ByType}
-use Rattle.send.specs.declared.Sent.{Sent}
-use Rattle.send.specs.Sending.{wentRefusal}
+use Rattle.send.specs.declared.Sending.{Sending}
+use Rattle.send.specs.Sending.{sendRefusal}
 
 -- the values of a function at n places from `at` on
-unfoldable pub each : {A : Type 0} → (ℕ → A) → ℕ → ℕ → List A
-each f at zero = []
-each f at (suc n) = f at ∷ each f (at + 1) n
+unfoldable pub atPlaces : {A : Type 0} → (ℕ → A) → ℕ → ℕ → List A
+atPlaces f at zero = []
+atPlaces f at (suc n) = f at ∷ atPlaces f (at + 1) n
 
 -- ---- what crosses to the module
 
@@ -79,10 +79,10 @@ lowAt l i = getD l i 0 % 4294967296
 
 -- a state, of 24 numbers: counters, then timers, then the deficit count; "counters and the deficit count are read whole"
 unfoldable pub countersOf : List ℕ → List ℕ
-countersOf l = each (λ (i : ℕ). getD l i 0) 0 11
+countersOf l = atPlaces (λ (i : ℕ). getD l i 0) 0 11
 
 unfoldable pub timersOf : List ℕ → List Slots
-timersOf l = each (λ (i : ℕ). record { 0 = lowAt l i }) 11 8
+timersOf l = atPlaces (λ (i : ℕ). record { 0 = lowAt l i }) 11 8
 
 unfoldable pub stateOf : List ℕ → State
 stateOf l = record { counters = countersOf l; timers = timersOf l; deficit = getD l 19 0 }
@@ -106,7 +106,7 @@ unfoldable pub countedTag : List ℕ → ℕ → Tag
 countedTag o k = cond (ltb k (getD o 10 0)) (tagAt o (12 + 4 * k)) noTag
 
 unfoldable pub tagsOf : List ℕ → List Tag
-tagsOf o = each (countedTag o) 0 8
+tagsOf o = atPlaces (countedTag o) 0 8
 
 unfoldable pub formOf : List ℕ → Form
 formOf o = cond (eqb (getD o 7 0) 0) ByLength (ByType (lowFirst o 8 2))
@@ -119,7 +119,7 @@ abbrev pub quantaOf : ℕ → Quanta
 quantaOf n = record { 0 = n }
 
 unfoldable pub classesOf : ℕ → List ℕ → Classes
-classesOf named l = record { named = named; quanta = each (λ (i : ℕ). quantaOf (getD l i 0)) 0 8 }
+classesOf named l = record { named = named; quanta = atPlaces (λ (i : ℕ). quantaOf (getD l i 0)) 0 8 }
 
 -- the record of a reading, of its 12 numbers: place, outcome, the number of the address, octets handed out and status word, of each its low bits, as many as
 -- the field has
@@ -131,7 +131,7 @@ recordNamed n =
 
 -- a state as 24 numbers: counters, timers, the deficit count, and zeros for what is kept for later
 unfoldable pub stateNumbers : State → List ℕ
-stateNumbers st = each (λ (i : ℕ). getD (st .counters) i 0) 0 11 ++ (each (λ (i : ℕ). timer (st .timers) i .0) 0 8 ++ (st .deficit ∷ replicate 4 0))
+stateNumbers st = atPlaces (λ (i : ℕ). getD (st .counters) i 0) 0 11 ++ (atPlaces (λ (i : ℕ). timer (st .timers) i .0) 0 8 ++ (st .deficit ∷ replicate 4 0))
 
 -- 0 counted or refused, 1 `none`, 2 `open`
 abbrev pub answerKind : Answer → ℕ
@@ -193,12 +193,12 @@ unfoldable pub explainNumbers : Explained → List ℕ
 explainNumbers e = whyRefusal (e .answer) ∷ whyKind (e .answer) ∷ whyOutcome (e .answer) ∷ e .start ∷ e .next ∷ whyReason (e .answer)
 
 -- a walk, as 4 numbers: refusal, counted Starts, 1 if it ended open, and a zero
-unfoldable pub walkNumbers : WalkEnd → List ℕ
-walkNumbers w = walkedRefusal (w .answer) ∷ walkedStarts (w .answer) ∷ walkedOpen (w .answer) ∷ 0 ∷ []
+unfoldable pub walkNumbers : Walking → List ℕ
+walkNumbers w = walkRefusal (w .answer) ∷ walkStarts (w .answer) ∷ walkOpen (w .answer) ∷ 0 ∷ []
 
 -- a sending call, as 2 numbers: refusal, and the place behind what was written
-unfoldable pub sentNumbers : Sent → List ℕ
-sentNumbers s = wentRefusal (s .answer) ∷ s .place ∷ []
+unfoldable pub sentNumbers : Sending → List ℕ
+sentNumbers s = sendRefusal (s .answer) ∷ s .place ∷ []
 
 -- a walk that keeps its readings, as 4 numbers: refusal, how it ended (0 refused, 1 `none`, 2 `open`, 3 no record unused), the next place, and how many
 -- records were appended

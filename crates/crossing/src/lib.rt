@@ -16,10 +16,10 @@ use reason::Six;
 use reason::Why;
 use receive::Answer;
 use receive::Reading;
-use receive::WalkEnd;
-use receive::Walked;
-use send::Sent;
-use send::Went;
+use receive::WalkAnswer;
+use receive::Walking;
+use send::SendAnswer;
+use send::Sending;
 use sizes::SizeTable;
 use station::Address;
 use station::Checked;
@@ -458,30 +458,30 @@ pub fn explain_numbers(e: Explained) -> [u64; 8]
     }
 }
 
-pub fn walk_numbers(w: WalkEnd) -> [u64; 4]
+pub fn walk_numbers(w: Walking) -> [u64; 4]
     ensures { λ n. ⌜ n ≡ walkNumbers w ⌝ }
 {
     let answer = w.answer;
     match answer {
-        Walked::Refused(x) => {
+        WalkAnswer::Refused(x) => {
             let n = station::refusal_number(x) as u64;
             [n, 0, 0, 0]
         }
-        Walked::Ended(starts, open) => {
+        WalkAnswer::Ended(starts, open) => {
             let n = starts as u64;
             if open { [0, n, 1, 0] } else { [0, n, 0, 0] }
         }
     }
 }
 
-pub fn sent_numbers(s: Sent) -> [u64; 2]
+pub fn sent_numbers(s: Sending) -> [u64; 2]
     ensures { λ n. ⌜ n ≡ sentNumbers s ⌝ }
 {
     let answer = s.answer;
     let place = s.place as u64;
     match answer {
-        Went::Wrote => [0, place],
-        Went::Refused(x) => {
+        SendAnswer::Wrote => [0, place],
+        SendAnswer::Refused(x) => {
             let n = station::refusal_number(x) as u64;
             [n, place]
         }

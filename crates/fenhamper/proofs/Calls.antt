@@ -20,7 +20,7 @@ use Rattle.receive.specs.Reading.{reading}
 use Rattle.receive.specs.Values.{answerRefusal, answerPart}
 use Rattle.jobs.specs.Jobs.{ofJob, screenAnswer}
 use Rattle.jobs.proofs.Screen.{any-state}
-use Rattle.receive.specs.declared.WalkEnd.{WalkEnd}
+use Rattle.receive.specs.declared.Walking.{Walking}
 use Rattle.log.specs.declared.Logged.{Logged}
 use Rattle.log.specs.declared.LogNumber.{LogNumber}
 use Rattle.log.specs.declared.Step.{Step}
@@ -29,8 +29,8 @@ use Rattle.log.specs.Log.{Logging, logging}
 use Rattle.log.specs.Room.{Numbered, numbered}
 use Rattle.logging.specs.declared.LogWalk.{LogWalk}
 use Rattle.logging.specs.Walks.{Keeping, keeping}
-use Rattle.send.specs.declared.Sent.{Sent}
-use Rattle.send.specs.Sending.{Sending, sending}
+use Rattle.send.specs.declared.Sending.{Sending}
+use Rattle.send.specs.Sending.{SendCall, sendCall}
 use Rattle.station.specs.declared.Refusal.{Refusal}
 use Rattle.station.specs.declared.Refusal.the-variants.{BadSettings, BadBuffers, BadPlace, OtherFlow, BadClass, BadType, LongData, NoRoom, Held, ManyTags}
 use Rattle.station.specs.declared.Refusal.the-variants.{BadJob, HoldsTwelve, AllInUse, AlreadyListed, NotListed, HighDeficit, BadTable, WrongTotals, HighTotal}
@@ -57,12 +57,12 @@ unfolding readTold readingNumbers
 read-crosses {a} {st} before {r} f g e =
     ap₂ told f (g ∙ ap (λ (b : List ℕ). stateLeft (getD b 0 0) before (r .state)) f) ∙ ap (readTold before) e
 
-pub walk-crosses : {a st : List ℕ} (before : List ℕ) {w x : WalkEnd} → a ≡ walkNumbers w → st ≡ stateLeft (getD a 0 0) before (w .state) → w ≡ x → told a st ≡ walkTold before x
+pub walk-crosses : {a st : List ℕ} (before : List ℕ) {w x : Walking} → a ≡ walkNumbers w → st ≡ stateLeft (getD a 0 0) before (w .state) → w ≡ x → told a st ≡ walkTold before x
 unfolding walkTold walkNumbers
 walk-crosses {a} {st} before {w} f g e =
     ap₂ told f (g ∙ ap (λ (b : List ℕ). stateLeft (getD b 0 0) before (w .state)) f) ∙ ap (walkTold before) e
 
-pub send-crosses : {a st os ms : List ℕ} (before : List ℕ) {r : Sent} {x : Sending} → a ≡ sentNumbers r → st ≡ stateLeft (getD a 0 0) before (r .state) → sending r os ms ≡ x
+pub send-crosses : {a st os ms : List ℕ} (before : List ℕ) {r : Sending} {x : SendCall} → a ≡ sentNumbers r → st ≡ stateLeft (getD a 0 0) before (r .state) → sendCall r os ms ≡ x
     → wrote a st os ms ≡ sendTold before x
 unfolding sendTold sentNumbers
 send-crosses {a} {st} {os} {ms} before {r} f g e =
@@ -98,7 +98,7 @@ unfolding fillTold
 fill-crosses {n} {ts} f e = ap (λ (k : ℕ). totalsGiven k ts) f ∙ ap fillTold e
 
 -- a call with totals is its tests up to 22 and then the exported call without totals. Refused by these tests:
-module _ (before os ms ts : List ℕ) (st : State) (place : ℕ) (base : Sending) (early : Checked) where
+module _ (before os ms ts : List ℕ) (st : State) (place : ℕ) (base : SendCall) (early : Checked) where
   pub refused-crosses : {a : List ℕ} (x : Refusal) → early ≡ Refused x → a ≡ refusalNumber x ∷ place ∷ []
       → withTotals a before os ms ts ≡ countTold before (countChecked early st os ms place ts base)
   unfolding countTold countChecked sendTold sentNumbers stateLeft
@@ -118,14 +118,14 @@ module _ (before os ms ts : List ℕ) (st : State) (place : ℕ) (base : Sending
       ∙ sym (ap (λ (q : Checked). countTold before (countChecked q st os ms place ts base)) h)
 
 -- what the new count asks for
-pub countable-crossed : {a st′ os ms ts os′ ms′ : List ℕ} {place : ℕ} (before : List ℕ) (base : Sending) → Known os ms place ts → Leaves os place base
+pub countable-crossed : {a st′ os ms ts os′ ms′ : List ℕ} {place : ℕ} (before : List ℕ) (base : SendCall) → Known os ms place ts → Leaves os place base
     → wrote a st′ os′ ms′ ≡ sendTold before base → Countable os′ ms′ (getD a 1 0) ts
 unfolding sendTold sentNumbers
 countable-crossed {a} {st′} {os} {ms} {ts} {os′} {ms′} before base k l e =
     let o : os′ ≡ base .octets = ap (λ (w : Wrote). w .octets) e in
     let m : ms′ ≡ base .marks = ap (λ (w : Wrote). w .marks) e in
     let p : getD a 1 0 ≡ base .given .place = ap (λ (w : Wrote). getD (w .answer) 1 0) e in
-    subst (λ (n : ℕ). Countable os′ ms′ n ts) (sym p) (countable base k l (ap₂ (sending (base .given)) o m))
+    subst (λ (n : ℕ). Countable os′ ms′ n ts) (sym p) (countable base k l (ap₂ (sendCall (base .given)) o m))
 
 -- ---- calls of two jobs
 

@@ -5,15 +5,15 @@ use Rattle.station.specs.Numbers.{checkedNumber}
 use Rattle.table.specs.Calls.{Change}
 use Rattle.receive.specs.declared.Answer.{Answer}
 use Rattle.receive.specs.declared.Reading.{Reading}
-use Rattle.receive.specs.declared.WalkEnd.{WalkEnd}
-use Rattle.receive.specs.Values.{answerRefusal, answerPart, walkedRefusal}
+use Rattle.receive.specs.declared.Walking.{Walking}
+use Rattle.receive.specs.Values.{answerRefusal, answerPart, walkRefusal}
 use Rattle.log.specs.declared.Step.{Step}
 use Rattle.log.specs.Numbers.{loggedRefusal, logReadRefusal}
 use Rattle.log.specs.Log.{Logging}
 use Rattle.log.specs.Room.{Numbered}
 use Rattle.logging.specs.Walks.{Keeping}
 use Rattle.logging.specs.Claims.{endRefusal}
-use Rattle.send.specs.Sending.{Sending, wentRefusal}
+use Rattle.send.specs.Sending.{SendCall, sendRefusal}
 use Rattle.totals.specs.declared.Count.{Count}
 use Rattle.totals.specs.declared.Count.the-variants.{Starts}
 use Rattle.totals.specs.Totals.{Filling, countRefusal}
@@ -43,8 +43,8 @@ told a st = record { answer = a; state = st }
 unfoldable pub readTold : List ℕ → Reading → Told
 readTold before r = told (readingNumbers r) (stateLeft (answerRefusal (r .answer)) before (r .state))
 
-unfoldable pub walkTold : List ℕ → WalkEnd → Told
-walkTold before w = told (walkNumbers w) (stateLeft (walkedRefusal (w .answer)) before (w .state))
+unfoldable pub walkTold : List ℕ → Walking → Told
+walkTold before w = told (walkNumbers w) (stateLeft (walkRefusal (w .answer)) before (w .state))
 
 pub record Wrote : Type 0 where
   pub answer : List ℕ
@@ -56,8 +56,8 @@ abbrev pub wrote : List ℕ → List ℕ → List ℕ → List ℕ → Wrote
 wrote a st os ms = record { answer = a; state = st; octets = os; marks = ms }
 
 -- of a sending call, likewise
-unfoldable pub sendTold : List ℕ → Sending → Wrote
-sendTold before x = wrote (sentNumbers (x .given)) (stateLeft (wentRefusal (x .given .answer)) before (x .given .state)) (x .octets) (x .marks)
+unfoldable pub sendTold : List ℕ → SendCall → Wrote
+sendTold before x = wrote (sentNumbers (x .given)) (stateLeft (sendRefusal (x .given .answer)) before (x .given .state)) (x .octets) (x .marks)
 
 -- ---- what a call over a log leaves: its answer is the refusal's number
 

@@ -25,9 +25,9 @@ use Rattle.log.proofs.Claims.{zero-filled, counted-nil, counted-yes, counted-no
 use Rattle.receive.specs.declared.Answer.{Answer}
 use Rattle.receive.specs.declared.Answer.the-variants.{Counted}
 use Rattle.receive.specs.declared.Reading.{Reading}
-use Rattle.receive.specs.declared.Walked.{Walked}
-use Rattle.receive.specs.declared.Walked.the-variants.{Ended}
-use Rattle.receive.specs.declared.WalkEnd.{WalkEnd}
+use Rattle.receive.specs.declared.WalkAnswer.{WalkAnswer}
+use Rattle.receive.specs.declared.WalkAnswer.the-variants.{Ended}
+use Rattle.receive.specs.declared.Walking.{Walking}
 use Rattle.receive.specs.Values.{isCounted, answerOutcome}
 use Rattle.receive.specs.Reading.{readRefusals, reading}
 use Rattle.receive.specs.Walk.{readingsFrom, walk, walkOf, walked}
@@ -102,15 +102,15 @@ module _ (room : ℕ) where
       stopped (endOf (walkOf n st rs .answer)) (walkOf n st rs .state) (lastNext p rs) (n + length (recordsOf rs)) (filled room (us ++ recordsOf rs))
 
   module _ (n : ℕ) (st : State) (p : ℕ) (us : List Record) (r : Reading) where
-    shown-last : (x : Walked) → walkOf n st (r ∷ []) ≡ record { answer = x; state = r .state } → isCounted (r .answer) ≡ false
+    shown-last : (x : WalkAnswer) → walkOf n st (r ∷ []) ≡ record { answer = x; state = r .state } → isCounted (r .answer) ≡ false
         → shown n st p us (r ∷ []) ≡ stopped (endOf x) (r .state) (r .next) n (filled room us)
     unfolding lastNext
     shown-last x e h =
-        ap₂ (λ (y : WalkEnd) (us′ : List Record). stopped (endOf (y .answer)) (y .state) (r .next) (n + length us′) (filled room (us ++ us′)))
+        ap₂ (λ (y : Walking) (us′ : List Record). stopped (endOf (y .answer)) (y .state) (r .next) (n + length us′) (filled room (us ++ us′)))
         e (records-last r h)
         ∙ ap₂ (λ (k : ℕ) (us′ : List Record). stopped (endOf x) (r .state) (r .next) k (filled room us′)) (let z : n + 0 ≡ n = omega arith in z) (append-nil us)
 
-    last-refused : (x : Refusal) → r .answer ≡ Answer.Refused x → walkOf n st (r ∷ []) ≡ record { answer = Walked.Refused x; state = r .state }
+    last-refused : (x : Refusal) → r .answer ≡ Answer.Refused x → walkOf n st (r ∷ []) ≡ record { answer = WalkAnswer.Refused x; state = r .state }
     unfolding walkOf
     last-refused x e = rw e
 
@@ -132,7 +132,7 @@ module _ (room : ℕ) where
       shown-on =
           let x = recordOfReading r in
           let us′ = recordsOf rs in
-          ap₂ (λ (y : WalkEnd) (us″ : List Record). stopped (endOf (y .answer)) (y .state) (lastNext (r .next) rs) (n + length us″) (filled room (us ++ us″)))
+          ap₂ (λ (y : Walking) (us″ : List Record). stopped (endOf (y .answer)) (y .state) (lastNext (r .next) rs) (n + length us″) (filled room (us ++ us″)))
           walk-on (records-counted r rs o w q v e)
           ∙ ap₂ (λ (k : ℕ) (us″ : List Record).
           stopped (endOf (walkOf (n + 1) (r .state) rs .answer)) (walkOf (n + 1) (r .state) rs .state) (lastNext (r .next) rs) k (filled room us″))
@@ -159,7 +159,7 @@ module _ (room : ℕ) where
     rest = readingsFrom most s job es (r .state) os ms (r .next)
 
     -- a reading that counts no Start is the last
-    kept-last : (n : ℕ) (us : List Record) (x : Walked) → isCounted (r .answer) ≡ false → walkOf n st (r ∷ []) ≡ record { answer = x; state = r .state }
+    kept-last : (n : ℕ) (us : List Record) (x : WalkAnswer) → isCounted (r .answer) ≡ false → walkOf n st (r ∷ []) ≡ record { answer = x; state = r .state }
         → stopped (endOf x) (r .state) (r .next) n (filled room us) ≡ shown n st p us (readingsFrom (suc most) s job es st os ms p)
     kept-last n us x h e = sym (ap (shown n st p us) (readings-stop most s job es st os ms p h) ∙ shown-last n st p us r x e h)
 
@@ -167,7 +167,7 @@ module _ (room : ℕ) where
     unfolding AllFit AllCount
     kept-turn few ih (Answer.Refused x) e n us f c h =
         turn-refused s job es st os ms p n (filled room us) (suc most) (omega arith) r refl x e
-        ∙ kept-last n us (Walked.Refused x) (ap isCounted e) (last-refused n st p us r x e)
+        ∙ kept-last n us (WalkAnswer.Refused x) (ap isCounted e) (last-refused n st p us r x e)
     kept-turn few ih Answer.Nothing e n us f c h =
         turn-none s job es st os ms p n (filled room us) (suc most) (omega arith) r refl e
         ∙ kept-last n us (Ended n false) (ap isCounted e) (last-none n st p us r e)

@@ -15,8 +15,8 @@ use Rattle.log.specs.Numbers.{logRefusalNumber, loggedRefusal}
 use Rattle.log.specs.Log.{remaining, appending}
 use Rattle.log.specs.Claims.{zeroLog, appendAll, countedOnes, readBack, filled, IsMultiple, EveryUsed, unusedCount}
 use Rattle.receive.specs.declared.Reading.{Reading}
-use Rattle.receive.specs.declared.Walked.{Walked}
-use Rattle.receive.specs.declared.Walked.the-variants.{Ended}
+use Rattle.receive.specs.declared.WalkAnswer.{WalkAnswer}
+use Rattle.receive.specs.declared.WalkAnswer.the-variants.{Ended}
 use Rattle.receive.specs.Values.{isCounted, answerRefusal}
 use Rattle.receive.specs.Reading.{reading}
 use Rattle.receive.specs.Walk.{readingsFrom, walk, walked}
@@ -36,8 +36,8 @@ lastNext p [] = p
 lastNext p (r ∷ rs) = lastNext (r .next) rs
 
 -- how a walk ends that always found a record: as the walk itself
-abbrev pub endOf : Walked → LogEnd
-endOf (Walked.Refused x) = LogEnd.Refused (ByReading x)
+abbrev pub endOf : WalkAnswer → LogEnd
+endOf (WalkAnswer.Refused x) = LogEnd.Refused (ByReading x)
 endOf (Ended n false) = Nothing
 endOf (Ended n true) = Open
 

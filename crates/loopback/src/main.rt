@@ -1,8 +1,8 @@
 // What is sent is read back from behind damaged symbols (demand 3). Each frame of a capture is written by the sending calls,
 // and the readings from place 0 and the walk are printed; tools/oracle/loopback.py works the expected lines out from the oracle's model.
 use receive::Answer;
-use receive::Walked;
-use send::Sent;
+use receive::WalkAnswer;
+use send::Sending;
 use station::Address;
 use station::Flow;
 use station::Part;
@@ -164,11 +164,11 @@ fn walk_line(name: &[u8], octets: &[u8], marks: &[u8]) {
     io::write_all(1, b":");
     let a = end.answer;
     match a {
-        Walked::Refused(x) => {
+        WalkAnswer::Refused(x) => {
             let k = station::refusal_number(x);
             number(b"walk refused", k as usize);
         }
-        Walked::Ended(n, open) => {
+        WalkAnswer::Ended(n, open) => {
             number(b"walk", n);
             number(b"open", open as usize);
         }
@@ -279,7 +279,7 @@ fn open_behind() {
 }
 
 // A frame from station 1 on the four-lane port, from where the one before ended and with the state that it left.
-fn on_lanes(o: &mut [u8], m: &mut [u8], before: Sent, d: &[u8]) -> Sent {
+fn on_lanes(o: &mut [u8], m: &mut [u8], before: Sending, d: &[u8]) -> Sending {
     let c = client(0, Form::ByLength);
     send::send_client(
         settings(1),

@@ -32,13 +32,13 @@ use Rattle.receive.proofs.Walks.{through, walk-through}
 use Rattle.mac.proofs.Walk.{OpenLast, open-last}
 
 -- the client data of a run that is handed out, as a list of none or one; `own` is what a job has of the table
-unfoldable pub clientOf : Settings → List (Option Address) → AfterStart → List (List ℕ)
-clientOf s own unended = []
-clientOf s own (ended run by) = byOutcome (outcome s own run by) [] [] [] [] (clientData (s .checking) (frameOf run) ∷ [])
+unfoldable pub dataHanded : Settings → List (Option Address) → AfterStart → List (List ℕ)
+dataHanded s own unended = []
+dataHanded s own (ended run by) = byOutcome (outcome s own run by) [] [] [] [] (clientData (s .checking) (frameOf run) ∷ [])
 
 unfoldable pub clients : Settings → List (Option Address) → List MetStart → List (List ℕ)
 clients s own [] = []
-clients s own (m ∷ ms) = clientOf s own (m .follows) ++ clients s own ms
+clients s own (m ∷ ms) = dataHanded s own (m .follows) ++ clients s own ms
 
 -- each Start stands in the capture with what follows it there
 unfoldable pub Placed : List Symbol → List MetStart → Type 0
@@ -86,8 +86,8 @@ module _ (s : Settings) (job : ℕ) (es : List Entry) (os ms : List ℕ) where
 
   hands-one : (n : ℕ) (st : State) (i : ℕ) (f : AfterStart) (l : List MetStart) → (f ≡ unended → l ≡ []) → f ≡ afterStart (drop (i + 1) c)
       → ((st : State) → handedOut os (through s own st n l) ≡ clients s own l)
-      → handedOut os (through s own st n (record { place = i; follows = f } ∷ l)) ≡ clientOf s own f ++ clients s own l
-  unfolding through handedOut readStart readRun clientOf afterStart clients handedBy
+      → handedOut os (through s own st n (record { place = i; follows = f } ∷ l)) ≡ dataHanded s own f ++ clients s own l
+  unfolding through handedOut readStart readRun dataHanded afterStart clients handedBy
   hands-one n st i unended l last e ih = ap (clients s own) (sym (last refl))
   hands-one n st i (ended r by) l last e ih =
       ap₂ (λ (a b : List (List ℕ)). a ++ b)

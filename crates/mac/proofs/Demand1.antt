@@ -31,13 +31,13 @@ use Rattle.table.specs.declared.Entry.{Entry}
 use Rattle.table.specs.Entries.{mine}
 use Rattle.receive.specs.declared.Reading.{Reading}
 use Rattle.receive.specs.Reading.{readRun, readStart, readFound, readAt, readRefusals, readChecked, reading}
-use Rattle.receive.specs.declared.WalkEnd.{WalkEnd}
-use Rattle.receive.specs.Values.{answerRefusal, walkedRefusal}
+use Rattle.receive.specs.declared.Walking.{Walking}
+use Rattle.receive.specs.Values.{answerRefusal, walkRefusal}
 use Rattle.receive.specs.Walk.{walkOf, walked}
 use Rattle.writing.specs.declared.Client.{Client}
 use Rattle.writing.specs.declared.Classes.{Classes}
 use Rattle.writing.specs.Frames.{clientBody, pauseBody, pfcBody, idleSymbols}
-use Rattle.send.specs.Sending.{wentRefusal, sendChecked, clientRefusals, controlRefusals, idleRefusals, clientChecked, pauseChecked, pfcChecked, idleChecked, frameSending, clientSending, pauseSending, pfcSending, idleSending}
+use Rattle.send.specs.Sending.{sendRefusal, sendChecked, clientRefusals, controlRefusals, idleRefusals, clientChecked, pauseChecked, pfcChecked, idleChecked, frameSending, clientSending, pauseSending, pfcSending, idleSending}
 use Rattle.mac.specs.Demand1.{numbersOf, rowHolds, placeIn, NoneBefore, Exactly, ReadRefused, SendRefused, ReadsOrRefuses, SendsOrRefuses}
 use Rattle.receive.proofs.Walks.{through, walk-through, walked-refused}
 
@@ -193,24 +193,24 @@ reading-refuses s job es st os ms place =
 
 -- the whole walk in one call: refused as a reading at place 0 is, where 3 never holds
 through-none : (s : Settings) (own : List (Option Address)) (n k : ℕ) (st : State) (ms : List MetStart)
-    → walkedRefusal (walkOf k st (through s own st n ms) .answer) ≡ 0
+    → walkRefusal (walkOf k st (through s own st n ms) .answer) ≡ 0
 unfolding walkOf through
 through-none s own n k st [] = refl
 through-none s own n k st (m ∷ ms) = one (m .follows) (λ st′. through-none s own n (k + 1) st′ ms)
   where
-    one : (f : AfterStart) → ((st : State) → walkedRefusal (walkOf (k + 1) st (through s own st n ms) .answer) ≡ 0)
-        → walkedRefusal (walkOf k st (through s own st n (record { place = m .place; follows = f } ∷ ms)) .answer) ≡ 0
+    one : (f : AfterStart) → ((st : State) → walkRefusal (walkOf (k + 1) st (through s own st n ms) .answer) ≡ 0)
+        → walkRefusal (walkOf k st (through s own st n (record { place = m .place; follows = f } ∷ ms)) .answer) ≡ 0
     one unended ih = unfold readStart in refl
     one (ended r by) ih = unfold readStart readRun in ih (readStart s own st (m .place) (ended r by) .state)
 
 walk-number : (s : Settings) (job : ℕ) (es : List Entry) (st : State) (os ms : List ℕ) (k : Checked) → first (readRefusals s job es os ms 0) ≡ k
-    → (walkedRefusal (walked s job es st os ms .answer) ≡ checkedNumber k) × (0 < checkedNumber k → walked s job es st os ms .state ≡ st)
+    → (walkRefusal (walked s job es st os ms .answer) ≡ checkedNumber k) × (0 < checkedNumber k → walked s job es st os ms .state ≡ st)
 unfolding walked
 walk-number s job es st os ms (Refused x) e =
     let r = walked-refused s job es st os ms x e in
-    (ap (λ (w : WalkEnd). walkedRefusal (w .answer)) r, λ h. ap (λ (w : WalkEnd). w .state) r)
+    (ap (λ (w : Walking). walkRefusal (w .answer)) r, λ h. ap (λ (w : Walking). w .state) r)
 walk-number s job es st os ms Fine e = (
-  ap (λ (l : List Reading). walkedRefusal (walkOf 0 st l .answer)) (walk-through s job es os ms e st)
+  ap (λ (l : List Reading). walkRefusal (walkOf 0 st l .answer)) (walk-through s job es os ms e st)
       ∙ through-none s (mine job es) (length (capture os ms)) 0 st (metStarts 0 (capture os ms)),
   λ h. absurd (omega arith),
 )
@@ -220,9 +220,9 @@ unfolding badPlace
 never-3 os = le-ltb (length os) 0 (omega arith)
 
 pub walk-refuses : (s : Settings) (job : ℕ) (es : List Entry) (st : State) (os ms : List ℕ)
-    → Exactly (readRefusals s job es os ms 0) (1 ∷ 14 ∷ 2 ∷ 3 ∷ 20 ∷ []) (walkedRefusal (walked s job es st os ms .answer))
+    → Exactly (readRefusals s job es os ms 0) (1 ∷ 14 ∷ 2 ∷ 3 ∷ 20 ∷ []) (walkRefusal (walked s job es st os ms .answer))
     × (badPlace os 0 ≡ false)
-    × (0 < walkedRefusal (walked s job es st os ms .answer) → walked s job es st os ms .state ≡ st)
+    × (0 < walkRefusal (walked s job es st os ms .answer) → walked s job es st os ms .state ≡ st)
 walk-refuses s job es st os ms =
     let n = walk-number s job es st os ms (first (readRefusals s job es os ms 0)) refl in
     let e = n .0 in (
@@ -234,7 +234,7 @@ walk-refuses s job es st os ms =
 -- ---- the sending calls
 
 send-number : (k : Checked) (st : State) (os ms : List ℕ) (place : ℕ) (new : List Symbol) (count : ℕ)
-    → wentRefusal (sendChecked k st os ms place new count .given .answer) ≡ checkedNumber k
+    → sendRefusal (sendChecked k st os ms place new count .given .answer) ≡ checkedNumber k
 unfolding sendChecked
 send-number (Refused x) st os ms place new count = refl
 send-number Fine st os ms place new count = refl

@@ -28,7 +28,7 @@ use Rattle.writing.specs.Frames.{gap, onLine, clientBody, clientSymbols}
 use Rattle.mac.specs.Demand2.{Readable}
 use Rattle.mac.specs.Demand3.{Frame, Carried, AllCarried, rowSymbols, delivered, allDelivered, alone}
 use Rattle.mac.proofs.Accepted.{accepted, read-back}
-use Rattle.mac.proofs.Clients.{clientOf, clients, walk-hands}
+use Rattle.mac.proofs.Clients.{dataHanded, clients, walk-hands}
 use Rattle.mac.proofs.Seam.{seam, anywhere}
 
 -- after a gap the walk is where it was
@@ -49,7 +49,7 @@ look-gap idles os rest = look-frame os terminate (replicate idles (asControl idl
 module _ (rx : Settings) (own : List (Option Address)) where
   one-line : (at idles : ℕ) (body : List ℕ) (rest : List Symbol)
       → clients rx own (metStarts at (onLine idles body ++ rest))
-      ≡ clientOf rx own (ended (preamble ++ (body ++ fcs body)) terminate) ++ clients rx own (metStarts at rest)
+      ≡ dataHanded rx own (ended (preamble ++ (body ++ fcs body)) terminate) ++ clients rx own (metStarts at rest)
   unfolding onLine clients
   one-line at idles body rest =
       let os : List ℕ = preamble ++ (body ++ fcs body) in
@@ -57,17 +57,17 @@ module _ (rx : Settings) (own : List (Option Address)) where
       ap (λ (l : List Symbol). asControl start ∷ l) (append-assoc (map asData os) (gap idles) rest) in
       ap (λ (l : List Symbol). clients rx own (metStarts at l)) e
       ∙ ap (clients rx own) (met-start at (asControl start) (map asData os ++ (gap idles ++ rest)) (unfold isStart isControl isData asControl in refl))
-      ∙ ap₂ (λ (l : AfterStart) (ms : List MetStart). clientOf rx own l ++ clients rx own ms)
+      ∙ ap₂ (λ (l : AfterStart) (ms : List MetStart). dataHanded rx own l ++ clients rx own ms)
       (look-gap idles os rest)
       (met-data (at + 1) os (gap idles ++ rest) ∙ gap-skipped idles (at + 1 + length os) rest)
-      ∙ ap (λ (t : List (List ℕ)). clientOf rx own (ended os terminate) ++ t) (anywhere rx own _ at rest)
+      ∙ ap (λ (t : List (List ℕ)). dataHanded rx own (ended os terminate) ++ t) (anywhere rx own _ at rest)
 
   module _ (tx : Settings) (checks : rx .checking ≡ true) where
     -- one client frame: its data
     one-frame : (at : ℕ) (f : Frame) → Carried tx rx own f → (rest : List Symbol)
         → clients rx own (metStarts at (clientSymbols (f .idles) tx (f .client) (f .octets) ++ rest))
         ≡ delivered (f .client .form) (f .octets) ∷ clients rx own (metStarts at rest)
-    unfolding clientSymbols clientOf frameOf preamble
+    unfolding clientSymbols dataHanded frameOf preamble
     one-frame at f w rest =
         let body : List ℕ = clientBody tx (f .client) (f .octets) in
         one-line at (f .idles) body rest

@@ -9,7 +9,7 @@ use Rattle.line.proofs.Overwrite.{overwrite-none}
 use Rattle.station.specs.declared.State.{State}
 use Rattle.station.specs.declared.Checked.{Checked}
 use Rattle.station.specs.declared.Checked.the-variants.{Fine, Refused}
-use Rattle.send.specs.Sending.{Sending, written, sendChecked}
+use Rattle.send.specs.Sending.{SendCall, written, sendChecked}
 use Rattle.counting.specs.Claims.{placeOf, sendingOf, countingOf}
 use Rattle.counting.proofs.Claims.{sent-by, counted-sent}
 use Rattle.mac.specs.Calls.{Call, reads, walks, keeps, takes, sends, counts, writes, Leaves, CallLeaves}
@@ -20,7 +20,7 @@ unfolding sendChecked written octetsOf marksOf
 leaves (Refused x) st os ms p new count = record { octets = sym (overwrite-none os p); marks = sym (overwrite-none ms p); at = omega arith }
 leaves Fine st os ms p new count = record { octets = refl; marks = refl; at = refl }
 
-leaves-by : (r : Checked) (st : State) (os ms : List ℕ) (p : ℕ) (new : List Symbol) (count : ℕ) (x : Sending) → x ≡ sendChecked r st os ms p new count
+leaves-by : (r : Checked) (st : State) (os ms : List ℕ) (p : ℕ) (new : List Symbol) (count : ℕ) (x : SendCall) → x ≡ sendChecked r st os ms p new count
     → Leaves os ms p (written r new) x
 leaves-by r st os ms p new count x e = subst (Leaves os ms p (written r new)) (sym e) (leaves r st os ms p new count)
 

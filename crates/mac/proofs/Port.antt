@@ -26,7 +26,7 @@ use Rattle.writing.specs.Frames.{clientBody, pauseBody, pfcBody, gap, onLine}
 use Rattle.writing.specs.Gaps.{gapAt, gapOn, symbolsOn}
 use Rattle.writing.proofs.GapLaws.{four-lane}
 use Rattle.writing.proofs.Sizes.{line-size}
-use Rattle.send.specs.Sending.{Sending, written, stateSent, sendChecked, clientChecked}
+use Rattle.send.specs.Sending.{SendCall, written, stateSent, sendChecked, clientChecked}
 use Rattle.send.proofs.Refusals.{divisible, deficit-to-3, Framed, passed, passed-control}
 use Rattle.counting.specs.Claims.{Sends, sendsClient, sendsPause, sendsPfc, fillsIdle, placeOf, sendingOf, countingOf, symbolsAsked, countAfter, refusalsOf}
 use Rattle.counting.proofs.Claims.{sent-by, counted-sent, none-refused}
@@ -119,13 +119,13 @@ asked-out st n (sendsPfc s FourLane p k) h = goes-out st n p (pfcBody s k)
 asked-out st n (fillsIdle p m) h = absurd (false≢true h)
 
 out-or-not : (k : Checked) (st : State) (os ms : List ℕ) (c : Sends) → onFourLanes c ≡ true → (k ≡ Fine → (placeOf c % lanes ≡ 0) × (st .deficit ≤ mostDeficit))
-    → (x : Sending) → x ≡ sendChecked k st os ms (placeOf c) (symbolsAsked st c) (countAfter st c)
+    → (x : SendCall) → x ≡ sendChecked k st os ms (placeOf c) (symbolsAsked st c) (countAfter st c)
     → ((written k (symbolsAsked st c) ≡ []) × (x .given .state ≡ st)) ⊎ GoesOut st (placeOf c) (written k (symbolsAsked st c)) (x .given .state)
 unfolding sendChecked written
-out-or-not (Refused y) st os ms c h f x e = inl (refl, ap (λ (z : Sending). z .given .state) e)
+out-or-not (Refused y) st os ms c h f x e = inl (refl, ap (λ (z : SendCall). z .given .state) e)
 out-or-not Fine st os ms c h f x e =
     let w = f refl in
-    inr (subst (λ (z : Sending). GoesOut st (placeOf c) (symbolsAsked st c) (z .given .state)) (sym e) (asked-out st _ c h (w .0) (w .1)))
+    inr (subst (λ (z : SendCall). GoesOut st (placeOf c) (symbolsAsked st c) (z .given .state)) (sym e) (asked-out st _ c h (w .0) (w .1)))
 
 pub frame-on-port : (st : State) (c : Call) → onPort c ≡ true → OutOrNot st c
 unfolding onPort asksSuch writesFrom writes afterCall

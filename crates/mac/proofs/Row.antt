@@ -25,7 +25,7 @@ use Rattle.receive.proofs.Refusals.{fine as refuses-none}
 use Rattle.writing.specs.Frames.{clientBody, clientSymbols}
 use Rattle.writing.specs.Gaps.{gapOn, symbolsOn}
 use borrow.Author.Tests.{le-ltb}
-use Rattle.send.specs.Sending.{Sending, manyTags, sendChecked, frameSending, clientChecked, clientSending}
+use Rattle.send.specs.Sending.{SendCall, manyTags, sendChecked, frameSending, clientChecked, clientSending}
 use Rattle.send.proofs.Refusals.{Passed, passed}
 use Rattle.mac.specs.Demand2.{Readable}
 use Rattle.mac.specs.Demand3.{Frame, rowSymbols, allDelivered, AllWelcome, AllCarried, alone, Asked, frameSent, rowFrames, sendNext, sendRow, rowFrom, NoneRefused, BackToBack, left, framesLeft, before, behind}
@@ -44,19 +44,19 @@ module _ (tx : Settings) where
   abbrev bodyOf : Asked → List ℕ
   bodyOf a = clientBody tx (a .client) (a .octets)
 
-  abbrev symbolsOf : Sending → Asked → List Symbol
+  abbrev symbolsOf : SendCall → Asked → List Symbol
   symbolsOf x a = symbolsOn (a .port) (x .given .state .deficit) (x .given .place) (bodyOf a)
 
-  abbrev countOf : Sending → Asked → ℕ
+  abbrev countOf : SendCall → Asked → ℕ
   countOf x a = gapOn (a .port) (x .given .state .deficit) (x .given .place) (bodyOf a) .count
 
   -- the call
-  next-is : (x : Sending) (a : Asked) → clientChecked tx (x .given .state) (a .port) (x .octets) (x .marks) (x .given .place) (a .client) (a .octets) ≡ Fine
+  next-is : (x : SendCall) (a : Asked) → clientChecked tx (x .given .state) (a .port) (x .octets) (x .marks) (x .given .place) (a .client) (a .octets) ≡ Fine
       → sendNext tx x a ≡ sendChecked Fine (x .given .state) (x .octets) (x .marks) (x .given .place) (symbolsOf x a) (countOf x a)
   unfolding sendNext clientSending frameSending
   next-is x a h = ap (λ (k : Checked). sendChecked k (x .given .state) (x .octets) (x .marks) (x .given .place) (symbolsOf x a) (countOf x a)) h
 
-  pub row : (x : Sending) (asked : List Asked) → length (x .octets) ≡ length (x .marks) → x .given .place ≤ length (x .octets) → NoneRefused tx x asked
+  pub row : (x : SendCall) (asked : List Asked) → length (x .octets) ≡ length (x .marks) → x .given .place ≤ length (x .octets) → NoneRefused tx x asked
       → BackToBack tx x (sendRow tx x asked) (rowFrames tx x asked)
   unfolding sendRow rowFrames frameSent rowSymbols clientSymbols symbolsOn NoneRefused octetsOf marksOf
   row x [] even inside w =
@@ -69,16 +69,16 @@ module _ (tx : Settings) where
   row x (a ∷ asked) even inside w =
       let new : List Symbol = symbolsOf x a in
       let p : ℕ = x .given .place in
-      let y : Sending = sendNext tx x a in
+      let y : SendCall = sendNext tx x a in
       let rest : List Symbol = rowSymbols tx (rowFrames tx y asked) in
       let k = passed tx (x .given .state) (a .port) (x .octets) (x .marks) p (a .client) (a .octets) (w .0) in
       let fits : p + length new ≤ length (x .octets) = k .framed .room in
       let e = next-is x a (w .0) in
       let no = length-octetsOf new in
       let nm = length-marksOf new in
-      let yo : y .octets ≡ overwrite (x .octets) p (octetsOf new) = ap (λ (s : Sending). s .octets) e ∙ (unfold sendChecked in refl) in
-      let ym : y .marks ≡ overwrite (x .marks) p (marksOf new) = ap (λ (s : Sending). s .marks) e ∙ (unfold sendChecked in refl) in
-      let yp : y .given .place ≡ p + length new = ap (λ (s : Sending). s .given .place) e ∙ (unfold sendChecked in refl) in
+      let yo : y .octets ≡ overwrite (x .octets) p (octetsOf new) = ap (λ (s : SendCall). s .octets) e ∙ (unfold sendChecked in refl) in
+      let ym : y .marks ≡ overwrite (x .marks) p (marksOf new) = ap (λ (s : SendCall). s .marks) e ∙ (unfold sendChecked in refl) in
+      let yp : y .given .place ≡ p + length new = ap (λ (s : SendCall). s .given .place) e ∙ (unfold sendChecked in refl) in
       let lo : length (y .octets) ≡ length (x .octets) = ap length yo ∙ length-overwrite (x .octets) p (octetsOf new) (omega arith) in
       let lm : length (y .marks) ≡ length (x .marks) = ap length ym ∙ length-overwrite (x .marks) p (marksOf new) (omega arith) in
       let ih = row y asked (omega arith) (omega arith) (w .1) in
@@ -96,7 +96,7 @@ module _ (tx : Settings) where
 -- ---- read back
 
 -- frames that the sender does not refuse, and that the receiver's settings and own entries welcome
-carried : (tx rx : Settings) (own : List (Option Address)) (x : Sending) (asked : List Asked) → NoneRefused tx x asked
+carried : (tx rx : Settings) (own : List (Option Address)) (x : SendCall) (asked : List Asked) → NoneRefused tx x asked
     → AllWelcome tx rx own (rowFrames tx x asked) → AllCarried tx rx own (rowFrames tx x asked)
 unfolding NoneRefused AllWelcome AllCarried rowFrames frameSent
 carried tx rx own x [] w v = tt
@@ -118,7 +118,7 @@ module _ (tx rx : Settings) (job : ℕ) (es : List Entry) (valid : badSettings r
   abbrev new : List Symbol
   new = rowSymbols tx fs
 
-  abbrev y : Sending
+  abbrev y : SendCall
   y = left tx st os ms place (a ∷ asked)
 
   sender : Passed tx st (a .port) os ms place (a .client) (a .octets)

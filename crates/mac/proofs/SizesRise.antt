@@ -23,7 +23,7 @@ use Rattle.station.specs.Station.{fresh, counterSize, counter, total}
 use Rattle.table.specs.declared.Entry.{Entry}
 use Rattle.table.specs.Entries.{mine}
 use Rattle.outcome.specs.Outcomes.{outcome, frameOf}
-use Rattle.receive.specs.declared.WalkEnd.{WalkEnd}
+use Rattle.receive.specs.declared.Walking.{Walking}
 use Rattle.receive.specs.Reading.{readRefusals}
 use Rattle.receive.specs.Walk.{walk, walked}
 use Rattle.receive.proofs.Walks.{walked-refused}
@@ -117,7 +117,7 @@ module _ (t : SizeTable) (s : Settings) (job : ℕ) (es : List Entry) (st : Stat
   refused x h =
       ap₂ (λ (a b : ℕ). (a + b) % counterSize)
       (ap (λ (r : Added). total (r .sizes .frames)) (add-refused s job es os ms t x h))
-      (ap (λ (r : WalkEnd). fourCounters (r .state .counters)) (sym (walked-refused s job es st os ms x h)))
+      (ap (λ (r : Walking). fourCounters (r .state .counters)) (sym (walked-refused s job es st os ms x h)))
 
   fine : first (readRefusals s job es os ms 0) ≡ Fine → Rises
   unfolding fourCounters fourWith

@@ -24,7 +24,7 @@ use Rattle.table.specs.declared.Entry.{Entry}
 use Rattle.table.specs.Entries.{mine}
 use Rattle.outcome.specs.Outcomes.{outcome}
 use Rattle.receive.specs.declared.Reading.{Reading}
-use Rattle.receive.specs.declared.WalkEnd.{WalkEnd}
+use Rattle.receive.specs.declared.Walking.{Walking}
 use Rattle.receive.specs.Reading.{stateAfter, readRun, readStart, readFound, readAt, readRefusals, readChecked, reading}
 use Rattle.receive.specs.Walk.{walkOf, walked}
 use Rattle.receive.proofs.Walks.{through, metFrom, walked-from, walked-refused}
@@ -36,7 +36,7 @@ use Rattle.logging.specs.declared.KeepChecked.{KeepChecked}
 use Rattle.logging.specs.Records.{recordOfReading}
 use Rattle.logging.specs.Walks.{Keeping, keepFrom, keepRefusals, walkLogged}
 use Rattle.logging.proofs.Turns.{turn-refused, turn-none, turn-open, by-appending, walk-refused, walk-fine}
-use Rattle.send.specs.Sending.{Sending, written, sendChecked}
+use Rattle.send.specs.Sending.{SendCall, written, sendChecked}
 use Rattle.counting.specs.Claims.{Sends, placeOf, symbolsAsked, countAfter, refusalsOf, allRefusals}
 use Rattle.counting.proofs.Claims.{sent-by, counted-sent, none-refused}
 use Rattle.mac.specs.Calls.{Call, reads, walks, keeps, takes, sends, counts, asksSuch, reader, afterCall, writes, Read, readOf, readsOf, readTold}
@@ -87,10 +87,10 @@ through-state s own k n st (m ∷ l) w = one (m .follows) (w .0) (λ st′. thro
 walk-state : (s : Settings) (job : ℕ) (es : List Entry) (st : State) (os ms : List ℕ) (r : Checked) → first (readRefusals s job es os ms 0) ≡ r
     → walked s job es st os ms .state ≡ afterReads st (readsOf s (mine job es) (unlessRefused r (metStarts 0 (capture os ms))))
 unfolding unlessRefused
-walk-state s job es st os ms (Refused x) e = ap (λ (w : WalkEnd). w .state) (walked-refused s job es st os ms x e) ∙ (unfold afterReads readsOf in refl)
+walk-state s job es st os ms (Refused x) e = ap (λ (w : Walking). w .state) (walked-refused s job es st os ms x e) ∙ (unfold afterReads readsOf in refl)
 walk-state s job es st os ms Fine e =
     let c : List Symbol = capture os ms in
-    sym (ap (λ (w : WalkEnd). w .state) (walked-from s job es st os ms e)) ∙ through-state s (mine job es) 0 (length c) st (metStarts 0 c) (open-last 0 c)
+    sym (ap (λ (w : Walking). w .state) (walked-from s job es st os ms e)) ∙ through-state s (mine job es) 0 (length c) st (metStarts 0 c) (open-last 0 c)
 
 -- ---- a walk that keeps its readings: one Start after the other, as many as it kept
 
@@ -220,7 +220,7 @@ does st (keeps s job es os ms p l) = by-reading (λ _. refl) refl (keep-state s 
 does st (takes s job es at running run x) =
     by-reading (λ _. refl) refl (symbol-state s (mine job es) (reader st at running run) x (first (symbolRefusals s job es at)))
 does st (sends os ms c) =
-    by-sending (first (refusalsOf st os ms c)) os ms c (λ _. refl) refl (λ e. e) refl (ap (λ (x : Sending). x .given .state) (sent-by st os ms c))
+    by-sending (first (refusalsOf st os ms c)) os ms c (λ _. refl) refl (λ e. e) refl (ap (λ (x : SendCall). x .given .state) (sent-by st os ms c))
 does st (counts l c) =
     by-sending (first (allRefusals st l c)) (l .octets) (l .marks) c (λ _. refl) refl (none-refused st l c) refl
-    (ap (λ (x : Sending). x .given .state) (counted-sent st l c))
+    (ap (λ (x : SendCall). x .given .state) (counted-sent st l c))

@@ -26,9 +26,9 @@ use Rattle.station.proofs.Shown.{shown-sum, counter-shown}
 use Rattle.table.specs.declared.Entry.{Entry}
 use Rattle.table.specs.Entries.{mine}
 use Rattle.receive.specs.declared.Reading.{Reading}
-use Rattle.receive.specs.declared.Walked.{Walked}
-use Rattle.receive.specs.declared.Walked.the-variants.{Ended}
-use Rattle.receive.specs.declared.WalkEnd.{WalkEnd}
+use Rattle.receive.specs.declared.WalkAnswer.{WalkAnswer}
+use Rattle.receive.specs.declared.WalkAnswer.the-variants.{Ended}
+use Rattle.receive.specs.declared.Walking.{Walking}
 use Rattle.outcome.specs.Outcomes.{outcome, frameOf}
 use Rattle.receive.specs.Reading.{stateAfter, readRun, readStart}
 use Rattle.receive.specs.Walk.{walk, walkOf, walked}
@@ -106,7 +106,7 @@ ones-ended i r by ms =
     ap (λ (b : Bool). suc (length ms) - oneIf b) (last-ended i r by ms) ∙ (let k = some-last ms in omega arith)
 
 -- what one walk over these Starts leaves: how many were counted, the sum of the counters, and the counter of each outcome
-record Rises (s : Settings) (own : List (Option Address)) (k : ℕ) (st : State) (ms : List MetStart) (w : WalkEnd) : Type 0 where
+record Rises (s : Settings) (own : List (Option Address)) (k : ℕ) (st : State) (ms : List MetStart) (w : Walking) : Type 0 where
   count : w .answer ≡ Ended (k + countedOnes ms) (lastUnended ms)
   sum : total (w .state .counters) % counterSize ≡ (total (st .counters) + countedOnes ms) % counterSize
   each : (o : Outcome) → counter o (w .state .counters) % counterSize ≡ (counter o (st .counters) + startsWith s own o ms) % counterSize

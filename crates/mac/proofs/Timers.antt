@@ -29,9 +29,9 @@ use Rattle.flow.specs.Timers.{slotsOf, quantaAt, timer, setAll, setNamed, timer
 use Rattle.flow.proofs.TimerLaws.{length-lowered, length-timersAfter}
 use Rattle.receive.specs.Reading.{stateAfter}
 use Rattle.writing.specs.declared.Client.{Client}
-use Rattle.send.specs.Sending.{held, written, wentRefusal, stateSent, sendChecked, clientRefusals, clientSending}
+use Rattle.send.specs.Sending.{held, written, sendRefusal, stateSent, sendChecked, clientRefusals, clientSending}
 use Rattle.mac.specs.Demand1.{rowHolds, NoneBefore}
-use Rattle.mac.specs.Calls.{Call, afterCall, afterCalls, writes, allWritten, Read, readBy, names, quantaOf, setBy, setByAll, setsClass, latest, NoneSets}
+use Rattle.mac.specs.Calls.{Call, afterCall, afterCalls, writes, allWritten, Read, readBy, names, quantaOfClass, setBy, setByAll, setsClass, latest, NoneSets}
 use Rattle.mac.proofs.Demand1.{client-refuses}
 use Rattle.mac.proofs.States.{afterReads, Does, by-reading, by-sending, does}
 
@@ -55,8 +55,8 @@ all-set q (t ∷ ts) zero h = refl
 all-set q (t ∷ ts) (suc k) h = all-set q ts k (le-of-suc-le-suc h)
 
 named-set : (m : ℕ) (l : List ℕ) (ts : List Slots) (k : ℕ) → k < length ts
-    → timer (setNamed m l ts) k ≡ latest (cond (names m k) (quantaOf l k ∷ []) []) (timer ts k)
-unfolding timer setNamed names quantaOf latest
+    → timer (setNamed m l ts) k ≡ latest (cond (names m k) (quantaOfClass l k ∷ []) []) (timer ts k)
+unfolding timer setNamed names quantaOfClass latest
 named-set m l [] k h = absurd (not-suc-le-zero h)
 named-set m l (t ∷ ts) zero h = go (eqb (m % 2) 1)
   where
@@ -198,7 +198,7 @@ module _ (s : Settings) (st : State) (port : Port) (os ms : List ℕ) (p : ℕ) 
   row-9 = or-none (held st (c .class))
 
   -- given exactly while the timer of its class is above zero and no refusal that is tested before it holds
-  pub held-exactly : (wentRefusal (clientSending s st port os ms p c d .given .answer) ≡ 9)
+  pub held-exactly : (sendRefusal (clientSending s st port os ms p c d .given .answer) ≡ 9)
       ↔ ((0 < timer (st .timers) (c .class) .0) × NoneBefore (clientRefusals s st port os ms p c d) (1 ∷ 2 ∷ 3 ∷ 19 ∷ 5 ∷ 6 ∷ 10 ∷ 7 ∷ 8 ∷ 9 ∷ []) 9)
   unfolding held
   held-exactly =
@@ -207,18 +207,18 @@ module _ (s : Settings) (st : State) (port : Port) (os ms : List ℕ) (p : ℕ) 
         λ y. x .1 (row-9 ∙ lt-ltb 0 (timer (st .timers) (c .class) .0) (y .0), y .1),
       )
 
-  not-held : timer (st .timers) (c .class) .0 ≡ 0 → wentRefusal (clientSending s st port os ms p c d .given .answer) ≡ 9 → ⊥
+  not-held : timer (st .timers) (c .class) .0 ≡ 0 → sendRefusal (clientSending s st port os ms p c d .given .answer) ≡ 9 → ⊥
   not-held h e = let above = held-exactly .0 e .0 in omega arith
 
 -- "A client frame refused for its timer at t slots isn't refused for it once t more slots are written, if no reading has set that timer meanwhile."
 -- t is its timer in the state `st` of the refusal; the later call may have any settings, port, buffers, place and data.
 pub released : (st : State) (cs : List Call) (s : Settings) (port : Port) (os ms : List ℕ) (p : ℕ) (c : Client) (d : List ℕ) → NoneSets (c .class) st cs
-    → timer (st .timers) (c .class) .0 ≤ length (allWritten st cs) → wentRefusal (clientSending s (afterCalls st cs) port os ms p c d .given .answer) ≡ 9 → ⊥
+    → timer (st .timers) (c .class) .0 ≤ length (allWritten st cs) → sendRefusal (clientSending s (afterCalls st cs) port os ms p c d .given .answer) ≡ 9 → ⊥
 released st cs s port os ms p c d w h = not-held s (afterCalls st cs) port os ms p c d (let e = timer-falls (c .class) st cs w in omega arith)
 
 -- "zero quanta lets the class go at once": after a call that sets it to them, and to nothing else behind
 pub let-go : (st : State) (x : Call) (s : Settings) (port : Port) (os ms : List ℕ) (p : ℕ) (c : Client) (d : List ℕ) → c .class < length (st .timers)
     → (before : List Quanta) → setsClass (c .class) st x ≡ before ++ (record { 0 = 0 } ∷ [])
-    → wentRefusal (clientSending s (afterCall st x) port os ms p c d .given .answer) ≡ 9 → ⊥
+    → sendRefusal (clientSending s (afterCall st x) port os ms p c d .given .answer) ≡ 9 → ⊥
 let-go st x s port os ms p c d eight before h =
     not-held s (afterCall st x) port os ms p c d (timer-set st (c .class) eight x before (record { 0 = 0 }) h)

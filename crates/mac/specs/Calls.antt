@@ -34,7 +34,7 @@ use Rattle.kept.specs.Kept.{frontOf}
 use Rattle.plain.specs.declared.Plain.{Plain}
 use Rattle.plain.specs.Plain.{step}
 use Rattle.logging.specs.Walks.{walkLogged}
-use Rattle.send.specs.Sending.{Sending, written}
+use Rattle.send.specs.Sending.{SendCall, written}
 use Rattle.counting.specs.Claims.{Lent, Sends, placeOf, sendingOf, countingOf, symbolsAsked, refusalsOf, allRefusals}
 
 -- a call that takes a state. The first four read, each with its settings, its job and the address table: a reading, with octets, marks and place; a walk,
@@ -92,7 +92,7 @@ allWritten st (c ∷ cs) = writes st c ++ allWritten (afterCall st c) cs
 
 -- a sending call leaves its buffers with these symbols over them "from the place the caller names on; every other symbol stays", and "gives its own
 -- place plus the number of symbols it wrote"
-pub record Leaves (os ms : List ℕ) (place : ℕ) (new : List Symbol) (x : Sending) : Type 0 where
+pub record Leaves (os ms : List ℕ) (place : ℕ) (new : List Symbol) (x : SendCall) : Type 0 where
   pub octets : x .octets ≡ overwrite os place (octetsOf new)
   pub marks : x .marks ≡ overwrite ms place (marksOf new)
   pub at : x .given .place ≡ place + length new
@@ -164,13 +164,13 @@ names classes zero = eqb (classes % 2) 1
 names classes (suc n) = names (classes / 2) n
 
 -- the quanta of class n in a list of two octets each
-unfoldable pub quantaOf : List ℕ → ℕ → Quanta
-quantaOf l zero = quantaAt l 0
-quantaOf l (suc n) = quantaOf (drop 2 l) n
+unfoldable pub quantaOfClass : List ℕ → ℕ → Quanta
+quantaOfClass l zero = quantaAt l 0
+quantaOfClass l (suc n) = quantaOfClass (drop 2 l) n
 
 -- by a frame `f` with this outcome: once, or not at all
 unfoldable pub setBy : Outcome → List ℕ → ℕ → List Quanta
-setBy o f class = byOutcome o [] (quantaAt f 16 ∷ []) (cond (names (getD f 17 0) class) (quantaOf (drop 18 f) class ∷ []) []) [] []
+setBy o f class = byOutcome o [] (quantaAt f 16 ∷ []) (cond (names (getD f 17 0) class) (quantaOfClass (drop 18 f) class ∷ []) []) [] []
 
 -- by what is read, time after time in order; and by a call: "only set by reading"
 unfoldable pub setByAll : ℕ → List Read → List Quanta

@@ -12,7 +12,7 @@ use Rattle.station.specs.Numbers.{checkedNumber}
 use Rattle.receive.specs.declared.Reading.{Reading}
 use Rattle.receive.specs.Reading.{emptyPart}
 use Rattle.receive.specs.Values.{answerRefusal, answerStatus, answerPart}
-use Rattle.send.specs.Sending.{Sending, wentRefusal}
+use Rattle.send.specs.Sending.{SendCall, sendRefusal}
 
 -- the numbers of the refusals that a table can give, in the order in which they are tried
 unfoldable pub numbersOf : Table Checked → List ℕ
@@ -50,7 +50,7 @@ pub record ReadRefused (st : State) (place : ℕ) (r : Reading) : Type 0 where
   pub state : r .state ≡ st
 
 -- "… and untouched buffers."
-pub record SendRefused (st : State) (os ms : List ℕ) (place : ℕ) (x : Sending) : Type 0 where
+pub record SendRefused (st : State) (os ms : List ℕ) (place : ℕ) (x : SendCall) : Type 0 where
   pub at : x .given .place ≡ place
   pub state : x .given .state ≡ st
   pub octets : x .octets ≡ os
@@ -61,6 +61,6 @@ pub record ReadsOrRefuses (rows : Table Checked) (numbers : List ℕ) (st : Stat
   pub exactly : Exactly rows numbers (answerRefusal (r .answer))
   pub refused : 0 < answerRefusal (r .answer) → ReadRefused st place r
 
-pub record SendsOrRefuses (rows : Table Checked) (numbers : List ℕ) (st : State) (os ms : List ℕ) (place : ℕ) (x : Sending) : Type 0 where
-  pub exactly : Exactly rows numbers (wentRefusal (x .given .answer))
-  pub refused : 0 < wentRefusal (x .given .answer) → SendRefused st os ms place x
+pub record SendsOrRefuses (rows : Table Checked) (numbers : List ℕ) (st : State) (os ms : List ℕ) (place : ℕ) (x : SendCall) : Type 0 where
+  pub exactly : Exactly rows numbers (sendRefusal (x .given .answer))
+  pub refused : 0 < sendRefusal (x .given .answer) → SendRefused st os ms place x

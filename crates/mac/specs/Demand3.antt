@@ -19,10 +19,10 @@ use Rattle.receive.specs.Walk.{walk, handedOut}
 use Rattle.writing.specs.declared.Client.{Client}
 use Rattle.writing.specs.declared.Form.{Form}
 use Rattle.writing.specs.declared.Form.the-variants.{ByLength, ByType}
-use Rattle.send.specs.declared.Went.the-variants.{Wrote}
+use Rattle.send.specs.declared.SendAnswer.the-variants.{Wrote}
 use Rattle.writing.specs.Frames.{padded, clientBody, clientSymbols}
 use Rattle.writing.specs.Gaps.{gapOn}
-use Rattle.send.specs.Sending.{badType, manyTags, longData, Sending, sending, clientChecked, clientSending}
+use Rattle.send.specs.Sending.{badType, manyTags, longData, SendCall, sendCall, clientChecked, clientSending}
 
 -- a client frame, its data, and how many Idles its gap has. Demand 3 asks nothing of their number, so any gap will do that a port gives a frame
 -- (document 02, item 5: "Frames handed to a receiver still come out as demand 3 says").
@@ -90,7 +90,7 @@ pub record Asked : Type 0 where
   pub octets : List ℕ
 
 -- the frame that it puts on the line, with the gap that its port has at its place and deficit count
-unfoldable pub frameSent : Settings → Sending → Asked → Frame
+unfoldable pub frameSent : Settings → SendCall → Asked → Frame
 frameSent tx x a =
     record {
       client = a .client;
@@ -98,24 +98,24 @@ frameSent tx x a =
       idles = gapOn (a .port) (x .given .state .deficit) (x .given .place) (clientBody tx (a .client) (a .octets)) .size - 1;
     }
 
-unfoldable pub sendNext : Settings → Sending → Asked → Sending
+unfoldable pub sendNext : Settings → SendCall → Asked → SendCall
 sendNext tx x a = clientSending tx (x .given .state) (a .port) (x .octets) (x .marks) (x .given .place) (a .client) (a .octets)
 
-unfoldable pub sendRow : Settings → Sending → List Asked → Sending
+unfoldable pub sendRow : Settings → SendCall → List Asked → SendCall
 sendRow tx x [] = x
 sendRow tx x (a ∷ asked) = sendRow tx (sendNext tx x a) asked
 
 -- the frames of a row of calls
-unfoldable pub rowFrames : Settings → Sending → List Asked → List Frame
+unfoldable pub rowFrames : Settings → SendCall → List Asked → List Frame
 rowFrames tx x [] = []
 rowFrames tx x (a ∷ asked) = frameSent tx x a ∷ rowFrames tx (sendNext tx x a) asked
 
 -- where a row starts
-abbrev pub rowFrom : State → List ℕ → List ℕ → ℕ → Sending
-rowFrom st os ms place = sending (record { answer = Wrote; place = place; state = st }) os ms
+abbrev pub rowFrom : State → List ℕ → List ℕ → ℕ → SendCall
+rowFrom st os ms place = sendCall (record { answer = Wrote; place = place; state = st }) os ms
 
 -- no call of the row is refused
-unfoldable pub NoneRefused : Settings → Sending → List Asked → Type 0
+unfoldable pub NoneRefused : Settings → SendCall → List Asked → Type 0
 NoneRefused tx x [] = Unit {0}
 NoneRefused tx x (a ∷ asked) =
     (clientChecked tx (x .given .state) (a .port) (x .octets) (x .marks) (x .given .place) (a .client) (a .octets) ≡ Fine)
@@ -123,14 +123,14 @@ NoneRefused tx x (a ∷ asked) =
 
 -- from x to y the symbols of these frames were written, back to back from the place of x on, and y has the place behind them; they fit, and "every
 -- other symbol stays"
-pub record BackToBack (tx : Settings) (x y : Sending) (fs : List Frame) : Type 0 where
+pub record BackToBack (tx : Settings) (x y : SendCall) (fs : List Frame) : Type 0 where
   pub octets : y .octets ≡ overwrite (x .octets) (x .given .place) (octetsOf (rowSymbols tx fs))
   pub marks : y .marks ≡ overwrite (x .marks) (x .given .place) (marksOf (rowSymbols tx fs))
   pub place : y .given .place ≡ x .given .place + length (rowSymbols tx fs)
   pub room : x .given .place + length (rowSymbols tx fs) ≤ length (x .octets)
 
 -- what a row of calls leaves, from a state, buffers and a place on, and the frames that it puts on the line
-abbrev pub left : Settings → State → List ℕ → List ℕ → ℕ → List Asked → Sending
+abbrev pub left : Settings → State → List ℕ → List ℕ → ℕ → List Asked → SendCall
 left tx st os ms place asked = sendRow tx (rowFrom st os ms place) asked
 
 abbrev pub framesLeft : Settings → State → List ℕ → List ℕ → ℕ → List Asked → List Frame

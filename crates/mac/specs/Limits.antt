@@ -31,19 +31,19 @@ use Rattle.writing.specs.declared.Tag.{Tag}
 use Rattle.writing.specs.declared.Form.the-variants.{ByLength}
 use Rattle.writing.specs.Frames.{clientBody, onLine, pauseSymbols, pfcSymbols}
 use Rattle.writing.specs.Gaps.{symbolsOn}
-use Rattle.send.specs.Sending.{Sending}
+use Rattle.send.specs.Sending.{SendCall}
 use Rattle.mac.specs.Demand3.{Frame, Asked, rowFrames, rowFrom, sendRow}
 
 -- ---- what the cases are about
 
-unfoldable pub station : List ℕ
-station = 0x02 ∷ 0 ∷ 0 ∷ 0 ∷ 0 ∷ 1 ∷ []
+unfoldable pub ownOctets : List ℕ
+ownOctets = 0x02 ∷ 0 ∷ 0 ∷ 0 ∷ 0 ∷ 1 ∷ []
 
 -- "The printing program", its settings, in a flow mode, and with any limit M; it reads as job 0, with a table that nobody holds an entry of
 unfoldable pub limitedTo : ℕ → Flow → Settings
 limitedTo limit mode =
     record {
-      own = record { 0 = station };
+      own = record { 0 = ownOctets };
       broadcast = true;
       promiscuous = false;
       checking = true;
@@ -52,8 +52,8 @@ limitedTo limit mode =
       passing = false;
     }
 
-unfoldable pub settings : Flow → Settings
-settings mode = limitedTo 1518 mode
+unfoldable pub settingsIn : Flow → Settings
+settingsIn mode = limitedTo 1518 mode
 
 abbrev pub nobody : List Entry
 nobody = entriesOf emptyTable
@@ -62,7 +62,7 @@ nobody = entriesOf emptyTable
 unfoldable pub client : Kind → ℕ → Client
 client kind count =
     record {
-      dest = record { 0 = station };
+      dest = record { 0 = ownOctets };
       tags = record { kind = kind; control = 7 } ∷ replicate 7 (record { kind = Customer; control = 7 });
       count = count;
       form = ByLength;
@@ -71,7 +71,7 @@ client kind count =
 
 -- its symbols with a number of data octets on a plain port, and how many they are
 unfoldable pub sentWith : Kind → ℕ → ℕ → List Symbol
-sentWith kind tags n = symbolsOn Plain 0 0 (clientBody (settings Off) (client kind tags) (replicate n 0xA5))
+sentWith kind tags n = symbolsOn Plain 0 0 (clientBody (settingsIn Off) (client kind tags) (replicate n 0xA5))
 
 unfoldable pub symbolsSent : Kind → ℕ → ℕ → ℕ
 symbolsSent kind tags n = length (sentWith kind tags n)
@@ -83,11 +83,11 @@ runWith (suc n) = highFirst 0x88A8 ++ (highFirst 7 ++ runWith n)
 
 -- a frame to the station with a field and a number of data octets, as the FCS covers it
 unfoldable pub bodyWith : ℕ → ℕ → List ℕ
-bodyWith field n = station ++ (station ++ (highFirst field ++ replicate n 0xA5))
+bodyWith field n = ownOctets ++ (ownOctets ++ (highFirst field ++ replicate n 0xA5))
 
 -- a frame to the station with tags, type 0x0800, a number of data octets and four for the FCS
 unfoldable pub taggedWith : ℕ → ℕ → List ℕ
-taggedWith tags n = station ++ (station ++ (runWith tags ++ (highFirst 0x0800 ++ replicate (n + 4) 0xA5)))
+taggedWith tags n = ownOctets ++ (ownOctets ++ (runWith tags ++ (highFirst 0x0800 ++ replicate (n + 4) 0xA5)))
 
 -- a frame with whatever stands in the place of its FCS
 unfoldable pub unchecked : List ℕ → List Symbol
@@ -96,23 +96,23 @@ unchecked f = asControl start ∷ (map asData (preamble ++ f) ++ (asControl term
 -- ---- what they look at
 
 -- an answer's outcome, status word and number of octets handed out
-unfoldable pub told : Answer → List ℕ
-told a = answerOutcome a ∷ answerStatus a ∷ answerPart a .len ∷ []
+unfoldable pub answerSaid : Answer → List ℕ
+answerSaid a = answerOutcome a ∷ answerStatus a ∷ answerPart a .len ∷ []
 
-unfoldable pub reads : Flow → List Symbol → List ℕ
-reads mode c = told (reading (settings mode) 0 nobody fresh (octetsOf c) (marksOf c) 0 .answer)
+unfoldable pub readAs : Flow → List Symbol → List ℕ
+readAs mode c = answerSaid (reading (settingsIn mode) 0 nobody fresh (octetsOf c) (marksOf c) 0 .answer)
 
 -- what is read of it without data
 unfoldable pub readsTagged : Kind → ℕ → List ℕ
-readsTagged kind tags = reads Off (sentWith kind tags 0)
+readsTagged kind tags = readAs Off (sentWith kind tags 0)
 
 -- the outcome alone
 unfoldable pub outcomeRead : List Symbol → ℕ
-outcomeRead c = answerOutcome (reading (settings Off) 0 nobody fresh (octetsOf c) (marksOf c) 0 .answer)
+outcomeRead c = answerOutcome (reading (settingsIn Off) 0 nobody fresh (octetsOf c) (marksOf c) 0 .answer)
 
 -- the outcomes of a walk, 0 where it ended
 unfoldable pub outcomesRead : List Symbol → List ℕ
-outcomesRead c = map (λ (r : Reading). answerOutcome (r .answer)) (walk (settings Off) 0 nobody fresh (octetsOf c) (marksOf c))
+outcomesRead c = map (λ (r : Reading). answerOutcome (r .answer)) (walk (settingsIn Off) 0 nobody fresh (octetsOf c) (marksOf c))
 
 -- behind a number of tags, with a field: of data the rule takes n octets and the 46 of before, and none of their neighbours
 unfoldable pub takes : ℕ → ℕ → ℕ → Bool
@@ -123,15 +123,15 @@ takes tags field n =
 unfoldable pub rowOf : List ℕ → List Asked
 rowOf lengths = map (λ (n : ℕ). record { port = FourLane; client = client Customer 0; octets = replicate (n - 18) 0xA5 }) lengths
 
-abbrev pub roomy : Sending
+abbrev pub roomy : SendCall
 roomy = rowFrom fresh (replicate 400 0) (replicate 400 0) 0
 
 -- the sizes of their gaps, the place behind the last of them, and the deficit count there
 unfoldable pub gapsInRow : List ℕ → List ℕ
-gapsInRow lengths = map (λ (f : Frame). f .idles + 1) (rowFrames (settings Off) roomy (rowOf lengths))
+gapsInRow lengths = map (λ (f : Frame). f .idles + 1) (rowFrames (settingsIn Off) roomy (rowOf lengths))
 
 unfoldable pub afterRow : List ℕ → List ℕ
-afterRow lengths = let x = sendRow (settings Off) roomy (rowOf lengths) in x .given .place ∷ x .given .state .deficit ∷ []
+afterRow lengths = let x = sendRow (settingsIn Off) roomy (rowOf lengths) in x .given .place ∷ x .given .state .deficit ∷ []
 
 -- document 02, item 10: a group address, a table with an entry that a job lists it by, and one whose first n entries a job holds
 unfoldable pub group : ℕ → List ℕ
@@ -146,11 +146,11 @@ heldBy job (suc n) = put n job n (heldBy job n)
 
 -- a frame to it, and of a job's reading of that frame the refusal's number, the outcome's and that of the address that let it in
 unfoldable pub toGroup : ℕ → List Symbol
-toGroup n = onLine plainIdles (group n ++ (station ++ (highFirst 0x0800 ++ replicate 46 0xA5)))
+toGroup n = onLine plainIdles (group n ++ (ownOctets ++ (highFirst 0x0800 ++ replicate 46 0xA5)))
 
 unfoldable pub heard : ℕ → List ℕ → ℕ → List ℕ
 heard job t n =
-    let a = reading (settings Off) job (entriesOf t) fresh (octetsOf (toGroup n)) (marksOf (toGroup n)) 0 .answer in
+    let a = reading (settingsIn Off) job (entriesOf t) fresh (octetsOf (toGroup n)) (marksOf (toGroup n)) 0 .answer in
     answerRefusal a ∷ answerOutcome a ∷ answerWay a ∷ []
 
 -- the refusal of a reading with a limit M, by a job, with a table, of so many octets and marks, at a place
@@ -170,7 +170,7 @@ starred =
     ∷ eqb (symbolsSent Customer 1 0) 88
     -- "field 45 with 46 octets: rule kept, 45 handed out; field 45 with 47: broken"
     ∷ kept 0 45 46
-    ∷ sameOctets (reads Off (onLine plainIdles (bodyWith 45 46))) (11 ∷ 0x400040002D ∷ 45 ∷ [])
+    ∷ sameOctets (readAs Off (onLine plainIdles (bodyWith 45 46))) (11 ∷ 0x400040002D ∷ 45 ∷ [])
     ∷ not (kept 0 45 47)
     ∷ eqb (outcomeRead (onLine plainIdles (bodyWith 45 47))) 6
     -- "field 1500 with 1500: kept; field 1501 with 1501: broken"
@@ -184,8 +184,8 @@ starred =
     -- "Start, Start, Terminate: 1, then 2"
     ∷ sameOctets (outcomesRead (asControl start ∷ asControl start ∷ asControl terminate ∷ [])) (1 ∷ 2 ∷ 0 ∷ [])
     -- "63 octets: 3, FCS not looked at": with a wrong one and with the right one
-    ∷ sameOctets (reads Off (unchecked (bodyWith 46 49))) (3 ∷ 0 ∷ 0 ∷ [])
-    ∷ sameOctets (reads Off (onLine plainIdles (bodyWith 46 45))) (3 ∷ 0 ∷ 0 ∷ [])
+    ∷ sameOctets (readAs Off (unchecked (bodyWith 46 49))) (3 ∷ 0 ∷ 0 ∷ [])
+    ∷ sameOctets (readAs Off (onLine plainIdles (bodyWith 46 45))) (3 ∷ 0 ∷ 0 ∷ [])
     -- "M 1518: untagged 1519 is 4; tagged 1522 isn't": the next rule decides, since no FCS stands there
     ∷ eqb (outcomeRead (unchecked (bodyWith 0x0800 1505))) 4
     ∷ eqb (outcomeRead (unchecked (bodyWith 0x8100 1508))) 5
@@ -193,8 +193,8 @@ starred =
     ∷ eqb (slotsOf (record { 0 = 1 }) .0) 64
     ∷ eqb (slotsOf (record { 0 = 65535 }) .0) 4194240
     -- "pause to the reserved group, 64 octets: status 0x2C0040002E; PFC: 0xA40040002E"
-    ∷ sameOctets (reads Pause (pauseSymbols plainIdles (settings Pause) (record { 0 = 5 }))) (8 ∷ 0x2C0040002E ∷ 0 ∷ [])
-    ∷ sameOctets (reads Pfc (pfcSymbols plainIdles (settings Pfc) (record { named = 0x81; quanta = replicate 8 (record { 0 = 5 }) })))
+    ∷ sameOctets (readAs Pause (pauseSymbols plainIdles (settingsIn Pause) (record { 0 = 5 }))) (8 ∷ 0x2C0040002E ∷ 0 ∷ [])
+    ∷ sameOctets (readAs Pfc (pfcSymbols plainIdles (settingsIn Pfc) (record { named = 0x81; quanta = replicate 8 (record { 0 = 5 }) })))
     (9 ∷ 0xA40040002E ∷ 0 ∷ [])
     -- "unicast, length form, data 0, handed out: 0x4000400000"
     ∷ sameOctets (readsTagged Customer 0) (11 ∷ 0x4000400000 ∷ 0 ∷ [])

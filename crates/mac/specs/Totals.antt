@@ -5,7 +5,7 @@ use mathlib.Core.Path.{_≡_}
 use mathlib.Core.List.{List, [], _∷_}
 use Rattle.station.specs.declared.State.{State}
 use Rattle.station.specs.Numbers.{checkedNumber}
-use Rattle.send.specs.Sending.{wentRefusal}
+use Rattle.send.specs.Sending.{sendRefusal}
 use Rattle.totals.specs.Totals.{beforeRefusals, fillRefusals, beforePlace, filled, countRefusal}
 use Rattle.counting.specs.Claims.{Lent, Sends, sendsClient, sendsPause, sendsPfc, fillsIdle, placeOf, countingOf, allRefusals, RefusedCall}
 use Rattle.mac.specs.Demand1.{Exactly}
@@ -19,8 +19,8 @@ refusesBy (fillsIdle place n) = 2 ∷ 3 ∷ 21 ∷ 22 ∷ 8 ∷ []
 
 -- a sending call, in a state, on a capture and its totals
 pub record CountsOrRefuses (st : State) (l : Lent) (c : Sends) : Type 0 where
-  pub exactly : Exactly (allRefusals st l c) (refusesBy c) (wentRefusal (countingOf st l c .sent .given .answer))
-  pub refused : 0 < wentRefusal (countingOf st l c .sent .given .answer) → RefusedCall st l (placeOf c) (countingOf st l c)
+  pub exactly : Exactly (allRefusals st l c) (refusesBy c) (sendRefusal (countingOf st l c .sent .given .answer))
+  pub refused : 0 < sendRefusal (countingOf st l c .sent .given .answer) → RefusedCall st l (placeOf c) (countingOf st l c)
 
 -- the question, which changes nothing
 abbrev pub AnswersOrRefuses : List ℕ → List ℕ → ℕ → List ℕ → Type 0

@@ -33,7 +33,7 @@ use Rattle.outcome.specs.Status.{status}
 use Rattle.receive.specs.declared.Answer.{Answer}
 use Rattle.receive.specs.declared.Answer.the-variants.{Counted}
 use Rattle.receive.specs.declared.Reading.{Reading}
-use Rattle.receive.specs.declared.Walked.the-variants.{Ended}
+use Rattle.receive.specs.declared.WalkAnswer.the-variants.{Ended}
 use Rattle.receive.specs.Reading.{stateAfter, handedPart, readRun, readStart, readRefusals}
 use Rattle.receive.specs.Walk.{walk, walkOf, walked}
 use Rattle.receive.proofs.Refusals.{own-single, passed}

@@ -8,8 +8,8 @@ use Rattle.table.specs.declared.Entry.{Entry}
 use Rattle.receive.specs.declared.Answer.{Answer}
 use Rattle.receive.specs.declared.Answer.the-variants.{Nothing, Open}
 use Rattle.receive.specs.declared.Reading.{Reading}
-use Rattle.receive.specs.declared.Walked.the-variants.{Ended}
-use Rattle.receive.specs.declared.WalkEnd.{WalkEnd}
+use Rattle.receive.specs.declared.WalkAnswer.the-variants.{Ended}
+use Rattle.receive.specs.declared.Walking.{Walking}
 use Rattle.kept.specs.declared.Told.{Told}
 use Rattle.kept.specs.declared.Told.the-variants.{Quiet}
 use Rattle.plain.specs.declared.Plain.{Plain}
@@ -43,7 +43,7 @@ tellingsOf [] = []
 tellingsOf (r ∷ rs) = tellingOf (r .answer) ++ tellingsOf rs
 
 -- "counters and timers … and stop with a run in progress exactly when the walk says `open`": a reader's end as a walk's, with n Starts counted
-unfoldable pub plainEnd : ℕ → Plain → WalkEnd
+unfoldable pub plainEnd : ℕ → Plain → Walking
 plainEnd n p = record { answer = Ended n (p .running); state = p .state }
 
 -- ---- the reader's readings: what it tells at a symbol, as a reading of the Start whose run that symbol ends, and `none` or `open` at the end

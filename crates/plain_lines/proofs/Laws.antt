@@ -28,8 +28,8 @@ use Rattle.plain.specs.declared.Step.{Step}
 use Rattle.plain.specs.Plain.{freshPlain, step}
 use Rattle.plain.specs.Fed.{plainReading, plainLast, plainReadings}
 use Rattle.plain.proofs.Walk.{plain-walks}
-use Rattle.lines.specs.Lines.{programSettings, programTable, fourNumbers, lastLine, linesOf, captureLines, recordOctets, recordMarks, badInput, printed}
-use Rattle.lines.proofs.Records.{octets-more, marks-more, octets-end, marks-end, good-short, good-printed}
+use Rattle.printing.specs.Lines.{programSettings, programTable, fourNumbers, lastLine, linesOf, captureLines, recordOctets, recordMarks, badInput, printed}
+use Rattle.printing.proofs.Records.{octets-more, marks-more, octets-end, marks-end, good-short, good-printed}
 
 -- ---- the symbols of an input's records, from place k on
 

@@ -6,9 +6,9 @@ ghost use mathlib.Core.Bool.{false, cond};
 ghost use Prim.Native.Nat.{_≤_};
 ghost use lib.ListN.{length};
 ghost use Rattle.line.specs.Line.{overwrite};
-ghost use Rattle.lines.specs.Lines.{badInput, printed};
-ghost use Rattle.lines.specs.Parts.{part};
-ghost use Rattle.lines.specs.Shown.{Shown};
+ghost use Rattle.printing.specs.Lines.{badInput, printed};
+ghost use Rattle.printing.specs.Parts.{part};
+ghost use Rattle.printing.specs.Shown.{Shown};
 
 // What the last line says of a run in progress.
 fn open_number(running: bool) -> u64
@@ -23,7 +23,7 @@ fn show_steps(input: &[u8], from: usize, out: &mut [u8]) -> usize
     ensures { λ r. ⌜ Shown from (now (out .entry)) 0 (printed (now (input .entry))) r (now (out .exit)) ⌝ }
     ensures { λ r. ⌜ r ≤ 2752680 ⌝ }
 {
-    let s = lines::settings();
+    let s = printing::settings();
     let none = table::empty();
     let mut p = plain::fresh(station::fresh_state());
     let mut n: u64 = 0;
@@ -34,10 +34,10 @@ fn show_steps(input: &[u8], from: usize, out: &mut [u8]) -> usize
         let step = plain::take_symbol(s, 0, &none, p, input[k + 1], input[k]);
         let told = step.told;
         match told {
-            Told::Refused(_) => return lines::show_last(out, from, at, n, 0),
+            Told::Refused(_) => return printing::show_last(out, from, at, n, 0),
             Told::Quiet => {}
             Told::Counted(o, word, part, _way) => {
-                at = lines::show_counted(out, from, at, run.start as usize, o, word, part.len);
+                at = printing::show_counted(out, from, at, run.start as usize, o, word, part.len);
                 n += 1;
             }
         }
@@ -45,7 +45,7 @@ fn show_steps(input: &[u8], from: usize, out: &mut [u8]) -> usize
         k += 2;
     }
     let opened = open_number(p.running);
-    lines::show_last(out, from, at, n, opened)
+    printing::show_last(out, from, at, n, opened)
 }
 
 // A part of the output of any input, and how long that output is.
@@ -53,8 +53,8 @@ fn show_plain(input: &[u8], from: usize, out: &mut [u8]) -> usize
     ensures { λ r. ⌜ Shown from (now (out .entry)) 0 (printed (now (input .entry))) r (now (out .exit)) ⌝ }
     ensures { λ r. ⌜ r ≤ 2752680 ⌝ }
 {
-    if lines::bad_input(input) {
-        return lines::show(out, from, 0, b"bad input\n");
+    if printing::bad_input(input) {
+        return printing::show(out, from, 0, b"bad input\n");
     }
     show_steps(input, from, out)
 }
@@ -66,5 +66,5 @@ pub fn print_plain(input: &[u8], from: usize, out: &mut [u8; 131072]) -> usize
     ensures { λ r. ⌜ length (printed (now (input .entry))) ≤ 2752680 ⌝ }
 {
     let total = show_plain(input, from, out);
-    lines::part_length(total, from)
+    printing::part_length(total, from)
 }

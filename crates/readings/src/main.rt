@@ -8,7 +8,7 @@ fn main() {
     let mut from: usize = 0;
     let mut k: usize = 131072;
     while k == 131072 {
-        k = lines::print_lines(&input[..n], from, &mut out);
+        k = printing::print_lines(&input[..n], from, &mut out);
         io::write_all(1, &out[..k]);
         from += k;
     }

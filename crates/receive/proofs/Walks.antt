@@ -26,9 +26,9 @@ use Rattle.station.specs.declared.Checked.the-variants.{Fine, Refused}
 use native.Mathlib.Numerals.{add-one}
 use Rattle.receive.specs.declared.Answer.the-variants.{Nothing, Open}
 use Rattle.receive.specs.declared.Reading.{Reading}
-use Rattle.receive.specs.declared.Walked.{Walked}
-use Rattle.receive.specs.declared.Walked.the-variants.{Ended}
-use Rattle.receive.specs.declared.WalkEnd.{WalkEnd}
+use Rattle.receive.specs.declared.WalkAnswer.{WalkAnswer}
+use Rattle.receive.specs.declared.WalkAnswer.the-variants.{Ended}
+use Rattle.receive.specs.declared.Walking.{Walking}
 use Rattle.table.specs.declared.Entry.{Entry}
 use Rattle.table.specs.Entries.{mine}
 use Rattle.frame.specs.Frame.{wrongFcs}
@@ -165,11 +165,11 @@ module _ (os ms : List ℕ) (p : ℕ) where
         ∙ ap (λ (l : List MetStart). record { place = i; follows = f } ∷ l) (to-the-end os ms same i e h low high)
 
 -- what is left of a walk at place p, with n Starts counted
-abbrev pub left : Settings → List (Option Address) → List ℕ → List ℕ → ℕ → State → ℕ → WalkEnd
+abbrev pub left : Settings → List (Option Address) → List ℕ → List ℕ → ℕ → State → ℕ → Walking
 left s own os ms n st p = walkOf n st (through s own st (length (capture os ms)) (metFrom os ms p))
 
 module _ (s : Settings) (own : List (Option Address)) (os ms : List ℕ) (n : ℕ) (st : State) (p : ℕ) where
-  abbrev over : List MetStart → WalkEnd
+  abbrev over : List MetStart → Walking
   over l = walkOf n st (through s own st (length (capture os ms)) l)
 
   pub turn-none : findStart (capture os ms) p ≡ Found.Nothing → left s own os ms n st p ≡ record { answer = Ended n false; state = st }
@@ -205,7 +205,7 @@ walked-from s job es st os ms fine = sym (ap (walkOf 0 st) (walk-through s job e
 
 -- a walk whose first reading is refused
 pub walked-refused : (s : Settings) (job : ℕ) (es : List Entry) (st : State) (os ms : List ℕ) (x : Refusal) → first (readRefusals s job es os ms 0) ≡ Refused x
-    → walked s job es st os ms ≡ record { answer = Walked.Refused x; state = st }
+    → walked s job es st os ms ≡ record { answer = WalkAnswer.Refused x; state = st }
 unfolding walked walk reading readingsFrom walkOf readChecked
 walked-refused s job es st os ms x e =
     ap (λ (n : ℕ). walkOf 0 st (readingsFrom n s job es st os ms 0)) (add-one (length os))

@@ -5,8 +5,8 @@ use Rattle.station.specs.declared.Part.{Part}
 use Rattle.station.specs.Numbers.{outcomeNumber, refusalNumber}
 use Rattle.receive.specs.declared.Answer.{Answer}
 use Rattle.receive.specs.declared.Answer.the-variants.{Refused, Nothing, Open, Counted}
-use Rattle.receive.specs.declared.Walked.{Walked}
-use Rattle.receive.specs.declared.Walked.the-variants.{Ended}
+use Rattle.receive.specs.declared.WalkAnswer.{WalkAnswer}
+use Rattle.receive.specs.declared.WalkAnswer.the-variants.{Ended}
 use Rattle.receive.specs.Reading.{emptyPart}
 
 -- the outcome's number; 0 for `none`, `open` and a refused reading
@@ -51,15 +51,15 @@ isCounted Open = false
 isCounted (Counted o w p v) = true
 
 -- a walk's refusal, or 0
-abbrev pub walkedRefusal : Walked → ℕ
-walkedRefusal (Walked.Refused x) = refusalNumber x
-walkedRefusal (Ended n b) = 0
+abbrev pub walkRefusal : WalkAnswer → ℕ
+walkRefusal (WalkAnswer.Refused x) = refusalNumber x
+walkRefusal (Ended n b) = 0
 
 -- how a walk ended: "the number of counted Starts", and "1 if the walk ended `open`, else 0"; 0 and 0 for a refused one
-abbrev pub walkedStarts : Walked → ℕ
-walkedStarts (Walked.Refused x) = 0
-walkedStarts (Ended n b) = n
+abbrev pub walkStarts : WalkAnswer → ℕ
+walkStarts (WalkAnswer.Refused x) = 0
+walkStarts (Ended n b) = n
 
-abbrev pub walkedOpen : Walked → ℕ
-walkedOpen (Walked.Refused x) = 0
-walkedOpen (Ended n b) = cond b 1 0
+abbrev pub walkOpen : WalkAnswer → ℕ
+walkOpen (WalkAnswer.Refused x) = 0
+walkOpen (Ended n b) = cond b 1 0

@@ -11,9 +11,9 @@ use Rattle.table.specs.declared.Entry.{Entry}
 use Rattle.receive.specs.declared.Answer.{Answer}
 use Rattle.receive.specs.declared.Answer.the-variants.{Nothing, Open, Counted}
 use Rattle.receive.specs.declared.Reading.{Reading}
-use Rattle.receive.specs.declared.Walked.{Walked}
-use Rattle.receive.specs.declared.Walked.the-variants.{Ended}
-use Rattle.receive.specs.declared.WalkEnd.{WalkEnd}
+use Rattle.receive.specs.declared.WalkAnswer.{WalkAnswer}
+use Rattle.receive.specs.declared.WalkAnswer.the-variants.{Ended}
+use Rattle.receive.specs.declared.Walking.{Walking}
 use Rattle.receive.specs.Reading.{reading, partOf}
 use Rattle.receive.specs.Values.{isCounted}
 
@@ -30,18 +30,18 @@ unfoldable pub walk : Settings → ℕ → List Entry → State → List ℕ →
 walk s job es st os ms = readingsFrom (length os + 1) s job es st os ms 0
 
 -- what readings come to: how many counted a Start, whether the last one was `open`, or its refusal; and the state that they left
-unfoldable pub walkOf : ℕ → State → List Reading → WalkEnd
+unfoldable pub walkOf : ℕ → State → List Reading → Walking
 walkOf n st [] = record { answer = Ended n false; state = st }
 walkOf n st (r ∷ rs) =
     elim (r .answer) [
-      | Answer.Refused x ↦ record { answer = Walked.Refused x; state = r .state }
+      | Answer.Refused x ↦ record { answer = WalkAnswer.Refused x; state = r .state }
       | Nothing ↦ record { answer = Ended n false; state = r .state }
       | Open ↦ record { answer = Ended n true; state = r .state }
       | Counted o w p v ↦ walkOf (n + 1) (r .state) rs
     ]
 
 -- the whole walk in one call
-unfoldable pub walked : Settings → ℕ → List Entry → State → List ℕ → List ℕ → WalkEnd
+unfoldable pub walked : Settings → ℕ → List Entry → State → List ℕ → List ℕ → Walking
 walked s job es st os ms = walkOf 0 st (walk s job es st os ms)
 
 -- what an answer hands out: nothing, or by outcome 11 the octets of its part

@@ -51,14 +51,14 @@ struct Sight {
 }
 
 // What a walk over a whole capture answers; the state stands beside it.
-pub enum Walked {
+pub enum WalkAnswer {
     Refused(Refusal),
     // how many Starts were counted, and whether the walk ended `open`
     Ended(usize, bool),
 }
 
-pub struct WalkEnd {
-    pub answer: Walked,
+pub struct Walking {
+    pub answer: WalkAnswer,
     pub state: State,
 }
 
@@ -238,7 +238,7 @@ fn walk_on(
     state: State,
     octets: &[u8],
     marks: &[u8],
-) -> WalkEnd
+) -> Walking
     requires { ⌜ Lent (now t) × (first (readRefusals s job (entriesOf (now table)) (now octets) (now marks) 0) ≡ Fine) ⌝ }
     ensures { λ r. ⌜ r ≡ walked s job (entriesOf (now (table .entry))) state (now (octets .entry)) (now (marks .entry)) ⌝ }
 {
@@ -251,8 +251,8 @@ fn walk_on(
     let mut at: usize = 0;
     loop {
         let Found::At(start) = line::find_start(octets, marks, at) else {
-            return WalkEnd {
-                answer: Walked::Ended(n, false),
+            return Walking {
+                answer: WalkAnswer::Ended(n, false),
                 state: State {
                     counters,
                     timers,
@@ -262,8 +262,8 @@ fn walk_on(
         };
         let from = start + 1;
         let Found::At(end) = line::find_control(octets, marks, from) else {
-            return WalkEnd {
-                answer: Walked::Ended(n, true),
+            return Walking {
+                answer: WalkAnswer::Ended(n, true),
                 state: State {
                     counters,
                     timers,
@@ -349,13 +349,13 @@ pub fn walk(
     state: State,
     octets: &[u8],
     marks: &[u8],
-) -> WalkEnd
+) -> Walking
     ensures { λ r. ⌜ r ≡ walked s job (entriesOf (now (table .entry))) state (now (octets .entry)) (now (marks .entry)) ⌝ }
 {
     let checked = check_read(s, job, table, octets, marks, 0);
     if let Checked::Refused(x) = checked {
-        return WalkEnd {
-            answer: Walked::Refused(x),
+        return Walking {
+            answer: WalkAnswer::Refused(x),
             state,
         };
     }

@@ -16,32 +16,32 @@ use Rattle.writing.specs.Frames.{onLine}
 use Rattle.writing.specs.Gaps.{gapOn, symbolsOn}
 use Rattle.writing.specs.Pieces.{Laid}
 use Rattle.writing.proofs.GapLaws.{some-gap}
-use Rattle.send.specs.declared.Sent.{Sent}
-use Rattle.send.specs.Sending.{sending, stateSent, refusedAt, wroteUpTo, sendChecked, frameSending}
+use Rattle.send.specs.declared.Sending.{Sending}
+use Rattle.send.specs.Sending.{sendCall, stateSent, refusedAt, wroteUpTo, sendChecked, frameSending}
 
 module _ (k : Checked) (st : State) (os ms : List ℕ) (place : ℕ) (new : List Symbol) (count : ℕ) where
-  pub call-refused : {r : Sent} (x : Refusal) → k ≡ Refused x → r ≡ refusedAt x place st → sending r os ms ≡ sendChecked k st os ms place new count
+  pub call-refused : {r : Sending} (x : Refusal) → k ≡ Refused x → r ≡ refusedAt x place st → sendCall r os ms ≡ sendChecked k st os ms place new count
   unfolding sendChecked
-  call-refused x h e = ap (λ (q : Sent). sending q os ms) e ∙ sym (ap (λ (q : Checked). sendChecked q st os ms place new count) h)
+  call-refused x h e = ap (λ (q : Sending). sendCall q os ms) e ∙ sym (ap (λ (q : Checked). sendChecked q st os ms place new count) h)
 
-  pub call-wrote : {next : ℕ} {os′ ms′ : List ℕ} {r : Sent} → k ≡ Fine → Laid os ms place new next os′ ms′
-      → r ≡ wroteUpTo next (stateSent st (next - place) count) → sending r os′ ms′ ≡ sendChecked k st os ms place new count
+  pub call-wrote : {next : ℕ} {os′ ms′ : List ℕ} {r : Sending} → k ≡ Fine → Laid os ms place new next os′ ms′
+      → r ≡ wroteUpTo next (stateSent st (next - place) count) → sendCall r os′ ms′ ≡ sendChecked k st os ms place new count
   unfolding sendChecked
   call-wrote {next} {os′} {ms′} h l e =
       let n : next - place ≡ length new = (let g = l .goes in omega arith) in
-      ap (λ (q : Sent). sending q os′ ms′) (e ∙ ap₂ wroteUpTo (l .goes) (ap (λ (m : ℕ). stateSent st m count) n))
-      ∙ ap₂ (λ (a b : List ℕ). sending (wroteUpTo (place + length new) (stateSent st (length new) count)) a b) (l .octets) (l .marks)
+      ap (λ (q : Sending). sendCall q os′ ms′) (e ∙ ap₂ wroteUpTo (l .goes) (ap (λ (m : ℕ). stateSent st m count) n))
+      ∙ ap₂ (λ (a b : List ℕ). sendCall (wroteUpTo (place + length new) (stateSent st (length new) count)) a b) (l .octets) (l .marks)
       ∙ sym (ap (λ (q : Checked). sendChecked q st os ms place new count) h)
 
 -- a frame on a port, of what its FCS covers: `g` is the gap that was reckoned
 module _ (k : Checked) (st : State) (port : Port) (os ms : List ℕ) (place : ℕ) (body : List ℕ) where
-  pub frame-refused : {r : Sent} (x : Refusal) → k ≡ Refused x → r ≡ refusedAt x place st → sending r os ms ≡ frameSending k st port os ms place body
+  pub frame-refused : {r : Sending} (x : Refusal) → k ≡ Refused x → r ≡ refusedAt x place st → sendCall r os ms ≡ frameSending k st port os ms place body
   unfolding frameSending
   frame-refused x h e = call-refused k st os ms place _ _ x h e
 
-  pub frame-wrote : {next : ℕ} {os′ ms′ : List ℕ} {r : Sent} (g : Gap) → g ≡ gapOn port (st .deficit) place body → k ≡ Fine
+  pub frame-wrote : {next : ℕ} {os′ ms′ : List ℕ} {r : Sending} (g : Gap) → g ≡ gapOn port (st .deficit) place body → k ≡ Fine
       → Laid os ms place (onLine (g .size - 1) body) next os′ ms′ → r ≡ wroteUpTo next (stateSent st (next - place) (g .count))
-      → sending r os′ ms′ ≡ frameSending k st port os ms place body
+      → sendCall r os′ ms′ ≡ frameSending k st port os ms place body
   unfolding frameSending symbolsOn
   frame-wrote g same h l e =
       call-wrote k st os ms place (onLine (g .size - 1) body) (g .count) h l e

@@ -23,27 +23,27 @@ use Rattle.writing.specs.declared.Client.{Client}
 use Rattle.writing.specs.declared.Classes.{Classes}
 use Rattle.writing.specs.declared.Form.{Form}
 use Rattle.writing.specs.declared.Form.the-variants.{ByLength, ByType}
-use Rattle.send.specs.declared.Went.{Went}
-use Rattle.send.specs.declared.Went.the-variants.{Wrote}
-use Rattle.send.specs.declared.Sent.{Sent}
+use Rattle.send.specs.declared.SendAnswer.{SendAnswer}
+use Rattle.send.specs.declared.SendAnswer.the-variants.{Wrote}
+use Rattle.send.specs.declared.Sending.{Sending}
 use Rattle.writing.specs.Frames.{clientBody, pauseBody, pfcBody, idleSymbols}
 use Rattle.writing.specs.Gaps.{gapOn, symbolsOn}
 
 -- ---- Sending: what a call gives and leaves, by its refusal and the symbols it would write
 
 -- a call's answer with its place and state, and both lent buffers: a record, so that a promise is one equation
-pub record Sending : Type 0 where
-  pub given : Sent
+pub record SendCall : Type 0 where
+  pub given : Sending
   pub octets : List ℕ
   pub marks : List ℕ
 
-abbrev pub sending : Sent → List ℕ → List ℕ → Sending
-sending r os ms = record { given = r; octets = os; marks = ms }
+abbrev pub sendCall : Sending → List ℕ → List ℕ → SendCall
+sendCall r os ms = record { given = r; octets = os; marks = ms }
 
 -- document 01's number of a refusal, 0 where symbols were written
-abbrev pub wentRefusal : Went → ℕ
-wentRefusal Wrote = 0
-wentRefusal (Went.Refused x) = refusalNumber x
+abbrev pub sendRefusal : SendAnswer → ℕ
+sendRefusal Wrote = 0
+sendRefusal (SendAnswer.Refused x) = refusalNumber x
 
 -- the symbols that a call writes: none where it is refused
 unfoldable pub written : Checked → List Symbol → List Symbol
@@ -56,18 +56,18 @@ unfoldable pub stateSent : State → ℕ → ℕ → State
 stateSent st n count = withDeficit count (withTimers (lowered n (st .timers)) st)
 
 -- what a refused call gives, and one that wrote up to a place and left a state
-abbrev pub refusedAt : Refusal → ℕ → State → Sent
-refusedAt x place st = record { answer = Went.Refused x; place = place; state = st }
+abbrev pub refusedAt : Refusal → ℕ → State → Sending
+refusedAt x place st = record { answer = SendAnswer.Refused x; place = place; state = st }
 
-abbrev pub wroteUpTo : ℕ → State → Sent
+abbrev pub wroteUpTo : ℕ → State → Sending
 wroteUpTo next st = record { answer = Wrote; place = next; state = st }
 
 -- "gives its own place plus the number of symbols it wrote"; "lowers each timer by n"; "from the place the caller names on; every other symbol
 -- stays". "A refusal gives its number, …, the place it was called with …, the old state, and untouched buffers."
-unfoldable pub sendChecked : Checked → State → List ℕ → List ℕ → ℕ → List Symbol → ℕ → Sending
-sendChecked (Refused x) st os ms place new count = sending (refusedAt x place st) os ms
+unfoldable pub sendChecked : Checked → State → List ℕ → List ℕ → ℕ → List Symbol → ℕ → SendCall
+sendChecked (Refused x) st os ms place new count = sendCall (refusedAt x place st) os ms
 sendChecked Fine st os ms place new count =
-    sending
+    sendCall
     (wroteUpTo (place + length new) (stateSent st (length new) count))
     (overwrite os place (octetsOf new))
     (overwrite ms place (marksOf new))
@@ -151,20 +151,20 @@ unfoldable pub idleChecked : List ℕ → List ℕ → ℕ → ℕ → Checked
 idleChecked os ms place n = first (idleRefusals os ms place (idleSymbols n))
 
 -- a frame on a port, once its table has answered, of what its FCS covers: its symbols with the gap of the port, and the count after that gap
-unfoldable pub frameSending : Checked → State → Port → List ℕ → List ℕ → ℕ → List ℕ → Sending
+unfoldable pub frameSending : Checked → State → Port → List ℕ → List ℕ → ℕ → List ℕ → SendCall
 frameSending k st port os ms place body =
     sendChecked k st os ms place (symbolsOn port (st .deficit) place body) (gapOn port (st .deficit) place body .count)
 
 -- the four calls, of any port, octets, marks and place
-unfoldable pub clientSending : Settings → State → Port → List ℕ → List ℕ → ℕ → Client → List ℕ → Sending
+unfoldable pub clientSending : Settings → State → Port → List ℕ → List ℕ → ℕ → Client → List ℕ → SendCall
 clientSending s st port os ms place c d = frameSending (clientChecked s st port os ms place c d) st port os ms place (clientBody s c d)
 
-unfoldable pub pauseSending : Settings → State → Port → List ℕ → List ℕ → ℕ → Quanta → Sending
+unfoldable pub pauseSending : Settings → State → Port → List ℕ → List ℕ → ℕ → Quanta → SendCall
 pauseSending s st port os ms place q = frameSending (pauseChecked s port (st .deficit) os ms place q) st port os ms place (pauseBody s q)
 
-unfoldable pub pfcSending : Settings → State → Port → List ℕ → List ℕ → ℕ → Classes → Sending
+unfoldable pub pfcSending : Settings → State → Port → List ℕ → List ℕ → ℕ → Classes → SendCall
 pfcSending s st port os ms place k = frameSending (pfcChecked s port (st .deficit) os ms place k) st port os ms place (pfcBody s k)
 
 -- Idle fill leaves the deficit count: "only frames sent on this port change it"
-unfoldable pub idleSending : State → List ℕ → List ℕ → ℕ → ℕ → Sending
+unfoldable pub idleSending : State → List ℕ → List ℕ → ℕ → ℕ → SendCall
 idleSending st os ms place n = sendChecked (idleChecked os ms place n) st os ms place (idleSymbols n) (st .deficit)

@@ -30,16 +30,16 @@ ghost use Rattle.writing.specs.declared.Classes.{Classes};
 ghost use Rattle.writing.specs.Frames.{clientBody, pauseBody, pfcBody};
 ghost use Rattle.writing.specs.Gaps.{gapAt, gapOn};
 ghost use Rattle.send.specs.Framings.{withGap};
-ghost use Rattle.send.specs.Sending.{refusedAt, wroteUpTo, stateSent, badClass, badType, manyTags, longData, held, clientChecked, controlRefusals, pauseChecked, pfcChecked, idleChecked, sending, clientSending, pauseSending, pfcSending, idleSending};
+ghost use Rattle.send.specs.Sending.{refusedAt, wroteUpTo, stateSent, badClass, badType, manyTags, longData, held, clientChecked, controlRefusals, pauseChecked, pfcChecked, idleChecked, sendCall, clientSending, pauseSending, pfcSending, idleSending};
 
 // What a sending call answers; the place and the state stand beside it.
-pub enum Went {
+pub enum SendAnswer {
     Wrote,
     Refused(Refusal),
 }
 
-pub struct Sent {
-    pub answer: Went,
+pub struct Sending {
+    pub answer: SendAnswer,
     // the place after what was written; of a refusal the place of the call
     pub place: usize,
     pub state: State,
@@ -302,24 +302,24 @@ fn state_sent(state: State, n: usize, deficit: u64) -> State
 }
 
 // A call that was refused: the place and the state are those of the call.
-fn refused(x: Refusal, place: usize, state: State) -> Sent
+fn refused(x: Refusal, place: usize, state: State) -> Sending
     ensures { λ r. ⌜ r ≡ refusedAt x place state ⌝ }
 {
-    Sent {
-        answer: Went::Refused(x),
+    Sending {
+        answer: SendAnswer::Refused(x),
         place,
         state,
     }
 }
 
 // A call that wrote from `place` up to `next`, after which the deficit count is this one.
-fn wrote(state: State, place: usize, next: usize, deficit: u64) -> Sent
+fn wrote(state: State, place: usize, next: usize, deficit: u64) -> Sending
     requires { ⌜ place ≤ next ⌝ }
     ensures { λ r. ⌜ r ≡ wroteUpTo next (stateSent state (next - place) deficit) ⌝ }
 {
     let after = state_sent(state, next - place, deficit);
-    Sent {
-        answer: Went::Wrote,
+    Sending {
+        answer: SendAnswer::Wrote,
         place: next,
         state: after,
     }
@@ -335,8 +335,8 @@ pub fn send_client(
     place: usize,
     client: Client,
     data: &[u8],
-) -> Sent
-    ensures { λ r. ⌜ sending r (now (octets .exit)) (now (marks .exit))
+) -> Sending
+    ensures { λ r. ⌜ sendCall r (now (octets .exit)) (now (marks .exit))
         ≡ clientSending s state port (now (octets .entry)) (now (marks .entry)) place client (now («data» .entry)) ⌝ }
 {
     let checked = check_client(s, state, port, octets, marks, place, client, data);
@@ -358,8 +358,8 @@ pub fn send_pause(
     marks: &mut [u8],
     place: usize,
     quanta: Quanta,
-) -> Sent
-    ensures { λ r. ⌜ sending r (now (octets .exit)) (now (marks .exit))
+) -> Sending
+    ensures { λ r. ⌜ sendCall r (now (octets .exit)) (now (marks .exit))
         ≡ pauseSending s state port (now (octets .entry)) (now (marks .entry)) place quanta ⌝ }
 {
     let checked = check_pause(s, port, state.deficit, octets, marks, place);
@@ -381,8 +381,8 @@ pub fn send_pfc(
     marks: &mut [u8],
     place: usize,
     classes: Classes,
-) -> Sent
-    ensures { λ r. ⌜ sending r (now (octets .exit)) (now (marks .exit))
+) -> Sending
+    ensures { λ r. ⌜ sendCall r (now (octets .exit)) (now (marks .exit))
         ≡ pfcSending s state port (now (octets .entry)) (now (marks .entry)) place classes ⌝ }
 {
     let checked = check_pfc(s, port, state.deficit, octets, marks, place);
@@ -396,8 +396,14 @@ pub fn send_pfc(
 }
 
 // Idle fill: n Idles, whatever the timers say.
-pub fn fill_idle(state: State, octets: &mut [u8], marks: &mut [u8], place: usize, n: usize) -> Sent
-    ensures { λ r. ⌜ sending r (now (octets .exit)) (now (marks .exit))
+pub fn fill_idle(
+    state: State,
+    octets: &mut [u8],
+    marks: &mut [u8],
+    place: usize,
+    n: usize,
+) -> Sending
+    ensures { λ r. ⌜ sendCall r (now (octets .exit)) (now (marks .exit))
         ≡ idleSending state (now (octets .entry)) (now (marks .entry)) place n ⌝ }
 {
     let checked = check_idle(octets, marks, place, n);

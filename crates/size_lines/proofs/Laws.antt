@@ -10,7 +10,7 @@ use lib.Seq.{drop-cons}
 use Rattle.splice.specs.Written.{Put}
 use Rattle.table.specs.Entries.{entriesOf}
 use Rattle.table.specs.Calls.{emptyTable}
-use Rattle.lines.specs.Lines.{programSettings, programTable, badInput, recordOctets, recordMarks}
+use Rattle.printing.specs.Lines.{programSettings, programTable, badInput, recordOctets, recordMarks}
 use Rattle.station.specs.declared.Settings.{Settings}
 use Rattle.sizes.specs.declared.SizeTable.{SizeTable}
 use Rattle.sizes.specs.declared.Added.{Added}

@@ -6,7 +6,7 @@ use mathlib.Core.List.{List, [], _∷_, _++_}
 use lib.ListN.{getD, replicate}
 use lib.Dec.{eqb, ltb, leb}
 use Rattle.line.specs.Table.{_⇒_, _∣_, otherwise, first}
-use Rattle.lines.specs.Lines.{space, newline, programSettings, programJob, programTable, followed, badInput, recordOctets, recordMarks}
+use Rattle.printing.specs.Lines.{space, newline, programSettings, programJob, programTable, followed, badInput, recordOctets, recordMarks}
 use Rattle.sizes.specs.declared.SizeTable.{SizeTable}
 use Rattle.sizes.specs.Sizes.{freshSizes, adding}
 

@@ -1,7 +1,7 @@
 // What the crew's program `size_table` prints (document 02, item 13): the size table of a capture, a line with a bar for each band. Meaning: specs/.
 use line::MOST_RECORDS;
-use lines::put_followed;
-use lines::put_octet;
+use printing::put_followed;
+use printing::put_octet;
 use sizes::SizeTable;
 use splice::fill;
 use splice::put;
@@ -12,7 +12,7 @@ ghost use lib.ListN.{length};
 ghost use Rattle.line.specs.Limits.{mostRecords};
 ghost use Rattle.line.specs.Line.{overwrite};
 ghost use Rattle.splice.specs.Written.{Put};
-ghost use Rattle.lines.specs.Lines.{badInput};
+ghost use Rattle.printing.specs.Lines.{badInput};
 ghost use Rattle.size_lines.specs.Bars.{greater, largest, unit, marks, bandLine, unitLine, lowLines, highLines, tableLines, printedSizes};
 
 // ---- bars
@@ -143,11 +143,11 @@ fn print_good(input: &[u8], out: &mut [u8]) -> usize
     let n = input.len() / 2;
     let mut o = room();
     let mut m = room();
-    lines::split(input, &mut o, &mut m);
+    printing::split(input, &mut o, &mut m);
     let none = table::empty();
     let added = sizes::add_capture(
         sizes::fresh_sizes(),
-        lines::settings(),
+        printing::settings(),
         0,
         &none,
         &o[..n],
@@ -161,7 +161,7 @@ pub fn print_sizes(input: &[u8], out: &mut [u8; 768]) -> usize
     ensures { λ r. ⌜ r ≡ length (printedSizes (now (input .entry))) ⌝ }
     ensures { λ r. ⌜ now (out .exit) ≡ overwrite (now (out .entry)) 0 (printedSizes (now (input .entry))) ⌝ }
 {
-    if lines::bad_input(input) {
+    if printing::bad_input(input) {
         return put(out, 0, b"bad input\n");
     }
     print_good(input, out)

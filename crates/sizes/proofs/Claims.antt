@@ -26,9 +26,9 @@ use Rattle.station.specs.Station.{total, fresh}
 use Rattle.table.specs.declared.Entry.{Entry}
 use Rattle.table.specs.Entries.{mine}
 use Rattle.receive.specs.declared.Reading.{Reading}
-use Rattle.receive.specs.declared.WalkEnd.{WalkEnd}
+use Rattle.receive.specs.declared.Walking.{Walking}
 use Rattle.receive.specs.Reading.{readRun, readStart, readRefusals}
-use Rattle.receive.specs.Values.{walkedRefusal}
+use Rattle.receive.specs.Values.{walkRefusal}
 use Rattle.receive.specs.Walk.{walk, walkOf, walked}
 use Rattle.receive.proofs.Walks.{through, through-ended, through-unended, walk-through, walked-refused}
 use Rattle.sizes.specs.declared.SizeTable.{SizeTable}
@@ -191,15 +191,15 @@ two-halves cs ds = two-parts freshSizes freshSizes cs ds ∙ ap (λ (x : SizeTab
 
 -- a walk whose Starts are read is not refused
 not-refused : (s : Settings) (own : List (Option Address)) (len : ℕ) (ms : List MetStart) (n : ℕ) (st st′ : State)
-    → walkedRefusal (walkOf n st (through s own st′ len ms) .answer) ≡ 0
+    → walkRefusal (walkOf n st (through s own st′ len ms) .answer) ≡ 0
 unfolding walkOf
 not-refused s own len [] n st st′ = unfold through in refl
 not-refused s own len (m ∷ ms) n st st′ = by (m .place) (m .follows) (λ k x. not-refused s own len ms k x x)
   where
     number : List Reading → ℕ
-    number rs = walkedRefusal (walkOf n st rs .answer)
+    number rs = walkRefusal (walkOf n st rs .answer)
 
-    by : (i : ℕ) (f : AfterStart) → ((k : ℕ) (x : State) → walkedRefusal (walkOf k x (through s own x len ms) .answer) ≡ 0)
+    by : (i : ℕ) (f : AfterStart) → ((k : ℕ) (x : State) → walkRefusal (walkOf k x (through s own x len ms) .answer) ≡ 0)
         → number (through s own st′ len (record { place = i; follows = f } ∷ ms)) ≡ 0
     by i unended ih = ap number (through-unended s own st′ len i ms)
     by i (ended r b) ih = ap number (through-ended s own st′ len i r b ms) ∙ (unfold readStart readRun in ih (n + 1) (readStart s own st′ i (ended r b) .state))
@@ -215,19 +215,19 @@ module _ (t : SizeTable) (s : Settings) (job : ℕ) (es : List Entry) (os ms : L
       by (Refused x) g = unfold addChecked in refl
 
   -- it is refused as a walk is, by the same number, whatever the walk's state
-  pub refused-as-a-walk : (st : State) → checkedNumber (adding t s job es os ms .answer) ≡ walkedRefusal (walked s job es st os ms .answer)
+  pub refused-as-a-walk : (st : State) → checkedNumber (adding t s job es os ms .answer) ≡ walkRefusal (walked s job es st os ms .answer)
   refused-as-a-walk st = by (first (readRefusals s job es os ms 0)) refl
     where
       by : (k : Checked) → first (readRefusals s job es os ms 0) ≡ k
-          → checkedNumber (adding t s job es os ms .answer) ≡ walkedRefusal (walked s job es st os ms .answer)
+          → checkedNumber (adding t s job es os ms .answer) ≡ walkRefusal (walked s job es st os ms .answer)
       by (Refused x) h =
           ap (λ (r : Added). checkedNumber (r .answer)) (add-refused s job es os ms t x h)
-          ∙ ap (λ (r : WalkEnd). walkedRefusal (r .answer)) (sym (walked-refused s job es st os ms x h))
+          ∙ ap (λ (r : Walking). walkRefusal (r .answer)) (sym (walked-refused s job es st os ms x h))
       by Fine h =
           ap (λ (r : Added). checkedNumber (r .answer)) (add-fine s job es os ms t h)
           ∙ sym
           (unfold walked in
-          (ap (λ (rs : List Reading). walkedRefusal (walkOf 0 st rs .answer)) (walk-through s job es os ms h st)
+          (ap (λ (rs : List Reading). walkRefusal (walkOf 0 st rs .answer)) (walk-through s job es os ms h st)
           ∙ not-refused s (mine job es) (length (capture os ms)) (metStarts 0 (capture os ms)) 0 st st))
 
 -- ---- all bands together

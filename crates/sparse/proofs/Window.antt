@@ -80,18 +80,18 @@ cut-more s before w at i v bs bw below room fits e cut =
 
 -- ---- octets that are moved, cleared, and those at the end
 
-pub move-more : (before w : List ℕ) (i : ℕ) → length w ≡ length before → i + 1280 < length w → Moved i before w
-    → Moved (i + 1) before (set (set w i (getD w (i + 1280) 0)) (i + 1280) 0)
+pub move-more : (before w : List ℕ) (i : ℕ) → length w ≡ length before → i + 960 < length w → Moved i before w
+    → Moved (i + 1) before (set (set w i (getD w (i + 960) 0)) (i + 960) 0)
 move-more before w i long h m =
-    let v = getD w (i + 1280) 0 in
-    let a : i + 1280 ≡ 1280 + i = omega arith in
-    let same : v ≡ getD (drop 1280 before) i 0 =
-    m .1 (i + 1280) (omega arith) ∙ ap (λ (j : ℕ). getD before j 0) a ∙ sym (getD-drop 1280 before i 0) in
-    let front : take (suc i) (set (set w i v) (i + 1280) 0) ≡ take (suc i) (drop 1280 before) =
-    take-set-le (suc i) (set w i v) (i + 1280) 0 (omega arith) ∙ take-suc-set w i v (omega arith)
-    ∙ ap₂ (λ (l : List ℕ) (x : ℕ). l ++ x ∷ []) (m .0) same ∙ sym (take-suc (drop 1280 before) i 0 (simp length-drop (omega arith))) in
-    let behind : (j : ℕ) → suc i + 1280 ≤ j → getD (set (set w i v) (i + 1280) 0) j 0 ≡ getD before j 0 =
-    λ j l. getD-set-other (set w i v) (i + 1280) j 0 0 (λ p. omega arith) ∙ getD-set-other w i j v 0 (λ p. omega arith) ∙ m .1 j (omega arith) in
+    let v = getD w (i + 960) 0 in
+    let a : i + 960 ≡ 960 + i = omega arith in
+    let same : v ≡ getD (drop 960 before) i 0 =
+    m .1 (i + 960) (omega arith) ∙ ap (λ (j : ℕ). getD before j 0) a ∙ sym (getD-drop 960 before i 0) in
+    let front : take (suc i) (set (set w i v) (i + 960) 0) ≡ take (suc i) (drop 960 before) =
+    take-set-le (suc i) (set w i v) (i + 960) 0 (omega arith) ∙ take-suc-set w i v (omega arith)
+    ∙ ap₂ (λ (l : List ℕ) (x : ℕ). l ++ x ∷ []) (m .0) same ∙ sym (take-suc (drop 960 before) i 0 (simp length-drop (omega arith))) in
+    let behind : (j : ℕ) → suc i + 960 ≤ j → getD (set (set w i v) (i + 960) 0) j 0 ≡ getD before j 0 =
+    λ j l. getD-set-other (set w i v) (i + 960) j 0 0 (λ p. omega arith) ∙ getD-set-other w i j v 0 (λ p. omega arith) ∙ m .1 j (omega arith) in
     rw add-one (front, behind)
 
 pub clear-more : (before w : List ℕ) (at i : ℕ) → at + i < length w → Cleared i at before w → Cleared (i + 1) at before (set w (at + i) 0)
@@ -220,7 +220,7 @@ ended s w last at n fits room front bs bw clear end =
     ∙ joined h t (came-bytes w n bw) (bytes-drop (at + n) s bs) (long ∙ sym left)
 
 -- the last octets taken off, a place behind them cleared, and the end
-pub shortened : (s w w₁ w₂ w₃ : List ℕ) (at n : ℕ) → length s ≡ at + n + 300 → n ≤ 1280 → length w₁ ≡ 1880 → length w₂ ≡ 1880 → length w₃ ≡ 1880
+pub shortened : (s w w₁ w₂ w₃ : List ℕ) (at n : ℕ) → length s ≡ at + n + 300 → n ≤ 960 → length w₁ ≡ 1560 → length w₂ ≡ 1560 → length w₃ ≡ 1560
     → Bytes s → Bytes w₂ → Cut n at s w w₁ → Cleared 300 (n + 300) w₁ w₂ → Ended 300 at n s w₂ w₃
     → crcOver 0 (take 300 w₃) ≡ crcOver (carriedOn (take 300 w)) (drop at s)
 shortened s w w₁ w₂ w₃ at n fits few l₁ l₂ l₃ bs b₂ cut cleared end =
@@ -256,7 +256,7 @@ from-four r h =
     ∙ ap (λ (x : ℕ). r % 256 + x * 256) (apart (r / 0x100)) ∙ apart r
 
 -- the four octets of a register in front: only the last distance takes them up
-pub begun : (w : List ℕ) (r : ℕ) → length w ≡ 1880 → ((j : ℕ) → j < 300 → getD w j 0 ≡ 0) → r < 0x1_0000_0000
+pub begun : (w : List ℕ) (r : ℕ) → length w ≡ 1560 → ((j : ℕ) → j < 300 → getD w j 0 ≡ 0) → r < 0x1_0000_0000
     → carriedOn (take 300 (set (set (set (set w 0 (r % 256)) 1 (r / 0x100 % 256)) 2 (r / 0x1_0000 % 256)) 3 (r / 0x100_0000 % 256))) ≡ r
 begun [] r long none small = omega arith
 begun (a ∷ []) r long none small = omega arith

@@ -24,9 +24,9 @@ carriedOn h = bitXor (word (drop 155 h)) (bitXor (word (drop 117 h)) (bitXor (wo
 abbrev pub Cut : ℕ → ℕ → List ℕ → List ℕ → List ℕ → Type 0
 Cut n at s before w = crcOver (carriedOn (came w n)) (drop (at + n) s) ≡ crcOver (carriedOn (take 300 before)) (drop at s)
 
--- n octets from 1280 on are moved to the front; behind where they stood nothing is changed
+-- n octets from 960 on are moved to the front; behind where they stood nothing is changed
 abbrev pub Moved : ℕ → List ℕ → List ℕ → Type 0
-Moved n before w = (take n w ≡ take n (drop 1280 before)) × ((j : ℕ) → n + 1280 ≤ j → getD w j 0 ≡ getD before j 0)
+Moved n before w = (take n w ≡ take n (drop 960 before)) × ((j : ℕ) → n + 960 ≤ j → getD w j 0 ≡ getD before j 0)
 
 -- n octets from `at` on are 0; before them nothing is changed
 abbrev pub Cleared : ℕ → ℕ → List ℕ → List ℕ → Type 0

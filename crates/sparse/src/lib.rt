@@ -39,7 +39,7 @@ pub fn taken(w: Carry, x: u64) -> Carry
 
 // What comes out of the octet of `s` at `at + i`: it is xored with what came out 145, 183, 211 and 300 octets before it.
 fn out_of(w: &[u8], s: &[u8], at: usize, i: usize) -> u8
-    requires { ⌜ (length (now w) ≡ 1880) × (i < 1580) × (at + i < length (now s)) ⌝ }
+    requires { ⌜ (length (now w) ≡ 1560) × (i < 1260) × (at + i < length (now s)) ⌝ }
     ensures { λ r. ⌜ r ≡ outOf (now (w .entry)) (now (s .entry)) at i ⌝ }
 {
     s[at + i] ^ w[i + 155] ^ w[i + 117] ^ w[i + 89] ^ w[i]
@@ -47,7 +47,7 @@ fn out_of(w: &[u8], s: &[u8], at: usize, i: usize) -> u8
 
 // Writes the register to the front of the window, 300 octets before the message: only the last distance takes it up.
 fn begin(w: &mut [u8], reg: u32)
-    requires { ⌜ (length (now w) ≡ 1880) × ((j : ℕ) → j < 300 → getD (now w) j 0 ≡ 0) ⌝ }
+    requires { ⌜ (length (now w) ≡ 1560) × ((j : ℕ) → j < 300 → getD (now w) j 0 ≡ 0) ⌝ }
     ensures { λ _. ⌜ carriedOn (take 300 (now (w .exit))) ≡ reg ⌝ }
 {
     w[0] = (reg % 256) as u8;
@@ -58,7 +58,7 @@ fn begin(w: &mut [u8], reg: u32)
 
 // Takes off the n octets of `s` at `at`. What came out before them stands in the first 300 places, and what comes out of them is written behind it.
 fn reduce(w: &mut [u8], s: &[u8], at: usize, n: usize)
-    requires { ⌜ (length (now w) ≡ 1880) × (n ≤ 1280) × (at + n + 300 ≤ length (now s)) ⌝ }
+    requires { ⌜ (length (now w) ≡ 1560) × (n ≤ 960) × (at + n + 300 ≤ length (now s)) ⌝ }
     ensures { λ _. ⌜ Cut n at (now (s .entry)) (now (w .entry)) (now (w .exit)) ⌝ }
 {
     let mut i = 0;
@@ -68,16 +68,16 @@ fn reduce(w: &mut [u8], s: &[u8], at: usize, n: usize)
     }
 }
 
-// Moves the 300 octets from 1280 on to the front, and leaves 0 in their place: of a loop that copies alone LLVM makes a call of memcpy, which nothing else
+// Moves the 300 octets from 960 on to the front, and leaves 0 in their place: of a loop that copies alone LLVM makes a call of memcpy, which nothing else
 // needs.
 fn move_down(w: &mut [u8])
-    requires { ⌜ length (now w) ≡ 1880 ⌝ }
+    requires { ⌜ length (now w) ≡ 1560 ⌝ }
     ensures { λ _. ⌜ Moved 300 (now (w .entry)) (now (w .exit)) ⌝ }
 {
     let mut i = 0;
     while i < 300 {
-        w[i] = w[i + 1280];
-        w[i + 1280] = 0;
+        w[i] = w[i + 960];
+        w[i + 960] = 0;
         i += 1;
     }
 }
@@ -96,7 +96,7 @@ fn clear(w: &mut [u8], at: usize)
 
 // Writes the last 300 octets of `s`, xored with what is carried on to them, to the front. They stand behind the n octets at `at`.
 fn finish(w: &mut [u8], s: &[u8], at: usize, n: usize)
-    requires { ⌜ (length (now w) ≡ 1880) × (n ≤ 1280) × (at + n + 300 ≤ length (now s)) ⌝ }
+    requires { ⌜ (length (now w) ≡ 1560) × (n ≤ 960) × (at + n + 300 ≤ length (now s)) ⌝ }
     ensures { λ _. ⌜ Ended 300 at n (now (s .entry)) (now (w .entry)) (now (w .exit)) ⌝ }
 {
     let mut i = 0;
@@ -108,15 +108,15 @@ fn finish(w: &mut [u8], s: &[u8], at: usize, n: usize)
 
 // Shortens `s` to 300 octets at the front of the window, which is 0 before: from register 0 they leave what `s` leaves from `reg`.
 pub fn shorten(w: &mut [u8], reg: u32, s: &[u8])
-    requires { ⌜ (length (now w) ≡ 1880) × ((j : ℕ) → j < 300 → getD (now w) j 0 ≡ 0) × (300 ≤ length (now s)) ⌝ }
+    requires { ⌜ (length (now w) ≡ 1560) × ((j : ℕ) → j < 300 → getD (now w) j 0 ≡ 0) × (300 ≤ length (now s)) ⌝ }
     ensures { λ _. ⌜ crcOver 0 (take 300 (now (w .exit))) ≡ crcOver reg (now (s .entry)) ⌝ }
 {
     begin(w, reg);
     let mut at = 0;
-    while 1580 < s.len() - at {
-        reduce(w, s, at, 1280);
+    while 1260 < s.len() - at {
+        reduce(w, s, at, 960);
         move_down(w);
-        at += 1280;
+        at += 960;
     }
     let n = s.len() - at - 300;
     reduce(w, s, at, n);

@@ -11,7 +11,7 @@ use Rattle.station.specs.declared.Settings.{Settings}
 use Rattle.table.specs.declared.Entry.{Entry}
 use Rattle.table.specs.Entries.{entriesOf}
 use Rattle.table.specs.Calls.{emptyTable}
-use Rattle.lines.specs.Lines.{programSettings, programTable, lastLine, badInput, recordOctets, recordMarks}
+use Rattle.printing.specs.Lines.{programSettings, programTable, lastLine, badInput, recordOctets, recordMarks}
 use Rattle.reason.specs.declared.Reason.{Reason}
 use Rattle.reason.specs.declared.Why.{Why}
 use Rattle.reason.specs.declared.Why.the-variants.{Refused, Nothing, Open, Because}

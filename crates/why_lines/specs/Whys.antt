@@ -7,8 +7,8 @@ use lib.Dec.{eqb}
 use Rattle.line.specs.Line.{idle, start}
 use Rattle.line.specs.Table.{_⇒_, _∣_, otherwise, first}
 use Rattle.station.specs.declared.Settings.{Settings}
-use Rattle.lines.specs.Decimal.{decimal}
-use Rattle.lines.specs.Lines.{space, newline, programSettings, programJob, programTable, followed, lastLine, badInput, recordOctets, recordMarks}
+use Rattle.printing.specs.Decimal.{decimal}
+use Rattle.printing.specs.Lines.{space, newline, programSettings, programJob, programTable, followed, lastLine, badInput, recordOctets, recordMarks}
 use Rattle.reason.specs.declared.Reason.{Reason}
 use Rattle.reason.specs.declared.Reason.the-variants.{CutAt, ShortRun, WrongOctet, TooShort, TooLong, FcsDiffers, LengthBroken, NotForUs, TookPause, TookPfc, DroppedControl, Handed}
 use Rattle.reason.specs.declared.Why.the-variants.{Refused, Nothing, Open, Because}

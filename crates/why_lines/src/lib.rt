@@ -1,10 +1,10 @@
 // What the crew's program `why` prints (document 02, item 8): for each counted Start a line that says why it has its outcome. Meaning: specs/.
 use line::MOST_RECORDS;
-use lines::put_decimal;
-use lines::put_followed;
-use lines::put_octet;
-use lines::show;
-use lines::show_last;
+use printing::put_decimal;
+use printing::put_followed;
+use printing::put_octet;
+use printing::show;
+use printing::show_last;
 use reason::Reason;
 use reason::Six;
 use reason::Why;
@@ -16,9 +16,9 @@ ghost use lib.ListN.{length};
 ghost use Rattle.line.specs.Limits.{mostRecords};
 ghost use Rattle.line.specs.Line.{overwrite};
 ghost use Rattle.splice.specs.Written.{Put};
-ghost use Rattle.lines.specs.Lines.{badInput};
-ghost use Rattle.lines.specs.Parts.{part};
-ghost use Rattle.lines.specs.Shown.{Shown};
+ghost use Rattle.printing.specs.Lines.{badInput};
+ghost use Rattle.printing.specs.Parts.{part};
+ghost use Rattle.printing.specs.Shown.{Shown};
 ghost use Rattle.reason.specs.declared.Reason.the-variants.{CutAt, ShortRun, WrongOctet, FcsDiffers, LengthBroken, NotForUs, Handed};
 ghost use Rattle.why_lines.specs.Hex.{hexDigit, hexOctet, hex16, hex32};
 ghost use Rattle.why_lines.specs.Ended.{openNumber};
@@ -290,7 +290,7 @@ fn show_whys(octets: &[u8], marks: &[u8], from: usize, out: &mut [u8]) -> usize
     ensures { λ r. ⌜ Shown from (now (out .entry)) 0 (captureWhys (now (octets .entry)) (now (marks .entry))) r (now (out .exit)) ⌝ }
     ensures { λ r. ⌜ r ≤ 3145920 ⌝ }
 {
-    let s = lines::settings();
+    let s = printing::settings();
     let none = table::empty();
     let mut place: usize = 0;
     let mut n: u64 = 0;
@@ -329,7 +329,7 @@ fn show_good(input: &[u8], from: usize, out: &mut [u8]) -> usize
     let n = input.len() / 2;
     let mut o = room();
     let mut m = room();
-    lines::split(input, &mut o, &mut m);
+    printing::split(input, &mut o, &mut m);
     show_whys(&o[..n], &m[..n], from, out)
 }
 
@@ -338,7 +338,7 @@ fn show_all(input: &[u8], from: usize, out: &mut [u8]) -> usize
     ensures { λ r. ⌜ Shown from (now (out .entry)) 0 (printedWhys (now (input .entry))) r (now (out .exit)) ⌝ }
     ensures { λ r. ⌜ r ≤ 3145920 ⌝ }
 {
-    if lines::bad_input(input) {
+    if printing::bad_input(input) {
         return show(out, from, 0, b"bad input\n");
     }
     show_good(input, from, out)
@@ -352,5 +352,5 @@ pub fn print_whys(input: &[u8], from: usize, out: &mut [u8; 131072]) -> usize
     ensures { λ r. ⌜ length (printedWhys (now (input .entry))) ≤ 3145920 ⌝ }
 {
     let total = show_all(input, from, out);
-    lines::part_length(total, from)
+    printing::part_length(total, from)
 }

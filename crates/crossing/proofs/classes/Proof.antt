@@ -1,5 +1,5 @@
 -- `crossing::classes` meets its contract. Assumes nothing.
-use Rattle.crossing.specs.Records.{classesOf, each}
+use Rattle.crossing.specs.Records.{classesOf, atPlaces}
 use borrow.Author.Needs.{needs}
 use Rattle.crossing.proofs.classes.Statement.{statement}
 use Rattle.crossing.proofs.classes.Tie as tie
@@ -29,7 +29,7 @@ element-copy-out-t34 : tie.Need-element-copy-out-t34
 element-copy-out-t34 c = search needs
 
 returns : tie.Need-returns
-unfolding classesOf each
+unfolding classesOf atPlaces
 returns c = cc
 
 pub classes-spec : {M : Type 1} → statement M

@@ -1,5 +1,5 @@
 -- `crossing::counters` meets its contract. Assumes nothing.
-use Rattle.crossing.specs.Records.{countersOf, each}
+use Rattle.crossing.specs.Records.{countersOf, atPlaces}
 use mathlib.Core.Path.{refl}
 use borrow.Author.Needs.{needs}
 use Rattle.crossing.proofs.counters.Statement.{statement}
@@ -39,7 +39,7 @@ element-copy-out-t34 : tie.Need-element-copy-out-t34
 element-copy-out-t34 c = search needs
 
 returns : tie.Need-returns
-unfolding countersOf each
+unfolding countersOf atPlaces
 returns c = refl
 
 pub counters-spec : {M : Type 1} → statement M

@@ -1,6 +1,6 @@
 -- `crossing::sizes_numbers` meets its contract. Assumes nothing.
 use mathlib.Core.Path.{refl}
-use Rattle.crossing.specs.Records.{each}
+use Rattle.crossing.specs.Records.{atPlaces}
 use Rattle.crossing.specs.Bands.{sizesNumbers}
 use borrow.Author.Needs.{needs}
 use Rattle.crossing.proofs.sizes_numbers.Statement.{statement}
@@ -49,7 +49,7 @@ array-read-t45 : tie.Need-array-read-t45
 array-read-t45 c = search needs
 
 returns : tie.Need-returns
-unfolding sizesNumbers each
+unfolding sizesNumbers atPlaces
 returns c = refl
 
 pub sizes-numbers-spec : {M : Type 1} → statement M

@@ -1,6 +1,6 @@
 -- `crossing::sizes_of` meets its contract. Assumes nothing.
 use mathlib.Core.Path.{refl}
-use Rattle.crossing.specs.Records.{each}
+use Rattle.crossing.specs.Records.{atPlaces}
 use Rattle.crossing.specs.Bands.{sizesOf}
 use borrow.Author.Needs.{needs}
 use Rattle.crossing.proofs.sizes_of.Statement.{statement}
@@ -49,7 +49,7 @@ element-copy-out-t44 : tie.Need-element-copy-out-t44
 element-copy-out-t44 c = search needs
 
 returns : tie.Need-returns
-unfolding sizesOf each
+unfolding sizesOf atPlaces
 returns c = refl
 
 pub sizes-of-spec : {M : Type 1} → statement M

@@ -1,5 +1,5 @@
 -- `crossing::state_numbers` meets its contract. Assumes nothing.
-use Rattle.crossing.specs.Records.{stateNumbers, each}
+use Rattle.crossing.specs.Records.{stateNumbers, atPlaces}
 use borrow.Author.Needs.{needs}
 use Rattle.crossing.proofs.state_numbers.Statement.{statement}
 use Rattle.crossing.proofs.state_numbers.Tie as tie
@@ -62,7 +62,7 @@ slots-requires-8 : tie.Need-slots-requires-8
 slots-requires-8 c κs = search needs
 
 returns : tie.Need-returns
-unfolding stateNumbers each
+unfolding stateNumbers atPlaces
 returns c = simp (c .before .before .before .before .before .before .before .slots .ensures, c .before .before .before .before .before .before .slots2 .ensures, c .before .before .before .before .before .slots3 .ensures, c .before .before .before .before .slots4 .ensures, c .before .before .before .slots5 .ensures, c .before .before .slots6 .ensures, c .before .slots7 .ensures, c .slots8 .ensures)
 
 pub state-numbers-spec : {M : Type 1} → statement M

@@ -1,5 +1,5 @@
 -- `crossing::timers` meets its contract. Assumes nothing.
-use Rattle.crossing.specs.Records.{timersOf, each, lowAt}
+use Rattle.crossing.specs.Records.{timersOf, atPlaces, lowAt}
 use mathlib.Core.Path.{refl}
 use borrow.Author.Needs.{needs}
 use Rattle.crossing.proofs.timers.Statement.{statement}
@@ -54,7 +54,7 @@ cast-t48 : tie.Need-cast-t48
 cast-t48 c = search needs
 
 returns : tie.Need-returns
-unfolding timersOf each lowAt
+unfolding timersOf atPlaces lowAt
 returns c = refl
 
 pub timers-spec : {M : Type 1} → statement M

@@ -13,7 +13,7 @@ slice-aggregate-shorten : tie.Need-slice-aggregate-shorten
 slice-aggregate-shorten c = search needs
 
 shorten-requires : tie.Need-shorten-requires
-shorten-requires c κs = (refl, (λ j h. getD-replicate 1880 j 0 0 (omega arith)), omega arith)
+shorten-requires c κs = (refl, (λ j h. getD-replicate 1560 j 0 0 (omega arith)), omega arith)
 
 array-share-prefix-w : tie.Need-array-share-prefix-w
 array-share-prefix-w c = search needs

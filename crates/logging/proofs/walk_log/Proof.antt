@@ -37,9 +37,6 @@ returns c = sym (walk-refused _ _ _ _ _ _ _ _ _ (sym (c .before .before .before 
 enum-told : tie.Need-enum-told
 enum-told c = search needs
 
-sub-pays : tie.Need-sub-pays
-sub-pays c = let k = passed _ _ _ _ _ _ (keep-fine _ _ _ _ _ _ _ (fine c) .0) .inside in omega arith
-
 pays-requires : tie.Need-pays-requires
 pays-requires c κs = search needs
 
@@ -85,7 +82,6 @@ walk-log-spec =
     same-length
     returns
     enum-told
-    sub-pays
     pays-requires
     array-share-prefix-none
     slice-aggregate-keep-on

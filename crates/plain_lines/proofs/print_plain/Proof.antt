@@ -1,5 +1,5 @@
 -- `plain_lines::print_plain` meets its contract: what was shown is the part. Assumes nothing.
-use Rattle.lines.proofs.Shows.{shown-whole}
+use Rattle.printing.proofs.Shows.{shown-whole}
 use borrow.Author.Needs.{needs}
 use Rattle.plain_lines.proofs.print_plain.Statement.{statement}
 use Rattle.plain_lines.proofs.print_plain.Tie as tie

@@ -2,8 +2,8 @@
 use native.Mathlib.Omega.{arith}
 use mathlib.Core.Path.{sym, _∙_}
 use denote.Ref.{now}
-use Rattle.lines.proofs.Shows.{shown-as}
-use Rattle.lines.proofs.Records.{bad-printed}
+use Rattle.printing.proofs.Shows.{shown-as}
+use Rattle.printing.proofs.Records.{bad-printed}
 use borrow.Author.Needs.{needs}
 use Rattle.plain_lines.proofs.show_plain.Statement.{statement}
 use Rattle.plain_lines.proofs.show_plain.Tie as tie

@@ -15,9 +15,9 @@ use Rattle.table.specs.Entries.{entriesOf}
 use Rattle.plain.specs.declared.Plain.{Plain}
 use Rattle.plain.specs.Plain.{freshPlain}
 use Rattle.plain.specs.Fed.{plainReadings}
-use Rattle.lines.specs.Lines.{programSettings, lastLine, linesOf, printed}
-use Rattle.lines.proofs.Shows.{Left, left-start, left-more, left-last}
-use Rattle.lines.proofs.Records.{good-short}
+use Rattle.printing.specs.Lines.{programSettings, lastLine, linesOf, printed}
+use Rattle.printing.proofs.Shows.{Left, left-start, left-more, left-last}
+use Rattle.printing.proofs.Records.{good-short}
 use Rattle.plain_lines.proofs.Laws.{symbolsFrom, lines-quiet, lines-counted, lines-refused, lines-end, lines-all}
 use Rattle.plain_lines.proofs.show_steps.Statement.{statement}
 use Rattle.plain_lines.proofs.show_steps.Tie as tie

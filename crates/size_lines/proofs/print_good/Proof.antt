@@ -7,8 +7,8 @@ use lib.Seq.{length-take-le}
 use denote.Ref.{now}
 use borrow.Author.Needs.{needs}
 use Rattle.line.specs.Limits.{mostRecords}
-use Rattle.lines.proofs.Puts.{put-as, put-front}
-use Rattle.lines.proofs.Records.{good-short}
+use Rattle.printing.proofs.Puts.{put-as, put-front}
+use Rattle.printing.proofs.Records.{good-short}
 use Rattle.size_lines.proofs.Laws.{good-printed, sizes-printed}
 use Rattle.size_lines.proofs.print_good.Statement.{statement}
 use Rattle.size_lines.proofs.print_good.Tie as tie

@@ -2,7 +2,7 @@
 use native.Mathlib.Omega.{arith}
 use mathlib.Core.Path.{sym, _∙_}
 use denote.Ref.{now}
-use Rattle.lines.proofs.Puts.{put-as, put-whole}
+use Rattle.printing.proofs.Puts.{put-as, put-whole}
 use Rattle.size_lines.proofs.Laws.{bad-printed}
 use borrow.Author.Needs.{needs}
 use Rattle.size_lines.proofs.print_sizes.Statement.{statement}

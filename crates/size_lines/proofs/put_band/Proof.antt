@@ -5,7 +5,7 @@ use mathlib.Core.Path.{ap}
 use lib.ListN.{replicate}
 use borrow.Author.Needs.{needs}
 use Rattle.splice.proofs.Laws.{_⨾_}
-use Rattle.lines.proofs.Puts.{put-as}
+use Rattle.printing.proofs.Puts.{put-as}
 use Rattle.size_lines.specs.Bars.{bandLine}
 use Rattle.size_lines.proofs.Laws.{bar-short}
 use Rattle.size_lines.proofs.put_band.Statement.{statement}

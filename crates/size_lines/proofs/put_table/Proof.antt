@@ -5,7 +5,7 @@ use mathlib.Core.Path.{ap}
 use mathlib.Core.List.{_++_}
 use borrow.Author.Needs.{needs}
 use Rattle.splice.proofs.Laws.{_⨾_}
-use Rattle.lines.proofs.Puts.{put-as}
+use Rattle.printing.proofs.Puts.{put-as}
 use Rattle.size_lines.specs.Bars.{lowLines, highLines, tableLines}
 use Rattle.size_lines.proofs.put_table.Statement.{statement}
 use Rattle.size_lines.proofs.put_table.Tie as tie

@@ -2,7 +2,7 @@
 use mathlib.Core.Path.{sym}
 use lib.Seq.{length-take-le}
 use borrow.Author.Needs.{needs}
-use Rattle.lines.proofs.Puts.{front-inside}
+use Rattle.printing.proofs.Puts.{front-inside}
 use Rattle.size_table.proofs.main.Statement.{statement}
 use Rattle.size_table.proofs.main.Tie as tie
 

@@ -33,6 +33,9 @@ returns c = sym (add-refused _ _ _ _ _ _ _ (sym (c .before .before .before .chec
 enum-told : tie.Need-enum-told
 enum-told c = search needs
 
+tables-pay-requires : tie.Need-tables-pay-requires
+tables-pay-requires c κs = search needs
+
 array-share-prefix-none : tie.Need-array-share-prefix-none
 array-share-prefix-none c = search needs
 
@@ -40,10 +43,10 @@ slice-aggregate-add-walk : tie.Need-slice-aggregate-add-walk
 slice-aggregate-add-walk c = search needs
 
 add-walk-requires : tie.Need-add-walk-requires
-add-walk-requires c κs = ((λ h. absurd (omega arith)), fine (c .before .before))
+add-walk-requires c κs = ((λ h. absurd (omega arith)), fine (c .before .before .before))
 
 returns-2 : tie.Need-returns-2
-returns-2 c = ap gives (c .add-walk .ensures) ∙ sym (add-fine _ _ _ _ _ _ (fine (c .before .before .before)))
+returns-2 c = ap gives (c .add-walk .ensures) ∙ sym (add-fine _ _ _ _ _ _ (fine (c .before .before .before .before)))
 
 slice-aggregate-make-tables : tie.Need-slice-aggregate-make-tables
 slice-aggregate-make-tables c = search needs
@@ -55,10 +58,10 @@ slice-aggregate-add-walk-2 : tie.Need-slice-aggregate-add-walk-2
 slice-aggregate-add-walk-2 c = search needs
 
 add-walk-requires-2 : tie.Need-add-walk-requires-2
-add-walk-requires-2 c κs = ((λ h. c .before .before .make-tables .ensures), fine (c .before .before .before .before .before))
+add-walk-requires-2 c κs = ((λ h. c .before .before .make-tables .ensures), fine (c .before .before .before .before .before .before))
 
 returns-3 : tie.Need-returns-3
-returns-3 c = ap gives (c .add-walk2 .ensures) ∙ sym (add-fine _ _ _ _ _ _ (fine (c .before .before .before .before .before .before)))
+returns-3 c = ap gives (c .add-walk2 .ensures) ∙ sym (add-fine _ _ _ _ _ _ (fine (c .before .before .before .before .before .before .before)))
 
 pub add-capture-spec : {M : Type 1} → statement M
 add-capture-spec =
@@ -68,6 +71,7 @@ add-capture-spec =
     enum-known-checked
     returns
     enum-told
+    tables-pay-requires
     array-share-prefix-none
     slice-aggregate-add-walk
     add-walk-requires

@@ -12,7 +12,7 @@ use Rattle.sparse.proofs.finish.Tie as tie
 
 abbrev Inv-loop : tie.InvT-loop
 Inv-loop w₀ s at n i₀ w i =
-    (i ≤ 300) × (length w ≡ length w₀) × (length w ≡ 1880) × (n ≤ 1280) × (at + n + 300 ≤ length s) × Ended i at n s w₀ w
+    (i ≤ 300) × (length w ≡ length w₀) × (length w ≡ 1560) × (n ≤ 960) × (at + n + 300 ≤ length s) × Ended i at n s w₀ w
 
 abbrev μ-loop : tie.MeasureT-loop
 μ-loop w₀ s at n i₀ w i = 300 - i

@@ -11,7 +11,7 @@ use Rattle.sparse.proofs.move_down.Statement.{statement}
 use Rattle.sparse.proofs.move_down.Tie as tie
 
 abbrev Inv-loop : tie.InvT-loop
-Inv-loop w₀ i₀ w i = (i ≤ 300) × (length w ≡ length w₀) × (length w ≡ 1880) × Moved i w₀ w
+Inv-loop w₀ i₀ w i = (i ≤ 300) × (length w ≡ length w₀) × (length w ≡ 1560) × Moved i w₀ w
 
 abbrev μ-loop : tie.MeasureT-loop
 μ-loop w₀ i₀ w i = 300 - i

@@ -13,7 +13,7 @@ use Rattle.sparse.proofs.reduce.Tie as tie
 
 abbrev Inv-loop : tie.InvT-loop
 Inv-loop w₀ s at n i₀ w i =
-    (i ≤ n) × (length w ≡ length w₀) × (length w ≡ 1880) × (n ≤ 1280) × (at + n + 300 ≤ length s) × Bytes s × Bytes w × Cut i at s w₀ w
+    (i ≤ n) × (length w ≡ length w₀) × (length w ≡ 1560) × (n ≤ 960) × (at + n + 300 ≤ length s) × Bytes s × Bytes w × Cut i at s w₀ w
 
 abbrev μ-loop : tie.MeasureT-loop
 μ-loop w₀ s at n i₀ w i = n - i

@@ -15,7 +15,7 @@ use Rattle.sparse.proofs.shorten.Tie as tie
 
 abbrev Inv-loop : tie.InvT-loop
 Inv-loop w₀ reg s at₀ w at =
-    (length w ≡ 1880) × (at + 300 ≤ length s) × (crcOver (carriedOn (take 300 w)) (drop at s) ≡ crcOver reg s)
+    (length w ≡ 1560) × (at + 300 ≤ length s) × (crcOver (carriedOn (take 300 w)) (drop at s) ≡ crcOver reg s)
 
 abbrev μ-loop : tie.MeasureT-loop
 μ-loop w₀ reg s at₀ w at = length s - at
@@ -50,7 +50,7 @@ loop-again c =
     let piece = c .before .before .before .before .before .before .reduce in
     let at = c .before .before .before .before .before .before .before .before .before .loop in
     let s = c .before .before .before .before .before .before .before .before .before .before .before .before .before .before .before .before .args .s .now in
-    (search needs, search needs, ap (λ (l : List ℕ). crcOver (carriedOn l) (drop (at .at + 1280) s)) (moved .ensures .0) ∙ piece .ensures ∙ at .inv .2)
+    (search needs, search needs, ap (λ (l : List ℕ). crcOver (carriedOn l) (drop (at .at + 960) s)) (moved .ensures .0) ∙ piece .ensures ∙ at .inv .2)
 
 sub-n : tie.Need-sub-n Inv-loop μ-loop
 sub-n c = search needs

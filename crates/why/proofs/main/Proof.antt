@@ -6,8 +6,8 @@ use mathlib.Core.Path.{_≡_, sym}
 use lib.ListN.{length}
 use lib.Seq.{length-take-le}
 use borrow.Author.Needs.{needs}
-use Rattle.lines.proofs.Puts.{front-inside}
-use Rattle.lines.proofs.Shows.{part-inside}
+use Rattle.printing.proofs.Puts.{front-inside}
+use Rattle.printing.proofs.Shows.{part-inside}
 use Rattle.why.proofs.main.Statement.{statement}
 use Rattle.why.proofs.main.Tie as tie
 

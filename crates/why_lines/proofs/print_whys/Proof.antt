@@ -1,5 +1,5 @@
 -- `why_lines::print_whys` meets its contract: what was shown is the part. Assumes nothing.
-use Rattle.lines.proofs.Shows.{shown-whole}
+use Rattle.printing.proofs.Shows.{shown-whole}
 use borrow.Author.Needs.{needs}
 use Rattle.why_lines.proofs.print_whys.Statement.{statement}
 use Rattle.why_lines.proofs.print_whys.Tie as tie

@@ -4,7 +4,7 @@ use Rattle.splice.proofs.Laws.{_⨾_}
 use Prim.Native.Nat.{ℕ}
 use mathlib.Core.Path.{ap₂}
 use mathlib.Core.List.{[], _∷_}
-use Rattle.lines.proofs.Puts.{put-as}
+use Rattle.printing.proofs.Puts.{put-as}
 use Rattle.why_lines.specs.Hex.{hexOctet}
 use borrow.Author.Needs.{needs}
 use Rattle.why_lines.proofs.put_hex.Statement.{statement}

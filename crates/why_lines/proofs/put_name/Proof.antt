@@ -3,7 +3,7 @@ use native.Mathlib.Omega.{arith}
 use mathlib.Core.Path.{sym, _∙_}
 use borrow.Author.Tests.{eq-eqb, ne-eqb}
 use Rattle.line.proofs.Tables.{first-here, first-next, first-other}
-use Rattle.lines.proofs.Puts.{put-as}
+use Rattle.printing.proofs.Puts.{put-as}
 use Rattle.why_lines.specs.Whys.{endName}
 use borrow.Author.Needs.{needs}
 use Rattle.why_lines.proofs.put_name.Statement.{statement}

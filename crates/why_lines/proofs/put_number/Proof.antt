@@ -1,7 +1,7 @@
 -- `why_lines::put_number` meets its contract: a number of 64 bits has at most 20 digits. Assumes nothing.
 use native.Mathlib.Omega.{arith}
 use Rattle.splice.proofs.Laws.{_⨾_}
-use Rattle.lines.proofs.Digits.{decimal-64}
+use Rattle.printing.proofs.Digits.{decimal-64}
 use Rattle.why_lines.specs.Whys.{withNumber}
 use borrow.Author.Needs.{needs}
 use Rattle.why_lines.proofs.put_number.Statement.{statement}

@@ -1,6 +1,6 @@
 -- `why_lines::put_reason` meets its contract: each arm at its variant. Assumes nothing.
 use mathlib.Core.Path.{sym, ap}
-use Rattle.lines.proofs.Puts.{put-as}
+use Rattle.printing.proofs.Puts.{put-as}
 use Rattle.why_lines.specs.Whys.{reasonText}
 use borrow.Author.Needs.{needs}
 use Rattle.why_lines.proofs.put_reason.Statement.{statement}

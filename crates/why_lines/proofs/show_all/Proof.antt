@@ -2,7 +2,7 @@
 use native.Mathlib.Omega.{arith}
 use mathlib.Core.Path.{sym, _∙_}
 use denote.Ref.{now}
-use Rattle.lines.proofs.Shows.{shown-as}
+use Rattle.printing.proofs.Shows.{shown-as}
 use Rattle.why_lines.proofs.Laws.{bad-printed}
 use borrow.Author.Needs.{needs}
 use Rattle.why_lines.proofs.show_all.Statement.{statement}

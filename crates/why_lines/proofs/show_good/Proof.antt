@@ -6,9 +6,9 @@ use lib.ListN.{length}
 use lib.Seq.{length-take-le}
 use denote.Ref.{now}
 use Rattle.why_lines.specs.Whys.{captureWhys}
-use Rattle.lines.proofs.Puts.{put-front}
-use Rattle.lines.proofs.Shows.{shown-as}
-use Rattle.lines.proofs.Records.{good-short}
+use Rattle.printing.proofs.Puts.{put-front}
+use Rattle.printing.proofs.Shows.{shown-as}
+use Rattle.printing.proofs.Records.{good-short}
 use Rattle.why_lines.proofs.Laws.{good-printed}
 use borrow.Author.Needs.{needs}
 use Rattle.why_lines.proofs.show_good.Statement.{statement}

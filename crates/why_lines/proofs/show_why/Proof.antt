@@ -2,8 +2,8 @@
 use native.Mathlib.Omega.{arith}
 use mathlib.Core.Path.{sym}
 use lib.Seq.{length-take-le}
-use Rattle.lines.proofs.Puts.{put-front}
-use Rattle.lines.proofs.Shows.{shown-as}
+use Rattle.printing.proofs.Puts.{put-front}
+use Rattle.printing.proofs.Shows.{shown-as}
 use borrow.Author.Needs.{needs}
 use Rattle.why_lines.proofs.show_why.Statement.{statement}
 use Rattle.why_lines.proofs.show_why.Tie as tie

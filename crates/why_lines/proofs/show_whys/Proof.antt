@@ -9,8 +9,8 @@ use lib.ListN.{length}
 use denote.Ref.{now}
 use Rattle.station.specs.declared.Settings.{Settings}
 use Rattle.table.specs.Entries.{entriesOf}
-use Rattle.lines.specs.Lines.{lastLine}
-use Rattle.lines.proofs.Shows.{Left, left-start, left-more, left-last}
+use Rattle.printing.specs.Lines.{lastLine}
+use Rattle.printing.proofs.Shows.{Left, left-start, left-more, left-last}
 use Rattle.why_lines.specs.Whys.{explainedFrom, whysOf, captureWhys}
 use Rattle.why_lines.proofs.Laws.{no-reason, whys-given, whys-ended, whys-none, whys-all}
 use Rattle.why_lines.proofs.show_whys.Statement.{statement}

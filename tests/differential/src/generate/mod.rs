@@ -35,8 +35,9 @@ pub use totals::{allowed, asked_place, line_length, roomy_place, stage, starry, 
 
 /// The most symbols that a call takes.
 pub const SYMBOLS: usize = 65_536;
-/// A walk over so many symbols makes tables of the FCS for itself; one over fewer does not.
-pub const TABLES_FROM: usize = 8_192;
+/// A walk over so many symbols may make tables of the FCS for itself, where its first frames are
+/// short; one over fewer never does.
+pub const TABLES_FROM: usize = 4_096;
 /// The most tags that a frame has.
 pub const MOST_TAGS: usize = 8;
 
