@@ -1,13 +1,12 @@
 -- Laws of `overwrite`: for writers (a store more, the length, a lent part), for calls in a row, and for both buffers at once. Assumes nothing.
-use Prim.Native.Nat.{ℕ, zero, suc, _+_, _-_, _≤_, _<_, min}
+use Prim.Native.Nat.{ℕ, _+_, _-_, _≤_, _<_, min}
 use native.Mathlib.Omega.{arith}
 use native.Mathlib.Nat.{add-zero}
-use native.Mathlib.Numerals.{add-one}
-use mathlib.Core.Path.{_≡_, refl, sym, ap, ap₂, _∙_}
+use mathlib.Core.Path.{_≡_, sym, ap, ap₂, _∙_}
 use mathlib.Core.List.{List, [], _∷_, _++_, append-assoc, append-nil}
-use lib.ListN.{length, getD, take, drop, set, length-append, length-take, length-drop, take-append-drop, drop-of-length-le}
+use lib.ListN.{length, take, drop, length-append, length-take, length-drop, take-append-drop, drop-of-length-le}
 use borrow.Rule.Slice.PartMut.{midOf, postOf, putMid}
-use lib.Seq.{drop-cons, drop-drop, drop-append-add, take-at, length-take-le, set-at, take-all}
+use lib.Seq.{drop-drop, drop-append-add, take-at, length-take-le, take-all}
 use Rattle.line.specs.Line.{Symbol, capture, octetsOf, marksOf, overwrite}
 use Rattle.line.proofs.Buffers.{capture-append, capture-of, take-capture, drop-capture, length-octetsOf, length-marksOf}
 
@@ -25,20 +24,6 @@ module _ {A : Type 0} where
       length-append (take at l ++ new) (drop (at + length new) l)
       ∙ ap (λ (k : ℕ). k + length (drop (at + length new) l)) (length-append (take at l) new)
       ∙ omega arith
-
-  -- one more symbol, at the place after those written
-  pub overwrite-push : (l : List A) (at : ℕ) (new : List A) (x : A) → at + length new < length l
-      → set (overwrite l at new) (at + length new) x ≡ overwrite l at (new ++ (x ∷ []))
-  unfolding overwrite
-  overwrite-push l at new x h =
-      let p : List A = take at l ++ new in
-      let k : ℕ = at + length new in
-      let n : length p ≡ k = length-append (take at l) new ∙ ap (λ (j : ℕ). j + length new) (length-take-le at l (omega arith)) in
-      let m : suc k ≡ at + length (new ++ (x ∷ [])) = (let e = length-append new (x ∷ []) in omega arith) in
-      ap (λ (t : List A). set (p ++ t) k x) (drop-cons l k x h)
-      ∙ set-at p (getD l k x) (drop (suc k) l) x k n
-      ∙ sym (append-assoc p (x ∷ []) (drop (suc k) l))
-      ∙ ap₂ (λ (a b : List A). a ++ b) (append-assoc (take at l) new (x ∷ [])) (ap (λ (j : ℕ). drop j l) m)
 
   -- through the part from a place on
   pub overwrite-part : (l : List A) (at : ℕ) (new : List A) → take at l ++ overwrite (drop at l) 0 new ≡ overwrite l at new

@@ -2,15 +2,13 @@
 use Prim.Native.Nat.{ℕ, zero, suc, _≤_, _<_}
 use native.Mathlib.Omega.{arith}
 use mathlib.Core.Path.{_≡_, refl, sym, ap, ap₂, _∙_, subst}
-use mathlib.Core.Bool.{Bool, true, false, not, _||_, or-true}
+use mathlib.Core.Bool.{Bool, true, false, not, _||_}
 use mathlib.Core.List.{List, [], _∷_}
 use mathlib.Core.Option.{Option}
-use lib.ListN.{length, getD, take, drop, drop-of-length-le}
-use lib.Dec.{eqb, ltb}
+use lib.ListN.{length, getD, drop-of-length-le}
 use borrow.Author.Tests.{lt-ltb, le-ltb, eq-eqb, ne-eqb}
 use Rattle.line.specs.Limits.{preambleSize}
 use Rattle.line.specs.Line.{preamble, terminate}
-use Rattle.line.specs.Octets.{sameOctets}
 use Rattle.line.specs.Table.{Table, otherwise, _∣_, _⇒_, first}
 use Rattle.line.proofs.Octets.{front-differs, front-same}
 use Rattle.line.proofs.Tables.{first-here, first-next, first-other}
@@ -18,7 +16,6 @@ use Rattle.station.specs.declared.Address.{Address}
 use Rattle.station.specs.declared.Settings.{Settings}
 use Rattle.station.specs.declared.Outcome.{Outcome}
 use Rattle.station.specs.declared.Outcome.the-variants.{Cut, BadPreamble, Undersized, Oversized, WrongFcs, WrongLength, Filtered, PauseTaken, PfcTaken, ControlDropped, HandedOut}
-use Rattle.station.specs.Numbers.{outcomeNumber}
 use Rattle.fcs.specs.Fcs.{fcsOf}
 use Rattle.fields.specs.declared.Layout.{Layout}
 use Rattle.fields.specs.Places.{layoutOf}
@@ -202,14 +199,3 @@ outcome-alike s own own′ same run by =
     ∣ otherwise HandedOut
     ))
     (same f)
-
--- ---- the table bears document 01's numbers, in order
-
-unfoldable pub numbersIn : Table Outcome → List ℕ
-numbersIn (otherwise o) = outcomeNumber o ∷ []
-numbersIn (r ∣ rows) = outcomeNumber (r .gives) ∷ numbersIn rows
-
-pub outcomes-in-order : (s : Settings) (own : List (Option Address)) (run : List ℕ) (by : ℕ) (f : List ℕ)
-    → numbersIn (outcomes s own run by f) ≡ 1 ∷ 2 ∷ 3 ∷ 4 ∷ 5 ∷ 6 ∷ 7 ∷ 8 ∷ 9 ∷ 10 ∷ 11 ∷ []
-unfolding numbersIn outcomes
-outcomes-in-order s own run by f = refl

@@ -8,7 +8,7 @@ use lib.ListN.{length, take, drop, set, length-append}
 use lib.Seq.{sets, sets-eq, take-append-seam}
 use Rattle.line.specs.Line.{overwrite}
 use Rattle.splice.specs.Written.{Put}
-use Rattle.splice.proofs.Laws.{sets-sets, put-overwrite}
+use Rattle.splice.proofs.Laws.{put-overwrite}
 
 -- what was written, said by an equal list
 pub put-as : {l m a b : List ℕ} {i j : ℕ} → a ≡ b → Put l i a j m → Put l i b j m
@@ -25,25 +25,6 @@ pub rest-start : {old whole rest : List ℕ} → rest ≡ whole → Rest old who
 rest-start {old} {whole} {rest} e =
     let n = ap length e in
     record { goes = omega arith; holds = ap (sets old 0) e }
-
--- a piece more
-pub rest-more : {old whole held held′ rest rest′ a : List ℕ} {at at′ : ℕ} → Rest old whole held at rest → Put held at a at′ held′ → rest ≡ a ++ rest′
-    → Rest old whole held′ at′ rest′
-rest-more {old} {whole} {held} {held′} {rest} {rest′} {a} {at} {at′} p q e =
-    let n = ap length e ∙ length-append a rest′ in
-    record {
-      goes = omega (arith, p .goes, q .goes);
-      holds = rw (q .holds, q .goes) (sets-sets held at a rest′) ∙ ap (sets held at) (sym e) ∙ p .holds;
-    }
-
--- the last piece
-pub rest-last : {old whole held held′ rest a : List ℕ} {at at′ : ℕ} → Rest old whole held at rest → Put held at a at′ held′ → rest ≡ a → Put old 0 whole at′ held′
-rest-last {old} {whole} {held} {held′} {rest} {a} {at} {at′} p q e =
-    let n = ap length e in
-    record {
-      goes = omega (arith, p .goes, q .goes);
-      holds = q .holds ∙ ap (sets held at) (sym e) ∙ p .holds;
-    }
 
 -- one octet more
 pub rest-one : {old whole held rest rest′ : List ℕ} {at x : ℕ} → Rest old whole held at rest → rest ≡ x ∷ rest′ → Rest old whole (set held at x) (at + 1) rest′

@@ -4,7 +4,7 @@ use mathlib.Core.Path.{_≡_, refl, sym, ap, _∙_}
 use mathlib.Core.List.{List, [], _∷_, _++_}
 use native.Mathlib.Omega.{arith}
 use lib.ListN.{length, take, drop, set, length-append, length-take, length-drop, length-set, drop-of-length-le}
-use lib.Seq.{sets, set-out, sets-eq, length-sets, drop-nil}
+use lib.Seq.{sets, set-out, sets-eq, drop-nil}
 use Rattle.line.specs.Line.{overwrite}
 use Rattle.splice.proofs.Laws.{sets-sets}
 use Rattle.printing.specs.Parts.{part}
@@ -56,10 +56,6 @@ shown-then {from} {i} {j} {k} {l} {m} {n} {a} {b} p q =
 -- a piece, said by an equal list
 pub shown-as : {from i j : ℕ} {l m a b : List ℕ} → a ≡ b → Shown from l i a j m → Shown from l i b j m
 shown-as e p = rw (← e) p
-
--- a piece leaves the length
-pub shown-length : {from i j : ℕ} {l m a : List ℕ} → Shown from l i a j m → length m ≡ length l
-shown-length {from} {i} {j} {l} {m} {a} p = rw (p .holds) (length-sets l (i - from) (drop (from - i) a))
 
 -- ---- a writer that has `rest` still to write, from `at` on, so that `whole` is written over `old` from its start on
 
