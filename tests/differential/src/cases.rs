@@ -4,7 +4,7 @@ use crate::compare::{Bench, Difference, Lent};
 use crate::compare_jobs::LentTable;
 use crate::compare_log::LentLog;
 use crate::compare_totals::{Counted, LentTotals};
-use crate::generate::{self, Sending, Symbols, IDLE, START, SYMBOLS, TERMINATE};
+use crate::generate::{self, Sending, Symbols, FCS_EDGES, IDLE, START, SYMBOLS, TERMINATE};
 use crate::prng::Prng;
 use crate::seen_jobs::TableCall;
 use crate::{raw, records};
@@ -270,7 +270,8 @@ fn holding(bench: &mut Bench, prng: &mut Prng) -> Result<(), Difference> {
 fn checking(bench: &mut Bench, prng: &mut Prng) -> Result<(), Difference> {
     let n = match prng.below(64) {
         0 => prng.pick(&[1514, 9614, 65_536, 70_000]),
-        1..=16 => prng.pick(&[0, 1, 15, 16, 17, 31, 32, 33, 60]),
+        1..=4 => prng.pick(&FCS_EDGES),
+        5..=16 => prng.pick(&[0, 1, 15, 16, 17, 31, 32, 33, 60]),
         _ => prng.below(200),
     };
     let mut octets = prng.octets(n);

@@ -38,6 +38,9 @@ pub const SYMBOLS: usize = 65_536;
 /// A walk over so many symbols may make tables of the FCS for itself, where its first frames are
 /// short; one over fewer never does.
 pub const TABLES_FROM: usize = 4_096;
+/// Both sides of where the FCS of a message is made in another way: by words, with lent tables by
+/// words, in a window, and with a piece of the window more.
+pub const FCS_EDGES: [usize; 8] = [127, 128, 511, 512, 639, 640, 1260, 1261];
 /// The most tags that a frame has.
 pub const MOST_TAGS: usize = 8;
 

@@ -21,6 +21,7 @@ mod totals;
 mod ways;
 
 use crate::coverage::{Row, When};
+use crate::generate::FCS_EDGES;
 use crate::seen::{CSeen, FcsSeen, ReadingSeen, RowSeen, SendingSeen, WalkSeen};
 use crate::seen_jobs::{ScreenSeen, TableSeen};
 use crate::seen_log::{GoingOnSeen, KeepSeen, LogSeen};
@@ -163,7 +164,8 @@ impl Table {
 
 /// The FCS by length and register.
 fn fcs_rows(t: &mut Table) {
-    for n in [0, 1, 15, 16, 17, 32, 60, 1514, 9614, 65_536, 70_000] {
+    let lengths = [0, 1, 15, 16, 17, 32, 60, 1514, 9614, 65_536, 70_000];
+    for n in lengths.into_iter().chain(FCS_EDGES) {
         t.fcs(format!("fcs: {n} octets"), move |f| f.octets.len() == n);
     }
     t.fcs("fcs: from register 0", |f| f.register == 0);
