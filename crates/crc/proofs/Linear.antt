@@ -136,7 +136,8 @@ over-append r (o ∷ s) t = over-append (crcOctet r o) s t
 
 -- ---- in the form of the code
 
-word-last : (s : List ℕ) (o : ℕ) → word (s ++ o ∷ []) ≡ word s + o * 256 ^ length s
+-- one octet behind the others
+pub word-last : (s : List ℕ) (o : ℕ) → word (s ++ o ∷ []) ≡ word s + o * 256 ^ length s
 word-last [] o = omega arith
 word-last (a ∷ s) o =
     ap (λ (x : ℕ). a + x * 256) (word-last s o)

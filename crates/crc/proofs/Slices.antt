@@ -8,7 +8,7 @@ use lib.Bits.{bitXor, xor-comm, xor-block, xor-shifted}
 use lib.Dec.{lit<}
 use Rattle.crc.specs.Crc.{crcBits}
 use Rattle.crc.specs.Words.{crcZeros}
-use Rattle.crc.proofs.Xor.{xor-assoc}
+use Rattle.crc.proofs.Xor.{xor-exchange}
 use Rattle.crc.proofs.Linear.{bits-xor, bits-add, bits-zero, bits-lt, slice}
 use Rattle.crc.specs.Both.{above, both}
 
@@ -17,17 +17,11 @@ xor-times p q =
     sym (add-zero (bitXor p q * 0x1_0000_0000)) ∙ sym (xor-block 32 p q 0 0 (lit< tt) (lit< tt))
     ∙ ap₂ bitXor (add-zero (p * 0x1_0000_0000)) (add-zero (q * 0x1_0000_0000))
 
-exchange : (a b c d : ℕ) → bitXor (bitXor a b) (bitXor c d) ≡ bitXor (bitXor a c) (bitXor b d)
-exchange a b c d =
-    xor-assoc a b (bitXor c d)
-    ∙ ap (bitXor a) (sym (xor-assoc b c d) ∙ ap (λ (x : ℕ). bitXor x d) (xor-comm b c) ∙ xor-assoc c b d)
-    ∙ sym (xor-assoc a c (bitXor b d))
-
 above-xor : (k a b : ℕ) → above k (bitXor a b) ≡ bitXor (above k a) (above k b)
 above-xor k a b =
     ap (λ (y : ℕ). bitXor (bitXor a b) (y * 0x1_0000_0000)) (bits-xor k a b)
     ∙ ap (bitXor (bitXor a b)) (xor-times (crcBits k a) (crcBits k b))
-    ∙ exchange a b (crcBits k a * 0x1_0000_0000) (crcBits k b * 0x1_0000_0000)
+    ∙ xor-exchange a b (crcBits k a * 0x1_0000_0000) (crcBits k b * 0x1_0000_0000)
 
 pub both-is : (k n v : ℕ) → above k (crcBits n v) ≡ both k n v
 both-is k n zero = ap (above k) (bits-zero n) ∙ ap (λ (x : ℕ). x * 0x1_0000_0000) (bits-zero k)

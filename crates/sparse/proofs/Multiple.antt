@@ -9,7 +9,7 @@ use lib.Bits.{bitXor, xor-comm, xor-zero-l, xor-shifted}
 use lib.Arith.{lt-one}
 use lib.Pow.{pow-pos, pow-add}
 use Rattle.crc.specs.Crc.{crcBits}
-use Rattle.crc.proofs.Xor.{xor-assoc, xor-last, xor-twice}
+use Rattle.crc.proofs.Xor.{xor-exchange, xor-twice}
 use Rattle.crc.proofs.Linear.{bits-xor, bits-add, bits-zero, bits-shifted}
 
 -- the registers after each of these numbers of bits, xored
@@ -20,12 +20,7 @@ trace (k ∷ ks) x = bitXor (crcBits k x) (trace ks x)
 trace-xor : (ks : List ℕ) (a b : ℕ) → trace ks (bitXor a b) ≡ bitXor (trace ks a) (trace ks b)
 trace-xor [] a b = refl
 trace-xor (k ∷ ks) a b =
-    let x = crcBits k a in
-    let y = crcBits k b in
-    let t = trace ks a in
-    let u = trace ks b in
-    ap₂ bitXor (bits-xor k a b) (trace-xor ks a b)
-    ∙ sym (xor-assoc (bitXor x y) t u) ∙ ap (λ (z : ℕ). bitXor z u) (xor-last x y t) ∙ xor-assoc (bitXor x t) y u
+    ap₂ bitXor (bits-xor k a b) (trace-xor ks a b) ∙ xor-exchange (crcBits k a) (crcBits k b) (trace ks a) (trace ks b)
 
 swap : (k m x : ℕ) → crcBits k (crcBits m x) ≡ crcBits m (crcBits k x)
 swap k m x = sym (bits-add m k x) ∙ ap (λ (j : ℕ). crcBits j x) (add-comm m k) ∙ bits-add k m x

@@ -3,7 +3,7 @@
 use mathlib.Core.Path.{_≡_, refl, sym, ap, ap₂, _∙_, subst}
 use mathlib.Core.List.{List, [], _∷_, _++_}
 use Prim.Native.Nat.{ℕ, zero, suc, _+_, _*_, _/_, _%_, _-_, _^_, _≤_, _<_}
-use native.Mathlib.Nat.{mod-eq-of-lt, div-eq-of-lt, add-comm, mul-assoc}
+use native.Mathlib.Nat.{mod-eq-of-lt, div-eq-of-lt, add-comm, pow-suc}
 use native.Mathlib.Omega.{arith}
 use lib.Bits.{bitXor, xor-comm, xor-zero-r, xor-shifted, xor-shr, xor-mod}
 use lib.Dec.{lit<, lit≤}
@@ -12,8 +12,8 @@ use lib.ListN.{length, getD, drop, length-drop}
 use lib.Seq.{drop-cons, drop-drop, drop-append-le, getD-drop}
 use Rattle.crc.specs.Crc.{crcBits, crcOver}
 use Rattle.crc.specs.Words.{crcZeros, word}
-use Rattle.crc.proofs.Xor.{xor-assoc}
-use Rattle.crc.proofs.Linear.{none, zeros-xor, zeros-add, zeros-shifted, over-slice, turn}
+use Rattle.crc.proofs.Xor.{xor-assoc, xor-exchange}
+use Rattle.crc.proofs.Linear.{none, word-last, zeros-xor, zeros-add, zeros-shifted, over-slice, turn}
 use Rattle.sparse.specs.Octets.{carriedOn}
 use Rattle.sparse.proofs.Multiple.{trace, trace-none, xor-none}
 use Rattle.sparse.proofs.Words.{same-end}
@@ -62,41 +62,31 @@ far n v l h =
 
 -- ---- octets as one number
 
+octet-more : (n : ℕ) → 2 ^ (suc n * 8) ≡ 2 ^ (n * 8) * 256
+octet-more n = (let e : suc n * 8 ≡ n * 8 + 8 = omega arith in ap (λ (k : ℕ). 2 ^ k) e) ∙ pow-add 2 (n * 8) 8
+
+octet-power : (n : ℕ) → 2 ^ (n * 8) ≡ 256 ^ n
+octet-power zero = refl
+octet-power (suc n) = octet-more n ∙ ap (λ (x : ℕ). x * 256) (octet-power n) ∙ sym (pow-suc 256 n)
+
 word-lt : (s : List ℕ) → Bytes s → word s < 2 ^ (length s * 8)
 word-lt [] b = lit< tt
 word-lt (o ∷ s) b =
-    let p = 2 ^ (length s * 8) in
-    let below : word s < p = word-lt s (λ k. b (suc k)) in
+    let below : word s < 2 ^ (length s * 8) = word-lt s (λ k. b (suc k)) in
     let octet : o < 256 = b 0 in
-    let e : suc (length s) * 8 ≡ length s * 8 + 8 = omega arith in
-    let power : 2 ^ (suc (length s) * 8) ≡ p * 256 = ap (λ (k : ℕ). 2 ^ k) e ∙ pow-add 2 (length s * 8) 8 in
+    let more = octet-more (length s) in
     omega arith
-
--- one octet behind the others
-word-last : (s : List ℕ) (v : ℕ) → word (s ++ v ∷ []) ≡ word s + up (length s) v
-word-last [] v = omega arith
-word-last (o ∷ s) v =
-    let p = 2 ^ (length s * 8) in
-    let e : suc (length s) * 8 ≡ length s * 8 + 8 = omega arith in
-    let power : 2 ^ (suc (length s) * 8) ≡ p * 256 = ap (λ (k : ℕ). 2 ^ k) e ∙ pow-add 2 (length s * 8) 8 in
-    ap (λ (x : ℕ). o + x * 256) (word-last s v)
-    ∙ (let q : v * 2 ^ (suc (length s) * 8) ≡ v * p * 256 = ap (λ (x : ℕ). v * x) power ∙ sym (mul-assoc v p 256) in omega arith)
 
 pushed : (s : List ℕ) (v : ℕ) → Bytes s → word (s ++ v ∷ []) ≡ bitXor (word s) (up (length s) v)
 pushed s v b =
-    word-last s v ∙ add-comm (word s) (up (length s) v) ∙ sym (xor-shifted v (length s * 8) (word s) (word-lt s b)) ∙ xor-comm (up (length s) v) (word s)
-
-exchange : (a b c d : ℕ) → bitXor (bitXor a b) (bitXor c d) ≡ bitXor (bitXor a c) (bitXor b d)
-exchange a b c d =
-    xor-assoc a b (bitXor c d)
-    ∙ ap (bitXor a) (sym (xor-assoc b c d) ∙ ap (λ (x : ℕ). bitXor x d) (xor-comm b c) ∙ xor-assoc c b d)
-    ∙ sym (xor-assoc a c (bitXor b d))
+    word-last s v ∙ ap (λ (x : ℕ). word s + v * x) (sym (octet-power (length s))) ∙ add-comm (word s) (up (length s) v)
+    ∙ sym (xor-shifted v (length s * 8) (word s) (word-lt s b)) ∙ xor-comm (up (length s) v) (word s)
 
 exchange-four : (a b c d e f g h : ℕ) → bitXor (bitXor a b) (bitXor (bitXor c d) (bitXor (bitXor e f) (bitXor g h)))
     ≡ bitXor (bitXor a (bitXor c (bitXor e g))) (bitXor b (bitXor d (bitXor f h)))
 exchange-four a b c d e f g h =
-    ap (bitXor (bitXor a b)) (ap (bitXor (bitXor c d)) (exchange e f g h) ∙ exchange c d (bitXor e g) (bitXor f h))
-    ∙ exchange a b (bitXor c (bitXor e g)) (bitXor d (bitXor f h))
+    ap (bitXor (bitXor a b)) (ap (bitXor (bitXor c d)) (xor-exchange e f g h) ∙ xor-exchange c d (bitXor e g) (bitXor f h))
+    ∙ xor-exchange a b (bitXor c (bitXor e g)) (bitXor d (bitXor f h))
 
 -- ---- one octet of a message
 
