@@ -1,5 +1,7 @@
 // Whom a frame is for: its destination compared with an address and with broadcast (document 01, "Address rule"). Meaning: specs/.
 // `f` is always a whole frame. One too short to have a destination is for nobody.
+#![tactic(auto)]
+
 ghost use Rattle.std.specs.Prelude.{◌≡◌};
 ghost use Rattle.line.specs.Octets.{same_octets};
 ghost use Rattle.fields.specs.Fields.{destination};

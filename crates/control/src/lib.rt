@@ -1,5 +1,7 @@
 // Control frames, rules 7 to 10 (document 01, "Control frames"), and which address let a frame in (document 02, items 7 and 10). Meaning: specs/. `f` is
 // always a whole frame, `table` the address table, of which a job sees its own entries.
+#![tactic(auto)]
+
 ghost use Rattle.std.specs.Prelude.{◌≡◌, ◌&&◌, ◌||◌};
 ghost use Rattle.table.specs.Entries.{own_entries};
 ghost use Rattle.control.specs.Control.{is_control_frame, opcode, to_reserved_group, to_own, filtered, takes_pause, takes_pfc, drops_control, frame_way, way_carried};

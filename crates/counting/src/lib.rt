@@ -1,5 +1,7 @@
 // The sending calls that keep the totals of a capture (document 02, item 9): each is the call without totals, and then a new count of the blocks that it
 // wrote into. Meaning: specs/.
+#![tactic(auto)]
+
 ghost use Rattle.std.specs.Prelude.{◌≡◌};
 ghost use Rattle.line.specs.Table.{first};
 ghost use Rattle.send.specs.Sending.{refused_at};

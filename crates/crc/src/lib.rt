@@ -1,4 +1,6 @@
 // The division of IEEE 802.3 clause 3, bit by bit: the meaning is specs/Crc.antt, the laws of a fast division proofs/Linear.antt.
+#![tactic(auto)]
+
 ghost use Rattle.std.specs.Prelude.{◌≡◌};
 ghost use Rattle.crc.specs.Crc.{crc_bit, crc_bits};
 ghost use Rattle.crc.specs.Both.{both};

@@ -1,5 +1,7 @@
 // The CRC-32's static tables of the four highest octets of eight: each is a `match` on a number with constant arms, which LLVM makes a table in .rodata. A
 // table has 6 or 7 bits of them, and each entry two registers: after the eight octets, and, above it, after eight octets more that are 0.
+#![tactic(auto)]
+
 ghost use Rattle.std.specs.Prelude.{◌≡◌};
 ghost use Rattle.crc.specs.Both.{both};
 

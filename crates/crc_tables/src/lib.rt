@@ -1,4 +1,6 @@
 // The register after eight octets at once, by the static tables of crc_low and crc_high.
+#![tactic(auto)]
+
 ghost use Rattle.std.specs.Prelude.{◌≡◌};
 ghost use Rattle.crc.specs.Words.{crc_zeros};
 ghost use Rattle.crc.specs.Both.{both};

@@ -1,5 +1,7 @@
 // What crosses the C face (include/fenhamper.h): a record crosses to the module as the array of its octets, or of its numbers of 64 bits, and an answer
 // crosses back so. Public for this repository's crates only: `fenhamper` makes the exported functions of these. Meaning: specs/.
+#![tactic(auto)]
+
 ghost use Rattle.std.specs.Prelude.{◌≡◌, not, [], ◌∷◌, ◌+◌, ◌<◌, ◌≤◌, length, eqb};
 ghost use Rattle.line.specs.Octets.{low_first};
 ghost use Rattle.station.specs.Numbers.{refusal_number, checked_number};
@@ -16,9 +18,9 @@ ghost use Rattle.crossing.specs.Reader.{run_of, plain_of, plain_numbers, told_nu
 ghost use Rattle.crossing.specs.Bands.{sizes_of, sizes_numbers};
 
 use kept::{Run, Told};
-use reading_log::{LogNumber, LogRead, Logged, Record};
 use logging::{KeepRefusal, LogEnd, LogWalk};
 use plain::Plain;
+use reading_log::{LogNumber, LogRead, Logged, Record};
 use reason::{Explained, Reason, Six, Why};
 use receive::{Answer, Reading, WalkAnswer, Walking};
 use send::{SendAnswer, Sending};

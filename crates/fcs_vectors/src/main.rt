@@ -1,46 +1,49 @@
 // Published values of the CRC-32 of IEEE 802.3, each computed by the static tables and by lent ones. "123456789" is the check value of the
 // catalogue of parametrised CRC algorithms (CRC-32/ISO-HDLC), that of "IEND" ends every PNG file (ISO/IEC 15948, whose CRC is this
 // one), and the others are what zlib's crc32 gives.
+#![tactic(auto)]
+
 ghost use Rattle.fcs.specs.Lent.{Tables};
 
+use std::io;
+
 // One line: the octets' name, their check, and whether both ways give the expected one.
-fn vector(t: &[u32; 4096], name: &[u8], s: &[u8], expected: u32)
+fn vector(rt: &impl Print, t: &[u32; 4096], name: &[u8], s: &[u8], expected: u32) -> io::Result<()>
     requires { Tables t.now }
 {
     let f = fcs::check(s);
     let by = fcs::check_by(t, s);
-    io::write_all(1, name);
-    io::write_all(1, b" ");
-    io::print_hex(1, f as u64, 8);
+    rt.write_all(name)?;
+    print!(rt; " {f:08x}")?;
     if f == expected && by == expected {
-        io::write_all(1, b" ok\n");
+        rt.write_all(b" ok\n")
     } else {
-        io::write_all(1, b" wrong\n");
+        rt.write_all(b" wrong\n")
     }
 }
 
-fn texts(t: &[u32; 4096])
+fn texts(rt: &impl Print, t: &[u32; 4096]) -> io::Result<()>
     requires { Tables t.now }
 {
-    vector(t, b"123456789", b"123456789", 0xCBF4_3926);
-    vector(t, b"nothing", b"", 0);
-    vector(t, b"a", b"a", 0xE8B7_BE43);
-    vector(t, b"abc", b"abc", 0x3524_41C2);
-    vector(t, b"IEND", b"IEND", 0xAE42_6082);
+    vector(rt, t, b"123456789", b"123456789", 0xCBF4_3926)?;
+    vector(rt, t, b"nothing", b"", 0)?;
+    vector(rt, t, b"a", b"a", 0xE8B7_BE43)?;
+    vector(rt, t, b"abc", b"abc", 0x3524_41C2)?;
+    vector(rt, t, b"IEND", b"IEND", 0xAE42_6082)
 }
 
-fn longer(t: &[u32; 4096])
+fn longer(rt: &impl Print, t: &[u32; 4096]) -> io::Result<()>
     requires { Tables t.now }
 {
     let fox = b"The quick brown fox jumps over the lazy dog";
-    vector(t, fox, fox, 0x414F_A339);
-    vector(t, b"32 octets 00", &[0u8; 32], 0x190A_55AD);
-    vector(t, b"32 octets ff", &[0xFFu8; 32], 0xFF6C_AB0B);
+    vector(rt, t, fox, fox, 0x414F_A339)?;
+    vector(rt, t, b"32 octets 00", &[0u8; 32], 0x190A_55AD)?;
+    vector(rt, t, b"32 octets ff", &[0xFFu8; 32], 0xFF6C_AB0B)
 }
 
-fn main() {
+fn main(rt: HostRuntime) -> io::Result<()> {
     let mut t = [0u32; 4096];
     fcs::make_tables(&mut t);
-    texts(&t);
-    longer(&t);
+    texts(&rt, &t)?;
+    longer(&rt, &t)
 }

@@ -1,5 +1,7 @@
-// The C face (include/fenhamper.h): each exported function decodes its records, calls the module's function of that name, and encodes what
-// comes back. Meaning: specs/Face.antt; of the records and answers that cross: crate crossing.
+// The C face (include/fenhamper.h): each function decodes its records, calls the module's function of that name, and encodes what comes back; crate
+// fenhamper_c exports it. Meaning: specs/Face.antt; of the records and answers that cross: crate crossing.
+#![tactic(auto)]
+
 ghost use Rattle.std.specs.Prelude.{◌≡◌};
 ghost use Rattle.line.specs.Table.{first};
 ghost use Rattle.fcs.specs.Fcs.{fcs_of};
@@ -33,48 +35,42 @@ ghost use Rattle.fenhamper.specs.Face.{table_given, table_told, part_given, part
 use station::{Checked, Quanta};
 use totals::Count;
 
-// ---- the exported functions
+// ---- the functions of the C face
 
 // FENHAMPER_LAYOUT of the header. The symbol's name has it too, so that what was compiled for another layout does not link.
 const LAYOUT: u32 = 4;
 
-#[unsafe(no_mangle)]
-pub extern "C" fn fenhamper_layout_4() -> u32
+pub fn fenhamper_layout_4() -> u32
     ensures { result ≡ layout }
 {
     LAYOUT
 }
 
-#[unsafe(no_mangle)]
-pub extern "C" fn fenhamper_fresh_state(state: &mut [u64; 24])
+pub fn fenhamper_fresh_state(state: &mut [u64; 24])
     ensures { state.new ≡ state_numbers fresh }
 {
     *state = crossing::state_numbers(station::fresh_state());
 }
 
-#[unsafe(no_mangle)]
-pub extern "C" fn fenhamper_screen(state: &[u64; 24], shown: &mut [u32; 11])
+pub fn fenhamper_screen(state: &[u64; 24], shown: &mut [u32; 11])
     ensures { shown.new ≡ screen_of (state_of state.now).counters }
 {
     *shown = station::screen(crossing::counters(state));
 }
 
-#[unsafe(no_mangle)]
-pub extern "C" fn fenhamper_fcs(octets: &[u8]) -> u32
+pub fn fenhamper_fcs(octets: &[u8]) -> u32
     ensures { result ≡ fcs_of octets.now }
 {
     fcs::check(octets)
 }
 
-#[unsafe(no_mangle)]
-pub extern "C" fn fenhamper_fcs_update(from: u32, octets: &[u8]) -> u32
+pub fn fenhamper_fcs_update(from: u32, octets: &[u8]) -> u32
     ensures { result ≡ crc_over from octets.now }
 {
     fcs::update(from, octets)
 }
 
-#[unsafe(no_mangle)]
-pub extern "C" fn fenhamper_read(
+pub fn fenhamper_read(
     s: &[u8; 24],
     job: u8,
     table: &[u8; 128],
@@ -101,8 +97,7 @@ pub extern "C" fn fenhamper_read(
     crossing::leave(state, answer[0], r.state);
 }
 
-#[unsafe(no_mangle)]
-pub extern "C" fn fenhamper_explain(
+pub fn fenhamper_explain(
     s: &[u8; 24],
     job: u8,
     table: &[u8; 128],
@@ -124,20 +119,13 @@ pub extern "C" fn fenhamper_explain(
     ));
 }
 
-#[unsafe(no_mangle)]
-pub extern "C" fn fenhamper_client_data(
-    octets: usize,
-    at: usize,
-    length: usize,
-    part: &mut [u64; 2],
-)
+pub fn fenhamper_client_data(octets: usize, at: usize, length: usize, part: &mut [u64; 2])
     ensures { part.new ≡ part_within octets at length }
 {
     *part = crossing::part_within(octets, at, length);
 }
 
-#[unsafe(no_mangle)]
-pub extern "C" fn fenhamper_walk(
+pub fn fenhamper_walk(
     s: &[u8; 24],
     job: u8,
     table: &[u8; 128],
@@ -162,8 +150,7 @@ pub extern "C" fn fenhamper_walk(
     crossing::leave(state, answer[0], w.state);
 }
 
-#[unsafe(no_mangle)]
-pub extern "C" fn fenhamper_send_client(
+pub fn fenhamper_send_client(
     s: &[u8; 24],
     state: &mut [u64; 24],
     port: u8,
@@ -192,8 +179,7 @@ pub extern "C" fn fenhamper_send_client(
     crossing::leave(state, answer[0], r.state);
 }
 
-#[unsafe(no_mangle)]
-pub extern "C" fn fenhamper_send_pause(
+pub fn fenhamper_send_pause(
     s: &[u8; 24],
     state: &mut [u64; 24],
     port: u8,
@@ -220,8 +206,7 @@ pub extern "C" fn fenhamper_send_pause(
     crossing::leave(state, answer[0], r.state);
 }
 
-#[unsafe(no_mangle)]
-pub extern "C" fn fenhamper_send_pfc(
+pub fn fenhamper_send_pfc(
     s: &[u8; 24],
     state: &mut [u64; 24],
     port: u8,
@@ -249,8 +234,7 @@ pub extern "C" fn fenhamper_send_pfc(
     crossing::leave(state, answer[0], r.state);
 }
 
-#[unsafe(no_mangle)]
-pub extern "C" fn fenhamper_fill_idle(
+pub fn fenhamper_fill_idle(
     state: &mut [u64; 24],
     octets: &mut [u8],
     marks: &mut [u8],
@@ -266,8 +250,7 @@ pub extern "C" fn fenhamper_fill_idle(
     crossing::leave(state, answer[0], r.state);
 }
 
-#[unsafe(no_mangle)]
-pub extern "C" fn fenhamper_walk_log(
+pub fn fenhamper_walk_log(
     s: &[u8; 24],
     job: u8,
     table: &[u8; 128],
@@ -296,29 +279,25 @@ pub extern "C" fn fenhamper_walk_log(
     crossing::leave(state, answer[0], k.state);
 }
 
-#[unsafe(no_mangle)]
-pub extern "C" fn fenhamper_log_append(log: &mut [u8], record: &[u8; 16]) -> u32
+pub fn fenhamper_log_append(log: &mut [u8], record: &[u8; 16]) -> u32
     ensures { lodged result log.new ≡ log_told (appending log.old (record_of «record».now)) }
 {
     crossing::logged_number(reading_log::append(log, reading_log::record_of(record)))
 }
 
-#[unsafe(no_mangle)]
-pub extern "C" fn fenhamper_log_append_reading(log: &mut [u8], reading: &[u64; 12]) -> u32
+pub fn fenhamper_log_append_reading(log: &mut [u8], reading: &[u64; 12]) -> u32
     ensures { lodged result log.new ≡ log_told (appending log.old (record_named reading.now)) }
 {
     crossing::logged_number(reading_log::append(log, crossing::record_named(reading)))
 }
 
-#[unsafe(no_mangle)]
-pub extern "C" fn fenhamper_log_record(log: &[u8], number: usize, record: &mut [u8; 16]) -> u32
+pub fn fenhamper_log_record(log: &[u8], number: usize, record: &mut [u8; 16]) -> u32
     ensures { record_given result «record».new ≡ record_told «record».old (record_read log.now number) }
 {
     crossing::give_record(record, reading_log::read_record(log, number))
 }
 
-#[unsafe(no_mangle)]
-pub extern "C" fn fenhamper_log_next(log: &[u8], at: &mut usize, record: &mut [u8; 16]) -> u32
+pub fn fenhamper_log_next(log: &[u8], at: &mut usize, record: &mut [u8; 16]) -> u32
     ensures { step_given result at.new «record».new
         ≡ step_told «record».old (next_step log.now at.old) }
 {
@@ -328,49 +307,39 @@ pub extern "C" fn fenhamper_log_next(log: &[u8], at: &mut usize, record: &mut [u
     crossing::give_record(record, read)
 }
 
-#[unsafe(no_mangle)]
-pub extern "C" fn fenhamper_log_used(log: &[u8], used: &mut usize) -> u32
+pub fn fenhamper_log_used(log: &[u8], used: &mut usize) -> u32
     ensures { number_given result used.new ≡ number_told used.old (used_records log.now) }
 {
     crossing::give_number(used, reading_log::used_records(log))
 }
 
-#[unsafe(no_mangle)]
-pub extern "C" fn fenhamper_log_delete(log: &mut [u8], number: usize) -> u32
+pub fn fenhamper_log_delete(log: &mut [u8], number: usize) -> u32
     ensures { lodged result log.new ≡ log_told (deleting log.old number) }
 {
     crossing::logged_number(reading_log::delete(log, number))
 }
 
-#[unsafe(no_mangle)]
-pub extern "C" fn fenhamper_log_delete_outcome(
-    log: &mut [u8],
-    outcome: u8,
-    deleted: &mut usize,
-) -> u32
+pub fn fenhamper_log_delete_outcome(log: &mut [u8], outcome: u8, deleted: &mut usize) -> u32
     ensures { log_given result deleted.new log.new ≡ deleted_told deleted.old (deleting_all log.old outcome) }
 {
     crossing::give_number(deleted, reading_log::delete_outcome(log, outcome))
 }
 
-#[unsafe(no_mangle)]
-pub extern "C" fn fenhamper_log_compact(log: &mut [u8]) -> u32
+pub fn fenhamper_log_compact(log: &mut [u8]) -> u32
     ensures { lodged result log.new ≡ log_told (compacting log.old) }
 {
     crossing::logged_number(reading_log::compact(log))
 }
 
-// ---- the exported functions over the totals of a capture
+// ---- the functions over the totals of a capture
 
-#[unsafe(no_mangle)]
-pub extern "C" fn fenhamper_fill_totals(octets: &[u8], marks: &[u8], totals: &mut [u16]) -> u32
+pub fn fenhamper_fill_totals(octets: &[u8], marks: &[u8], totals: &mut [u16]) -> u32
     ensures { totals_given result totals.new ≡ fill_told (filled octets.now marks.now totals.old) }
 {
     crossing::checked_number(totals::fill_totals(octets, marks, totals))
 }
 
-#[unsafe(no_mangle)]
-pub extern "C" fn fenhamper_starts_before(
+pub fn fenhamper_starts_before(
     octets: &[u8],
     marks: &[u8],
     totals: &[u16],
@@ -413,8 +382,7 @@ fn check_counted(
     )
 }
 
-#[unsafe(no_mangle)]
-pub extern "C" fn fenhamper_send_client_counted(
+pub fn fenhamper_send_client_counted(
     s: &[u8; 24],
     state: &mut [u64; 24],
     port: u8,
@@ -439,8 +407,7 @@ pub extern "C" fn fenhamper_send_client_counted(
     totals::recount(octets, marks, totals, place, answer[1] as usize);
 }
 
-#[unsafe(no_mangle)]
-pub extern "C" fn fenhamper_send_pause_counted(
+pub fn fenhamper_send_pause_counted(
     s: &[u8; 24],
     state: &mut [u64; 24],
     port: u8,
@@ -464,8 +431,7 @@ pub extern "C" fn fenhamper_send_pause_counted(
     totals::recount(octets, marks, totals, place, answer[1] as usize);
 }
 
-#[unsafe(no_mangle)]
-pub extern "C" fn fenhamper_send_pfc_counted(
+pub fn fenhamper_send_pfc_counted(
     s: &[u8; 24],
     state: &mut [u64; 24],
     port: u8,
@@ -490,8 +456,7 @@ pub extern "C" fn fenhamper_send_pfc_counted(
     totals::recount(octets, marks, totals, place, answer[1] as usize);
 }
 
-#[unsafe(no_mangle)]
-pub extern "C" fn fenhamper_fill_idle_counted(
+pub fn fenhamper_fill_idle_counted(
     state: &mut [u64; 24],
     octets: &mut [u8],
     marks: &mut [u8],
@@ -513,22 +478,15 @@ pub extern "C" fn fenhamper_fill_idle_counted(
     totals::recount(octets, marks, totals, place, answer[1] as usize);
 }
 
-// ---- the exported functions of two jobs: the table that they share, and the screen
+// ---- the functions of two jobs: the table that they share, and the screen
 
-#[unsafe(no_mangle)]
-pub extern "C" fn fenhamper_table_empty(table: &mut [u8; 128])
+pub fn fenhamper_table_empty(table: &mut [u8; 128])
     ensures { table.new ≡ empty_table }
 {
     *table = table::empty();
 }
 
-#[unsafe(no_mangle)]
-pub extern "C" fn fenhamper_table_add(
-    table: &mut [u8; 128],
-    job: u8,
-    listed: &[u8; 6],
-    at: &mut usize,
-) -> u32
+pub fn fenhamper_table_add(table: &mut [u8; 128], job: u8, listed: &[u8; 6], at: &mut usize) -> u32
     ensures { table_given result at.new table.new
         ≡ table_told at.old (added job table.old (address_at listed.now 0)) }
 {
@@ -536,8 +494,7 @@ pub extern "C" fn fenhamper_table_add(
     crossing::give_entry(at, placed)
 }
 
-#[unsafe(no_mangle)]
-pub extern "C" fn fenhamper_table_remove(
+pub fn fenhamper_table_remove(
     table: &mut [u8; 128],
     job: u8,
     listed: &[u8; 6],
@@ -550,9 +507,8 @@ pub extern "C" fn fenhamper_table_remove(
     crossing::give_entry(at, placed)
 }
 
-// By the exported reading, so that the compiler goes on putting `receive::read` into that one. No state has a part in what it answers.
-#[unsafe(no_mangle)]
-pub extern "C" fn fenhamper_screen_data<'a>(
+// By `fenhamper_read`, so that the compiler goes on putting `receive::read` into that one. No state has a part in what it answers.
+pub fn fenhamper_screen_data<'a>(
     s: &[u8; 24],
     job: u8,
     table: &[u8; 128],
@@ -576,21 +532,15 @@ pub extern "C" fn fenhamper_screen_data<'a>(
     (read[0] % 4294967296) as u32
 }
 
-// ---- the exported functions of the plain reader (document 02, item 12)
+// ---- the functions of the plain reader (document 02, item 12)
 
-#[unsafe(no_mangle)]
-pub extern "C" fn fenhamper_plain_fresh(
-    reader: &mut [u64; 8],
-    first: &mut [u8; 53],
-    last: &mut [u8; 4],
-)
+pub fn fenhamper_plain_fresh(reader: &mut [u64; 8], first: &mut [u8; 53], last: &mut [u8; 4])
     ensures { reader_given reader.new first.new last.new ≡ reader_told (fresh_plain fresh) }
 {
     crossing::give_reader(reader, first, last, plain::fresh(station::fresh_state()));
 }
 
-#[unsafe(no_mangle)]
-pub extern "C" fn fenhamper_plain_symbol(
+pub fn fenhamper_plain_symbol(
     s: &[u8; 24],
     job: u8,
     table: &[u8; 128],
@@ -618,17 +568,15 @@ pub extern "C" fn fenhamper_plain_symbol(
     crossing::leave_counted(state, answer[1], after.state);
 }
 
-// ---- the exported functions of the size table (document 02, item 13)
+// ---- the functions of the size table (document 02, item 13)
 
-#[unsafe(no_mangle)]
-pub extern "C" fn fenhamper_sizes_fresh(sizes: &mut [u64; 14])
+pub fn fenhamper_sizes_fresh(sizes: &mut [u64; 14])
     ensures { sizes.new ≡ sizes_numbers fresh_sizes }
 {
     *sizes = crossing::sizes_numbers(sizes::fresh_sizes());
 }
 
-#[unsafe(no_mangle)]
-pub extern "C" fn fenhamper_sizes_add_capture(
+pub fn fenhamper_sizes_add_capture(
     s: &[u8; 24],
     job: u8,
     table: &[u8; 128],
@@ -653,8 +601,7 @@ pub extern "C" fn fenhamper_sizes_add_capture(
     crossing::checked_number(answer)
 }
 
-#[unsafe(no_mangle)]
-pub extern "C" fn fenhamper_sizes_add_table(sizes: &mut [u64; 14], more: &[u64; 14])
+pub fn fenhamper_sizes_add_table(sizes: &mut [u64; 14], more: &[u64; 14])
     ensures { sizes.new ≡ sizes_numbers (add_tables (sizes_of sizes.old) (sizes_of more.now)) }
 {
     let t = crossing::sizes_of(sizes);

@@ -1,5 +1,7 @@
 // The parts of a frame: octets and numbers in it, tags, the real field, and where data begins (document 01, "Frame"). Meaning: specs/.
 // `f` is always a whole frame. An octet beyond its end counts as 0, so that every function has an answer for a frame of any size.
+#![tactic(auto)]
+
 ghost use Rattle.std.specs.Prelude.{◌≡◌, ◌+◌, ◌*◌, ◌≤◌, ◌<◌, get_or, drop};
 ghost use Rattle.line.specs.Limits.{most_symbols, tag_size};
 ghost use Rattle.line.specs.Octets.{high_first_at};
@@ -10,7 +12,7 @@ ghost use Rattle.fields.specs.Places.{laid_out, layout_of};
 use line::{MOST_TAGS, TAG_SIZE};
 
 // How a frame is laid out.
-#[derive(Drop)]
+#[derive(Clone, Copy)]
 pub struct Layout {
     // how many tags stand before the real field
     pub tags: u8,

@@ -1,5 +1,7 @@
 // The screen call (document 02, item 10): the client data that a reading of the chosen job gives, a part of that job's capture and of no other.
 // Meaning: specs/.
+#![tactic(auto)]
+
 ghost use Rattle.std.specs.Prelude.{◌≡◌};
 ghost use Rattle.table.specs.Entries.{entries_of};
 ghost use Rattle.receive.specs.Values.{answer_part};

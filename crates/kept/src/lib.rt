@@ -1,4 +1,6 @@
 // What the plain reader keeps of a run (document 02, item 12), and document 01's rules, asked of that: no rule needs the run itself. Meaning: specs/.
+#![tactic(auto)]
+
 ghost use Rattle.std.specs.Prelude.{◌≡◌, not, ◌&&◌, ◌||◌, ◌+◌, ◌-◌, ◌≤◌, ◌<◌, ltb};
 ghost use Rattle.line.specs.Limits.{most_symbols, preamble_size, fcs_size};
 ghost use Rattle.line.specs.Octets.{same_octets};
@@ -16,7 +18,7 @@ use line::{FCS_SIZE, LEAD_SIZE, LEAST_FRAME, MOST_SYMBOLS, PREAMBLE_SIZE, TAG_SI
 use station::{Checked, Outcome, Part, Refusal, Settings, State};
 
 // What is kept of a run.
-#[derive(Drop)]
+#[derive(Clone, Copy)]
 pub struct Run {
     // the place of its Start
     pub start: u32,
@@ -31,7 +33,7 @@ pub struct Run {
 }
 
 // What the reader tells at a symbol.
-#[derive(Drop)]
+#[derive(Clone, Copy)]
 pub enum Told {
     Refused(Refusal),
     // no run ended here

@@ -1,4 +1,6 @@
 // The line: symbols, the search for a Start and the run after it (document 01, "The line" and "Reading one Start"). Meaning: specs/.
+#![tactic(auto)]
+
 ghost use Rattle.std.specs.Prelude.{◌≡◌, Bool, true, false, ℕ, ◌+◌, ◌≤◌, ◌<◌, length, get_or};
 ghost use Rattle.line.specs.Line.{capture, find_start, find_control};
 ghost use Rattle.line.specs.Octets.{low_first};
@@ -63,7 +65,7 @@ pub const MOST_HELD: usize = 12;
 // ---- The search
 
 // The search's answer: a place, or that there is none.
-#[derive(Drop)]
+#[derive(Clone, Copy)]
 pub enum Found {
     At(usize),
     Nothing,

@@ -1,4 +1,6 @@
 // Readings kept in a log (document 02, items 4 and 11), of a job and by the address table (item 10). Meaning: specs/.
+#![tactic(auto)]
+
 ghost use Rattle.std.specs.Prelude.{◌≡◌, true, false, ◌≤◌, length};
 ghost use Rattle.line.specs.Limits.{most_symbols};
 ghost use Rattle.line.specs.Table.{first};
@@ -21,21 +23,21 @@ use receive::{Answer, Reading};
 use station::{Checked, Outcome, Refusal, Settings, State};
 
 // Why a walk that keeps its readings is refused: by 1, 14, 2, 3 or 20, as a reading is, or by 11.
-#[derive(Drop)]
+#[derive(Clone, Copy)]
 pub enum KeepRefusal {
     ByReading(Refusal),
     ByLog(LogRefusal),
 }
 
 // What the table of its refusals gives: the first that holds, or that the walk goes on.
-#[derive(Drop)]
+#[derive(Clone, Copy)]
 pub enum KeepChecked {
     Fine,
     Refused(KeepRefusal),
 }
 
 // How such a walk ended.
-#[derive(Drop)]
+#[derive(Clone, Copy)]
 pub enum LogEnd {
     Refused(KeepRefusal),
     // `none`
@@ -46,7 +48,7 @@ pub enum LogEnd {
     Full,
 }
 
-#[derive(Drop)]
+#[derive(Clone, Copy)]
 pub struct LogWalk {
     pub end: LogEnd,
     pub state: State,

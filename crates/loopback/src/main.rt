@@ -1,10 +1,13 @@
 // What is sent is read back from behind damaged symbols (demand 3). Each frame of a capture is written by the sending calls,
 // and the readings from place 0 and the walk are printed; tools/oracle/loopback.py works the expected lines out from the oracle's model.
+#![tactic(auto)]
+
 ghost use Rattle.std.specs.Prelude.{◌<◌, ◌≤◌};
 
 use receive::{Answer, WalkAnswer};
 use send::Sending;
 use station::{Address, Flow, Part, Port, Settings, State};
+use std::io;
 use writing::{Client, Form, Kind, Tag};
 
 // ---- the two stations
@@ -94,82 +97,87 @@ fn three(o: &mut [u8], m: &mut [u8], place: usize) -> usize {
 
 // ---- what is printed
 
-fn word(w: &[u8]) {
-    io::write_all(1, b" ");
-    io::write_all(1, w);
+fn word(rt: &impl Print, w: &[u8]) -> io::Result<()> {
+    rt.write_all(b" ")?;
+    rt.write_all(w)
 }
 
-fn count(w: &[u8], n: u64) {
-    word(w);
-    io::write_all(1, b" ");
-    io::print_decimal(1, n);
+fn count(rt: &impl Print, w: &[u8], n: u64) -> io::Result<()> {
+    word(rt, w)?;
+    print!(rt; " {n}")
 }
 
-fn number(w: &[u8], n: usize) {
-    count(w, n as u64);
+fn number(rt: &impl Print, w: &[u8], n: usize) -> io::Result<()> {
+    count(rt, w, n as u64)
 }
 
 // Status word, and length and check of the client data.
-fn handed(status: u64, part: Part, octets: &[u8]) {
-    word(b"status ");
-    io::print_hex(1, status, 10);
+fn handed(rt: &impl Print, status: u64, part: Part, octets: &[u8]) -> io::Result<()> {
+    word(rt, b"status ")?;
+    print!(rt; "{status:010x}")?;
     let d = receive::client_data(octets, part);
-    number(b"data", d.len());
-    word(b"sum ");
+    number(rt, b"data", d.len())?;
+    word(rt, b"sum ")?;
     let sum = fcs::check(d);
-    io::print_hex(1, sum as u64, 8);
+    print!(rt; "{sum:08x}")
 }
 
-fn answer(a: Answer, octets: &[u8]) {
+fn answer(rt: &impl Print, a: Answer, octets: &[u8]) -> io::Result<()> {
     match a {
         Answer::Refused(x) => {
             let k = station::refusal_number(x);
-            number(b"refused", k as usize);
+            number(rt, b"refused", k as usize)
         }
-        Answer::Nothing => {
-            word(b"none");
-        }
-        Answer::Open => {
-            word(b"open");
-        }
+        Answer::Nothing => word(rt, b"none"),
+        Answer::Open => word(rt, b"open"),
         Answer::Counted(o, status, part, _way) => {
             let k = station::outcome_number(o);
-            number(b"outcome", k as usize);
-            handed(status, part, octets);
+            number(rt, b"outcome", k as usize)?;
+            handed(rt, status, part, octets)
         }
     }
 }
 
-fn reading_line(name: &[u8], a: Answer, start: usize, next: usize, octets: &[u8]) {
-    io::write_all(1, name);
-    io::write_all(1, b":");
-    answer(a, octets);
-    number(b"start", start);
-    number(b"next", next);
-    io::write_all(1, b"\n");
+fn reading_line(
+    rt: &impl Print,
+    name: &[u8],
+    a: Answer,
+    start: usize,
+    next: usize,
+    octets: &[u8],
+) -> io::Result<()> {
+    rt.write_all(name)?;
+    rt.write_all(b":")?;
+    answer(rt, a, octets)?;
+    number(rt, b"start", start)?;
+    number(rt, b"next", next)?;
+    rt.write_all(b"\n")
 }
 
-fn walk_line(name: &[u8], octets: &[u8], marks: &[u8]) {
-    let none = table::empty();
-    let end = receive::walk(settings(2), 0, &none, station::fresh_state(), octets, marks);
-    io::write_all(1, name);
-    io::write_all(1, b":");
-    let a = end.answer;
+fn walk_answer(rt: &impl Print, a: WalkAnswer) -> io::Result<()> {
     match a {
         WalkAnswer::Refused(x) => {
             let k = station::refusal_number(x);
-            number(b"walk refused", k as usize);
+            number(rt, b"walk refused", k as usize)
         }
         WalkAnswer::Ended(n, open) => {
-            number(b"walk", n);
-            number(b"open", open as usize);
+            number(rt, b"walk", n)?;
+            number(rt, b"open", open as usize)
         }
     }
+}
+
+fn walk_line(rt: &impl Print, name: &[u8], octets: &[u8], marks: &[u8]) -> io::Result<()> {
+    let none = table::empty();
+    let end = receive::walk(settings(2), 0, &none, station::fresh_state(), octets, marks);
+    rt.write_all(name)?;
+    rt.write_all(b":")?;
+    walk_answer(rt, end.answer)?;
     let after = end.state;
     let c = after.counters;
-    count(b"cut", c[0]);
-    count(b"handed out", c[10]);
-    io::write_all(1, b"\n");
+    count(rt, b"cut", c[0])?;
+    count(rt, b"handed out", c[10])?;
+    rt.write_all(b"\n")
 }
 
 fn is_counted(a: Answer) -> bool {
@@ -189,7 +197,7 @@ fn turn_after(k: usize, on: bool) -> usize
 }
 
 // The readings from place 0 on, each at the next place of the one before, sixteen at most; and the walk.
-fn every(name: &[u8], octets: &[u8], marks: &[u8]) {
+fn every(rt: &impl Print, name: &[u8], octets: &[u8], marks: &[u8]) -> io::Result<()> {
     let none = table::empty();
     let mut state = station::fresh_state();
     let mut at: usize = 0;
@@ -197,60 +205,60 @@ fn every(name: &[u8], octets: &[u8], marks: &[u8]) {
     while k < 16 {
         let r = receive::read(settings(2), 0, &none, state, octets, marks, at);
         let a = r.answer;
-        reading_line(name, a, r.start, r.next, octets);
+        reading_line(rt, name, a, r.start, r.next, octets)?;
         state = r.state;
         at = r.next;
         k = turn_after(k, is_counted(a));
     }
-    walk_line(name, octets, marks);
+    walk_line(rt, name, octets, marks)
 }
 
 // ---- what stands before the frames
 
 // Nothing but Idles.
-fn clean() {
+fn clean(rt: &impl Print) -> io::Result<()> {
     let mut o = [0u8; 400];
     let mut m = [0u8; 400];
     let a = idles(&mut o, &mut m, 0, 9);
     let b = three(&mut o, &mut m, a);
     idles(&mut o, &mut m, b, 5);
-    every(b"clean", &o, &m);
+    every(rt, b"clean", &o, &m)
 }
 
 // A frame that an Error cuts.
-fn cut() {
+fn cut(rt: &impl Print) -> io::Result<()> {
     let mut o = [0u8; 400];
     let mut m = [0u8; 400];
     let c = client(0, Form::ByLength);
     let a = sent(&mut o, &mut m, 0, c, b"cut");
     damage(&mut o, &mut m, 40, 0xFE, 1);
     three(&mut o, &mut m, a);
-    every(b"cut frame", &o, &m);
+    every(rt, b"cut frame", &o, &m)
 }
 
 // A frame with one octet turned.
-fn turned() {
+fn turned(rt: &impl Print) -> io::Result<()> {
     let mut o = [0u8; 400];
     let mut m = [0u8; 400];
     let c = client(0, Form::ByLength);
     let a = sent(&mut o, &mut m, 0, c, b"turned");
     damage(&mut o, &mut m, 30, 0x99, 0);
     three(&mut o, &mut m, a);
-    every(b"turned octet", &o, &m);
+    every(rt, b"turned octet", &o, &m)
 }
 
 // A frame that is overwritten from its middle on: its run ends at the Start of the next.
-fn overrun() {
+fn overrun(rt: &impl Print) -> io::Result<()> {
     let mut o = [0u8; 400];
     let mut m = [0u8; 400];
     let c = client(0, Form::ByLength);
     sent(&mut o, &mut m, 0, c, b"overrun");
     three(&mut o, &mut m, 50);
-    every(b"open run", &o, &m);
+    every(rt, b"open run", &o, &m)
 }
 
 // Data with no Start, a Start with a wrong preamble, and other controls.
-fn noise() {
+fn noise(rt: &impl Print) -> io::Result<()> {
     let mut o = [0xFBu8; 400];
     let mut m = [0u8; 400];
     damage(&mut o, &mut m, 3, 0x9C, 1);
@@ -258,16 +266,16 @@ fn noise() {
     damage(&mut o, &mut m, 17, 0xFD, 255);
     damage(&mut o, &mut m, 20, 0xFB, 1);
     three(&mut o, &mut m, 25);
-    every(b"noise", &o, &m);
+    every(rt, b"noise", &o, &m)
 }
 
 // A Start behind the last frame stays open.
-fn open_behind() {
+fn open_behind(rt: &impl Print) -> io::Result<()> {
     let mut o = [0u8; 400];
     let mut m = [0u8; 400];
     let a = three(&mut o, &mut m, 0);
     damage(&mut o, &mut m, a, 0xFB, 1);
-    every(b"open behind", &o, &m);
+    every(rt, b"open behind", &o, &m)
 }
 
 // A frame from station 1 on the four-lane port, from where the one before ended and with the state that it left.
@@ -286,7 +294,7 @@ fn on_lanes(o: &mut [u8], m: &mut [u8], before: Sending, d: &[u8]) -> Sending {
 }
 
 // Frames on the four-lane port, of which an Error cuts the first: gaps of 12, 11, 10 and 13.
-fn four_lanes() {
+fn four_lanes(rt: &impl Print) -> io::Result<()> {
     let mut o = [0u8; 400];
     let mut m = [0u8; 400];
     let start = send::fill_idle(station::fresh_state(), &mut o, &mut m, 0, 0);
@@ -310,15 +318,15 @@ fn four_lanes() {
         c,
         b"forty-nine octets: behind them a gap of thirteen!",
     );
-    every(b"four lanes", &o, &m);
+    every(rt, b"four lanes", &o, &m)
 }
 
-fn main() {
-    clean();
-    cut();
-    turned();
-    overrun();
-    noise();
-    open_behind();
-    four_lanes();
+fn main(rt: HostRuntime) -> io::Result<()> {
+    clean(&rt)?;
+    cut(&rt)?;
+    turned(&rt)?;
+    overrun(&rt)?;
+    noise(&rt)?;
+    open_behind(&rt)?;
+    four_lanes(&rt)
 }

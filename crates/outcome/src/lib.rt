@@ -1,4 +1,6 @@
 // What becomes of one run: the table of outcomes and the status word (document 01, "Reading one Start", "Status word"). Meaning: specs/.
+#![tactic(auto)]
+
 ghost use Rattle.std.specs.Prelude.{◌≡◌, true, not, cond, ◌&&◌, ◌≤◌, length, take};
 ghost use Rattle.line.specs.Limits.{most_symbols};
 ghost use Rattle.line.specs.Table.{first};
@@ -18,14 +20,14 @@ use line::{LEAST_TYPE, PREAMBLE_SIZE};
 use station::{Address, Outcome, Settings};
 
 // What rules 1 to 3 leave: an outcome, or a frame that is to be looked at.
-#[derive(Drop)]
+#[derive(Clone, Copy)]
 enum Early {
     Decided(Outcome),
     Framed,
 }
 
 // The outcome of a run, and the check that rule 5 compared with: 0 where an earlier rule held.
-#[derive(Drop)]
+#[derive(Clone, Copy)]
 pub struct Judged {
     pub outcome: Outcome,
     pub check: u32,

@@ -1,5 +1,7 @@
 // A reader that takes one symbol at a time (document 02, item 12). It keeps no capture: of the run in progress it keeps a count, the first octets,
 // the last four and a running FCS, and it answers at the control symbol that ends the run. Meaning: specs/.
+#![tactic(auto)]
+
 ghost use Rattle.std.specs.Prelude.{◌≡◌};
 ghost use Rattle.table.specs.Entries.{entries_of};
 ghost use Rattle.plain.specs.Plain.{fresh_plain, grown, step};
@@ -9,7 +11,7 @@ use line::{FCS_SIZE, PREAMBLE_SIZE};
 use station::{Checked, Settings, State};
 
 // The reader between two symbols.
-#[derive(Drop)]
+#[derive(Clone, Copy)]
 pub struct Plain {
     // how many symbols were taken, which is the place of the next one
     pub place: u32,
@@ -22,7 +24,7 @@ pub struct Plain {
 }
 
 // What is told at a symbol, and the reader behind it.
-#[derive(Drop)]
+#[derive(Clone, Copy)]
 pub struct Step {
     pub told: Told,
     pub plain: Plain,

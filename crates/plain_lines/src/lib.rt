@@ -1,5 +1,7 @@
 // What the printing program prints (document 01, "The printing program"), by the plain reader (document 02, item 12): it goes through the records of its
 // input symbol by symbol and keeps no capture. What it prints is the definition of crate `lines`, so that it is the same on every input.
+#![tactic(auto)]
+
 ghost use Rattle.std.specs.Prelude.{◌≡◌, false, cond, ◌≤◌, length};
 ghost use Rattle.line.specs.Line.{overwrite};
 ghost use Rattle.printing.specs.Lines.{bad_input, printed};

@@ -1,4 +1,6 @@
 // What the printing program prints (document 01, "The printing program"). Meaning: specs/.
+#![tactic(auto)]
+
 ghost use Rattle.std.specs.Prelude.{◌≡◌, false, [], ◌∷◌, ◌+◌, ◌-◌, ◌*◌, ◌/◌, ◌≤◌, min, length};
 ghost use Rattle.line.specs.Limits.{most_records};
 ghost use Rattle.line.specs.Line.{overwrite};

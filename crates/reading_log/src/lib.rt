@@ -1,4 +1,6 @@
 // The reading log (document 02, items 4 and 11): records of 16 octets in a lent buffer. Meaning: specs/.
+#![tactic(auto)]
+
 ghost use Rattle.std.specs.Prelude.{◌≡◌, ◌+◌, ◌*◌, ◌%◌, ◌≤◌, ◌<◌, ◌^◌, ◌++◌, length};
 ghost use Rattle.line.specs.Limits.{record_size};
 ghost use Rattle.line.specs.Line.{overwrite};
@@ -13,7 +15,7 @@ ghost use Rattle.reading_log.specs.Steps.{moved_log, moved_count};
 use line::RECORD_SIZE;
 
 // The five fields of a record, at their widths.
-#[derive(Drop)]
+#[derive(Clone, Copy)]
 pub struct Record {
     pub place: u32,
     // an outcome's number; 0 for `none`, `open` and a refused reading
@@ -26,7 +28,7 @@ pub struct Record {
 }
 
 // Refusals 11 to 13.
-#[derive(Drop)]
+#[derive(Clone, Copy)]
 pub enum LogRefusal {
     BadLog,
     LogFull,
@@ -34,28 +36,28 @@ pub enum LogRefusal {
 }
 
 // What a table of the log's refusals gives: the first that holds, or that the call goes on.
-#[derive(Drop)]
+#[derive(Clone, Copy)]
 pub enum Logged {
     Fine,
     Refused(LogRefusal),
 }
 
 // What is read of a log.
-#[derive(Drop)]
+#[derive(Clone, Copy)]
 pub enum LogRead {
     Refused(LogRefusal),
     Holds(Record),
 }
 
 // The number of a record, or a number of records.
-#[derive(Drop)]
+#[derive(Clone, Copy)]
 pub enum LogNumber {
     Refused(LogRefusal),
     Number(usize),
 }
 
 // What a reader hands out, and its record number after that.
-#[derive(Drop)]
+#[derive(Clone, Copy)]
 pub struct Step {
     pub read: LogRead,
     pub at: usize,

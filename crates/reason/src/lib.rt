@@ -1,4 +1,6 @@
 // Why a Start has its outcome (document 02, item 8), in a reading of a job (item 10). Meaning: specs/.
+#![tactic(auto)]
+
 ghost use Rattle.std.specs.Prelude.{◌≡◌, ◌≤◌, ◌<◌, length};
 ghost use Rattle.line.specs.Limits.{most_symbols, preamble_size, fcs_size};
 ghost use Rattle.line.specs.Line.{preamble};
@@ -14,11 +16,11 @@ use outcome::Judged;
 use station::{Checked, Outcome, Refusal, Settings};
 
 // Six octets of an address: an enum may not hold an array.
-#[derive(Drop)]
+#[derive(Clone, Copy)]
 pub struct Six(pub u8, pub u8, pub u8, pub u8, pub u8, pub u8);
 
 // The reason of each outcome, with its evidence.
-#[derive(Drop)]
+#[derive(Clone, Copy)]
 pub enum Reason {
     // 1: place and octet of the ending symbol
     CutAt(usize, u8),
@@ -45,7 +47,7 @@ pub enum Reason {
 }
 
 // What the tool answers: `none` and `open` have no reason.
-#[derive(Drop)]
+#[derive(Clone, Copy)]
 pub enum Why {
     Refused(Refusal),
     Nothing,
@@ -53,7 +55,7 @@ pub enum Why {
     Because(Reason),
 }
 
-#[derive(Drop)]
+#[derive(Clone, Copy)]
 pub struct Explained {
     pub answer: Why,
     // the Start's place

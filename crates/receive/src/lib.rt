@@ -1,5 +1,7 @@
 // Reading (document 01, "Reading one Start", "Refusals and their order"), of a job, by the address table that two jobs share (document 02, item 10).
 // Meaning: specs/.
+#![tactic(auto)]
+
 ghost use Rattle.std.specs.Prelude.{◌≡◌, ◌+◌, ◌≤◌, true, length};
 ghost use Rattle.line.specs.Limits.{most_symbols};
 ghost use Rattle.line.specs.Table.{first};
@@ -15,7 +17,7 @@ use line::{Found, LEAD_SIZE};
 use station::{Checked, Outcome, Part, Refusal, Settings, State};
 
 // What a reading answers. The state holds arrays, which an enum may not: it stands beside the answer.
-#[derive(Drop)]
+#[derive(Clone, Copy)]
 pub enum Answer {
     Refused(Refusal),
     // `none`
@@ -27,7 +29,7 @@ pub enum Answer {
     Counted(Outcome, u64, Part, u8),
 }
 
-#[derive(Drop)]
+#[derive(Clone, Copy)]
 pub struct Reading {
     pub answer: Answer,
     // the Start's place
@@ -38,7 +40,7 @@ pub struct Reading {
 }
 
 // What a reading sees, whatever the state is.
-#[derive(Drop)]
+#[derive(Clone, Copy)]
 struct Sight {
     answer: Answer,
     start: usize,
@@ -46,14 +48,14 @@ struct Sight {
 }
 
 // What a walk over a whole capture answers; the state stands beside it.
-#[derive(Drop)]
+#[derive(Clone, Copy)]
 pub enum WalkAnswer {
     Refused(Refusal),
     // how many Starts were counted, and whether the walk ended `open`
     Ended(usize, bool),
 }
 
-#[derive(Drop)]
+#[derive(Clone, Copy)]
 pub struct Walking {
     pub answer: WalkAnswer,
     pub state: State,

@@ -1,4 +1,6 @@
 // Sending (document 01, "Sending", "Refusals and their order"): the refusals of each call, and the call. Meaning: specs/.
+#![tactic(auto)]
+
 ghost use Rattle.std.specs.Prelude.{◌≡◌, List, ℕ, ◌+◌, ◌-◌, ◌≤◌, ◌<◌, ◌*◌, ltb, length};
 ghost use Rattle.line.specs.Limits.{most_symbols, tag_size, least_data, least_limit, most_class, least_body, around_body};
 ghost use Rattle.line.specs.Table.{first};
@@ -17,13 +19,13 @@ use station::{Checked, Port, Quanta, Refusal, Settings, State};
 use writing::{Classes, Client, Form, Gap};
 
 // What a sending call answers; the place and the state stand beside it.
-#[derive(Drop)]
+#[derive(Clone, Copy)]
 pub enum SendAnswer {
     Wrote,
     Refused(Refusal),
 }
 
-#[derive(Drop)]
+#[derive(Clone, Copy)]
 pub struct Sending {
     pub answer: SendAnswer,
     // the place after what was written; of a refusal the place of the call
@@ -32,7 +34,7 @@ pub struct Sending {
 }
 
 // What the refusals of a frame come to: one of them, or the gap behind the frame, which is reckoned once.
-#[derive(Drop)]
+#[derive(Clone, Copy)]
 enum Framing {
     Goes(Gap),
     Refused(Refusal),

@@ -1,4 +1,6 @@
 // What the crew's program `size_table` prints (document 02, item 13): the size table of a capture, a line with a bar for each band. Meaning: specs/.
+#![tactic(auto)]
+
 ghost use Rattle.std.specs.Prelude.{◌≡◌, false, ◌+◌, ◌≤◌, ◌<◌, length};
 ghost use Rattle.line.specs.Limits.{most_records};
 ghost use Rattle.line.specs.Line.{overwrite};

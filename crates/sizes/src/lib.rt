@@ -1,4 +1,6 @@
 // The size table for a day of captures (document 02, item 13). Meaning: specs/.
+#![tactic(auto)]
+
 ghost use Rattle.std.specs.Prelude.{◌≡◌, ◌<◌};
 ghost use Rattle.line.specs.Table.{first};
 ghost use Rattle.fcs.specs.Lent.{Lent};
@@ -13,14 +15,14 @@ use line::Found;
 use station::{Checked, Outcome, Settings};
 
 // Frames and octets of each band, from the shortest frames up.
-#[derive(Drop)]
+#[derive(Clone, Copy)]
 pub struct SizeTable {
     pub frames: [u64; 7],
     pub octets: [u64; 7],
 }
 
 // What adding a capture gives: its refusal, if any, and the table.
-#[derive(Drop)]
+#[derive(Clone, Copy)]
 pub struct Added {
     pub answer: Checked,
     pub sizes: SizeTable,

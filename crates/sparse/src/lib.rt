@@ -2,6 +2,8 @@
 // taken off and xored in at four places further on, and the register at the end is the same. A word at a time in a carry, for messages of some length; an
 // octet at a time in a window, which the compiler makes sixteen at a time, for long ones. The laws are proofs/Multiple.antt, proofs/Words.antt and
 // proofs/Octets.antt. What is public here is so for this repository's crates only.
+#![tactic(auto)]
+
 ghost use Rattle.std.specs.Prelude.{◌≡◌, ℕ, ◌+◌, ◌≤◌, ◌<◌, length, take, get_or};
 ghost use Rattle.std.specs.Int.Bits.{bit_xor};
 ghost use Rattle.crc.specs.Crc.{crc_over};
@@ -11,7 +13,7 @@ ghost use Rattle.sparse.specs.Octets.{out_of, carried_on, Cut, Moved, Cleared, E
 // ---- words in a carry
 
 // What is to be xored into the next five words of eight octets.
-#[derive(Drop)]
+#[derive(Clone, Copy)]
 pub struct Carry {
     pub a: u64,
     pub b: u64,

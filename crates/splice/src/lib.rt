@@ -1,4 +1,6 @@
 // Writing octets over a lent buffer. These are public for this repository's crates only, since each asks for the room that it writes to.
+#![tactic(auto)]
+
 ghost use Rattle.std.specs.Prelude.{◌+◌, ◌≤◌, length, replicate};
 ghost use Rattle.splice.specs.Written.{Put};
 

@@ -1,5 +1,7 @@
 // What a station is set to, what it counts and times, and the names of outcomes and refusals (document 01).
 // Struct fields have no underscore, so that the definitions read them with no quotes; what each stands for is said beside it.
+#![tactic(auto)]
+
 ghost use Rattle.std.specs.Prelude.{◌≡◌};
 ghost use Rattle.station.specs.Numbers.{outcome_number, refusal_number};
 ghost use Rattle.station.specs.Station.{bad_settings, bad_buffers, bad_place, bad_start, high_deficit, counted, fresh, screen_of, is_pause_mode, is_pfc_mode};
@@ -7,18 +9,18 @@ ghost use Rattle.station.specs.Station.{bad_settings, bad_buffers, bad_place, ba
 use line::{LANES, LEAST_LIMIT, MOST_DEFICIT, MOST_LIMIT, MOST_SYMBOLS};
 
 // Six octets.
-#[derive(Drop)]
+#[derive(Clone, Copy)]
 pub struct Address(pub [u8; 6]);
 
 // "Flow mode is none, `pause` or `PFC`."
-#[derive(Drop)]
+#[derive(Clone, Copy)]
 pub enum Flow {
     Off,
     Pause,
     Pfc,
 }
 
-#[derive(Drop)]
+#[derive(Clone, Copy)]
 pub struct Settings {
     pub own: Address,
     pub broadcast: bool,
@@ -33,20 +35,20 @@ pub struct Settings {
 }
 
 // A count of quanta never stands where a count of slots does: two types, and one conversion (flow).
-#[derive(Drop)]
+#[derive(Clone, Copy)]
 pub struct Quanta(pub u16);
 
-#[derive(Drop)]
+#[derive(Clone, Copy)]
 pub struct Slots(pub u32);
 
 // The port that a frame is sent on: a plain one, or the four-lane port of document 02, item 5, which "accepts Start only at places divisible by four".
-#[derive(Drop)]
+#[derive(Clone, Copy)]
 pub enum Port {
     Plain,
     FourLane,
 }
 
-#[derive(Drop)]
+#[derive(Clone, Copy)]
 pub struct State {
     // in the order of the outcomes
     pub counters: [u64; 11],
@@ -57,7 +59,7 @@ pub struct State {
 }
 
 // Outcomes 1 to 11, in their order.
-#[derive(Drop)]
+#[derive(Clone, Copy)]
 pub enum Outcome {
     Cut,
     BadPreamble,
@@ -73,7 +75,7 @@ pub enum Outcome {
 }
 
 // Refusals by number, 1 to 10 and 14 to 22; their place among the tests is the affair of each call's table.
-#[derive(Drop)]
+#[derive(Clone, Copy)]
 pub enum Refusal {
     BadSettings,
     BadBuffers,
@@ -97,14 +99,14 @@ pub enum Refusal {
 }
 
 // What a table of refusals gives: the first refusal that holds, or that the call goes on.
-#[derive(Drop)]
+#[derive(Clone, Copy)]
 pub enum Checked {
     Fine,
     Refused(Refusal),
 }
 
 // A part of the captured octets: from place `at` on, `len` of them.
-#[derive(Drop)]
+#[derive(Clone, Copy)]
 pub struct Part {
     pub at: usize,
     pub len: usize,

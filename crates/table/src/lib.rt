@@ -2,6 +2,8 @@
 // Meaning: specs/.
 // The caller lends its 128 octets, eight for each of 16 entries: who holds it (0 nobody, 1 job 0, 2 job 1, any other nobody), the six of the address,
 // and a spare one. `f` is always a whole frame.
+#![tactic(auto)]
+
 ghost use Rattle.std.specs.Prelude.{◌≡◌, true, false, ℕ, ◌≤◌, ◌<◌, ◌+◌, ◌*◌, length, get_or, drop};
 ghost use Rattle.fields.specs.Fields.{destination};
 ghost use Rattle.table.specs.Entries.{holder_by, address_at, entry_at, entries_of, is_held, is_free, free_entry, own_at, own_entries, held, names, first_mine, is_found};
@@ -16,21 +18,21 @@ use line::{Found, MOST_HELD, TABLE_ENTRIES};
 use station::{Address, Checked, Refusal, Settings};
 
 // Who holds an entry.
-#[derive(Drop)]
+#[derive(Clone, Copy)]
 pub enum Holder {
     Nobody,
     JobZero,
     JobOne,
 }
 
-#[derive(Drop)]
+#[derive(Clone, Copy)]
 pub struct Entry {
     pub holder: Holder,
     pub address: Address,
 }
 
 // What a table call answers: the entry that was taken or freed, or the refusal.
-#[derive(Drop)]
+#[derive(Clone, Copy)]
 pub enum Placed {
     Refused(Refusal),
     At(usize),

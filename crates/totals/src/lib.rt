@@ -1,4 +1,6 @@
 // Starts per stretch (document 02, item 9): a total for each block of 256 symbols, lent beside the capture. Meaning: specs/.
+#![tactic(auto)]
+
 ghost use Rattle.std.specs.Prelude.{◌≡◌, Bool, true, false, cond, ◌+◌, ◌-◌, ◌*◌, ◌/◌, ◌≤◌, ◌<◌, length, take};
 ghost use Rattle.line.specs.Limits.{most_symbols, block_size};
 ghost use Rattle.line.specs.Line.{capture, is_start};
@@ -10,7 +12,7 @@ use line::{BLOCK_SIZE, MOST_TOTAL};
 use station::{Checked, Refusal};
 
 // The answer to how many Starts lie before a place.
-#[derive(Drop)]
+#[derive(Clone, Copy)]
 pub enum Count {
     Starts(usize),
     Refused(Refusal),

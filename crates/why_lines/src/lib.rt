@@ -1,4 +1,6 @@
 // What the crew's program `why` prints (document 02, item 8): for each counted Start a line that says why it has its outcome. Meaning: specs/.
+#![tactic(auto)]
+
 ghost use Rattle.std.specs.Prelude.{◌≡◌, false, ◌+◌, ◌*◌, ◌<◌, ◌≤◌, length};
 ghost use Rattle.line.specs.Limits.{most_records};
 ghost use Rattle.line.specs.Line.{overwrite};

@@ -1,5 +1,7 @@
 // Writing frames as line symbols (document 01, "Sending"): each of the last four functions is one kind of frame, from a place on, where its
 // caller has seen that it fits. Meaning: specs/.
+#![tactic(auto)]
+
 ghost use Rattle.std.specs.Prelude.{◌≡◌, cond, ◌++◌, ◌+◌, ◌-◌, ◌*◌, ◌%◌, ◌≤◌, ◌<◌, eqb, length, take};
 ghost use Rattle.line.specs.Limits.{lead_size, tag_size, least_data, most_tags};
 ghost use Rattle.line.specs.Octets.{high_first};
@@ -13,28 +15,28 @@ use splice::{fill, put};
 use station::{Address, Port, Quanta, Settings};
 
 // The kinds of tag: 0x8100, and 0x88A8 of a provider.
-#[derive(Drop)]
+#[derive(Clone, Copy)]
 pub enum Kind {
     Customer,
     Service,
 }
 
 // A tag: its kind and its tag control.
-#[derive(Drop)]
+#[derive(Clone, Copy)]
 pub struct Tag {
     pub kind: Kind,
     pub control: u16,
 }
 
 // The field: the data's length, or a type.
-#[derive(Drop)]
+#[derive(Clone, Copy)]
 pub enum Form {
     ByLength,
     ByType(u16),
 }
 
 // A client frame but for its data, which is lent beside it as a slice.
-#[derive(Drop)]
+#[derive(Clone, Copy)]
 pub struct Client {
     pub dest: Address,
     // the outermost tag first
@@ -46,14 +48,14 @@ pub struct Client {
 }
 
 // A gap: how many symbols it is, Terminate included, and the deficit count after it.
-#[derive(Drop)]
+#[derive(Clone, Copy)]
 pub struct Gap {
     pub size: usize,
     pub count: u64,
 }
 
 // What a PFC frame says: the class octet, and a count of quanta for each class.
-#[derive(Drop)]
+#[derive(Clone, Copy)]
 pub struct Classes {
     pub named: u8,
     pub quanta: [Quanta; 8],
