@@ -1,5 +1,5 @@
 -- Document 02, item 9, of the sending calls with totals, each claim one statement over the four of them: what a call leaves in the totals (`totals-left`,
--- block by block `each-block`); a refused call changes none (`refused_none`); true totals stay true (`sends-true`); the number it gives is that of its
+-- block by block `each_block`); a refused call changes none (`refused_none`); true totals stay true (`sends-true`); the number it gives is that of its
 -- whole table of refusals (`number-given`), and but for its totals it is the call without them with that table (`counted-sent`). Assumes nothing.
 use Prim.Native.Nat.{ℕ, zero, suc, ◌+◌, ◌<◌}
 use native.Mathlib.Omega.{arith}

@@ -1,5 +1,5 @@
 -- Document 02, item 9, over any sequence of the calls on one capture: every call keeps true totals true (`calls-true`), and so the question's answer is a
--- count over everything before the place (`always-right`), whatever the totals were from a filling on (`right-since-filled`). Assumes nothing.
+-- count over everything before the place (`always_right`), whatever the totals were from a filling on (`right_since_filled`). Assumes nothing.
 use Prim.Native.Nat.{ℕ}
 use mathlib.Core.Path.{◌≡◌, refl}
 use mathlib.Core.List.{List, [], ◌∷◌}

@@ -7,7 +7,7 @@
 use mathlib.Core.Path.{◌≡◌, refl, sym, ap, ap₂, ◌∙◌, subst}
 use mathlib.Core.List.{List, [], ◌∷◌, ◌++◌}
 use Prim.Native.Nat.{ℕ, zero, suc, ◌+◌, ◌*◌, ◌/◌, ◌%◌, ◌-◌, ◌^◌, ◌≤◌, ◌<◌}
-use native.Mathlib.Nat.{mod-lt, zero-lt-suc, mul-mod_left, mul-div_cancel, mul_assoc, pow-suc, mul-one, add_comm, div-add-mod', div-lt_iff_lt-mul, add-zero, zero-add, suc-add, not-suc-le-zero, lt_of_lt_of_le}
+use native.Mathlib.Nat.{mod-lt, zero-lt-suc, mul-mod_left, mul-div_cancel, mul_assoc, pow-suc, mul-one, add_comm, div-add-mod', div-lt_iff_lt-mul, zero-add, suc-add, not-suc-le-zero, lt_of_lt_of_le}
 use native.Mathlib.Numerals.{add-one, unary_clauses}
 use native.Mathlib.Omega.{arith}
 use lib.Bits.{bit_xor, differ, xor_comm, xor_zero_r, xor_shifted, xor_lt}

@@ -1,7 +1,6 @@
 -- The check value of the CRC-32 that is published: the definition computes to it.
 use mathlib.Core.Path.{◌≡◌, refl}
-use mathlib.Core.List.{List, [], ◌∷◌}
-use Prim.Native.Nat.{ℕ}
+use mathlib.Core.List.{[], ◌∷◌}
 use Rattle.crc.specs.Crc.{crc_octet}
 use Rattle.fcs.specs.Fcs.{fcs_of}
 

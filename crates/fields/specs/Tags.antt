@@ -1,5 +1,5 @@
 -- Document 01, "Frame", and document 02, item 1: tags.
-use Rattle.std.specs.Prelude.{ℕ, zero, suc, ◌+◌, ◌*◌, Bool, true, false, ◌||◌, List, drop, eqb}
+use Rattle.std.specs.Prelude.{ℕ, zero, suc, ◌+◌, Bool, true, false, ◌||◌, List, drop, eqb}
 use Rattle.line.specs.Limits.{tag_size, most_tags}
 use Rattle.line.specs.Octets.{high_first_at}
 

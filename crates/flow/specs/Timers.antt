@@ -1,5 +1,5 @@
 -- Document 01, "Control frames": the eight timers, set by reading; and "Sending": lowered by sending.
-use Rattle.std.specs.Prelude.{ℕ, ◌+◌, ◌-◌, ◌*◌, ◌/◌, ◌%◌, Bool, true, false, cond, List, [], ◌∷◌, get_or, drop, eqb}
+use Rattle.std.specs.Prelude.{ℕ, ◌-◌, ◌*◌, ◌/◌, ◌%◌, Bool, true, false, cond, List, [], ◌∷◌, get_or, drop, eqb}
 use Rattle.line.specs.Limits.{quantum_slots}
 use Rattle.line.specs.Octets.{high_first_at}
 use Rattle.station.specs.declared.Slots.{Slots}

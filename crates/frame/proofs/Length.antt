@@ -6,7 +6,7 @@ use mathlib.Core.Bool.{Bool, true, false, not, ◌&&◌, ◌||◌, cond}
 use mathlib.Core.List.{List, []}
 use lib.ListN.{length, take, length-take, length-drop}
 use lib.Dec.{eqb, ltb}
-use borrow.Author.Tests.{lt-ltb, le-ltb, le-leb, lt-leb}
+use borrow.Author.Tests.{le-leb, lt-leb}
 use Rattle.line.specs.Limits.{fcs_size, least_type, most_length, least_data}
 use Rattle.line.specs.Octets.{between}
 use Rattle.line.proofs.Tables.{first-here, first_next, first-other}

@@ -1,4 +1,4 @@
--- Document 02, item 10, its claims on the screen call: the data is what a reading of that job alone gives, with any state (`job-0-alone`, `job-1-alone`).
+-- Document 02, item 10, its claims on the screen call: the data is what a reading of that job alone gives, with any state (`job_0_alone`, `job_1_alone`).
 -- Assumes nothing.
 use Prim.Native.Nat.{ℕ, ◌+◌}
 use mathlib.Core.Path.{◌≡◌, refl, ap}

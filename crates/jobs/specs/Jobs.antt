@@ -12,7 +12,7 @@ use Rattle.receive.specs.Values.{answer_part}
 unfoldable pub of_job : ℕ → List ℕ → List ℕ → List ℕ
 of_job job zeroth first = cond (eqb job 0) zeroth (cond (eqb job 1) first [])
 
--- "A screen call gives the client data that a reading of the chosen job gives": what such a reading answers, which no state changes (`any-state`)
+-- "A screen call gives the client data that a reading of the chosen job gives": what such a reading answers, which no state changes (`any_state`)
 unfoldable pub screen_answer : Settings → ℕ → List Entry → List ℕ → List ℕ → List ℕ → List ℕ → ℕ → Answer
 screen_answer s job es os₀ ms₀ os₁ ms₁ place = (reading s job es fresh (of_job job os₀ os₁) (of_job job ms₀ ms₁) place).answer
 

@@ -21,7 +21,6 @@ use Rattle.fcs.proofs.Laws.{fcs-is}
 use Rattle.station.specs.declared.Address.{Address}
 use Rattle.station.specs.declared.Settings.{Settings}
 use Rattle.station.specs.declared.State.{State}
-use Rattle.station.specs.declared.Part.{Part}
 use Rattle.station.specs.declared.Outcome.{Outcome}
 use Rattle.station.specs.declared.Outcome.TheVariants.{Cut, BadPreamble, Undersized, Oversized, WrongFcs, WrongLength, Filtered}
 use Rattle.station.specs.Station.{is_group}
@@ -38,7 +37,6 @@ use Rattle.outcome.specs.Outcomes.{cut, bad_preamble, frame_of, outcomes, outcom
 use Rattle.outcome.specs.Status.{kind_bits, frame_bits, status_of, status}
 use Rattle.receive.specs.Reading.{handed_part, state_after}
 use Rattle.kept.specs.declared.Run.{Run}
-use Rattle.kept.specs.declared.Told.{Told}
 use Rattle.kept.specs.declared.Told.TheVariants.{Counted}
 use Rattle.kept.specs.Kept.{begun, front_of, frame_size, data_octets, handed_octets, later_outcomes, frame_outcomes, kept_outcomes, kept_outcome, kept_bits, kept_word, kept_part, kept_told}
 use Rattle.kept.proofs.Laws.{row}

@@ -1,19 +1,12 @@
 -- Two buffers and one list: the capture of the code's two lent buffers. Assumes nothing.
-use Prim.Native.Nat.{ℕ, zero, suc, ◌+◌, ◌-◌, ◌≤◌, ◌<◌, min}
+use Prim.Native.Nat.{ℕ, zero, suc, ◌+◌, ◌≤◌, ◌<◌}
 use native.Mathlib.Omega.{arith}
-use native.Mathlib.Nat.{add_assoc, add-zero}
 use native.Mathlib.Numerals.{add-one}
-use mathlib.Core.Path.{◌≡◌, refl, sym, ap, ap₂, ◌∙◌, subst}
-use mathlib.Core.Bool.{Bool, true, false, not, ◌&&◌, and-false, false≢true}
-use mathlib.Core.List.{List, [], ◌∷◌, ◌++◌, map, append_assoc}
-use mathlib.Core.Option.{Option, none, some}
-use lib.ListN.{length, get_or, take, drop, length-append, length-take, drop_of_length-le}
-use lib.Dec.{eqb}
-use borrow.Author.Tests.{eqb-true, eq-eqb, ne_eqb}
-use lib.Seq.{drop-drop, drop-cons, drop-append-add, take_at, length-take-le}
-use Rattle.line.specs.declared.Found.{Found}
-use Rattle.line.specs.declared.Found.TheVariants.{At, Nothing}
-use Rattle.line.specs.Line.{Symbol, capture, octets_of, marks_of, as_data, as_control, is_data, is_control, is_start, start, first_where, find_start, find_control, run, ending, AfterStart, unended, ended, ended_by, after_start, MetStart, met_starts, start_count, overwrite}
+use mathlib.Core.Path.{◌≡◌, refl, sym, ap, ap₂, ◌∙◌}
+use mathlib.Core.List.{List, [], ◌∷◌, ◌++◌}
+use lib.ListN.{length, get_or, take, drop, drop_of_length-le}
+use lib.Seq.{drop-cons}
+use Rattle.line.specs.Line.{Symbol, capture, octets_of, marks_of}
 
 pub length-capture : (os ms : List ℕ) → length os ≡ length ms → length (capture os ms) ≡ length os
 unfolding capture

@@ -1,16 +1,16 @@
 -- A search over the two buffers: what one turn of a loop uses, and what a caller learns of the place found. Assumes nothing.
-use Prim.Native.Nat.{ℕ, zero, suc, ◌+◌, ◌-◌, ◌≤◌, ◌<◌}
+use Prim.Native.Nat.{ℕ, zero, suc, ◌+◌, ◌≤◌, ◌<◌}
 use native.Mathlib.Omega.{arith}
-use mathlib.Core.Path.{◌≡◌, refl, sym, ap, ap₂, ◌∙◌}
+use mathlib.Core.Path.{◌≡◌, refl, ap, ap₂, ◌∙◌}
 use mathlib.Core.Bool.{Bool, true, false, not, ◌&&◌, and-false}
-use mathlib.Core.List.{List, [], ◌∷◌}
-use lib.ListN.{length, get_or, drop}
+use mathlib.Core.List.{List}
+use lib.ListN.{length, drop}
 use lib.Dec.{eqb}
 use borrow.Author.Tests.{eq-eqb, ne_eqb}
 use Rattle.line.specs.declared.Found.{Found}
 use Rattle.line.specs.declared.Found.TheVariants.{At, Nothing}
 use Rattle.line.specs.Line.{Symbol, capture, is_data, is_control, is_start, start, first_where}
-use Rattle.line.proofs.Symbols.{by_test, where_here, where_later}
+use Rattle.line.proofs.Symbols.{where_here, where_later}
 use Rattle.line.proofs.Buffers.{symbol_at, capture-at, capture-end-octets, capture-end-marks}
 
 module _ (test : Symbol → Bool) (os ms : List ℕ) where

@@ -1,19 +1,15 @@
 -- Every Start in its order, and the run after it: what the walk and the seam between two stretches of line are proved by. Assumes nothing.
-use Prim.Native.Nat.{ℕ, zero, suc, ◌+◌, ◌-◌, ◌≤◌, ◌<◌, min}
+use Prim.Native.Nat.{ℕ, suc, ◌+◌, ◌≤◌, ◌<◌}
 use native.Mathlib.Omega.{arith}
-use native.Mathlib.Nat.{add_assoc, add-zero}
-use native.Mathlib.Numerals.{add-one}
-use mathlib.Core.Path.{◌≡◌, refl, sym, ap, ap₂, ◌∙◌, subst}
-use mathlib.Core.Bool.{Bool, true, false, not, ◌&&◌, and-false, false≢true}
-use mathlib.Core.List.{List, [], ◌∷◌, ◌++◌, map, append_assoc}
+use native.Mathlib.Nat.{add-zero}
+use mathlib.Core.Path.{◌≡◌, refl, sym, ap, ap₂, ◌∙◌}
+use mathlib.Core.Bool.{Bool, true}
+use mathlib.Core.List.{List, [], ◌∷◌, ◌++◌, map}
 use mathlib.Core.Option.{Option, none, some}
-use lib.ListN.{length, get_or, take, drop, length-append, length-take, drop_of_length-le}
-use lib.Dec.{eqb}
-use borrow.Author.Tests.{eqb-true, eq-eqb, ne_eqb}
-use lib.Seq.{drop-drop, drop-cons, drop-append-add, take_at, length-take-le}
-use Rattle.line.specs.declared.Found.{Found}
+use lib.ListN.{length, drop}
+use lib.Seq.{drop-drop}
 use Rattle.line.specs.declared.Found.TheVariants.{At, Nothing}
-use Rattle.line.specs.Line.{Symbol, capture, octets_of, marks_of, as_data, as_control, is_data, is_control, is_start, start, first_where, find_start, find_control, run, ending, AfterStart, unended, ended, ended_by, after_start, MetStart, met_starts, start_count, overwrite}
+use Rattle.line.specs.Line.{Symbol, as_data, as_control, is_data, is_control, is_start, first_where, run, ending, ended, ended_by, after_start, met_starts, start_count}
 use Rattle.line.proofs.Symbols.{by_test, data_not-start, met_start, met-other, starts-start, starts_other, run_data, run_control, ending_data, ending_control, where_here, where_later}
 
 -- ---- the walk, Start by Start

@@ -1,19 +1,13 @@
 -- One symbol more: the laws of the definitions that go through a list of symbols, one for each case of a test. Assumes nothing.
-use Prim.Native.Nat.{ℕ, zero, suc, ◌+◌, ◌-◌, ◌≤◌, ◌<◌, min}
-use native.Mathlib.Omega.{arith}
-use native.Mathlib.Nat.{add_assoc, add-zero}
-use native.Mathlib.Numerals.{add-one}
-use mathlib.Core.Path.{◌≡◌, refl, sym, ap, ap₂, ◌∙◌, subst}
+use Prim.Native.Nat.{ℕ, ◌+◌}
+use mathlib.Core.Path.{◌≡◌, refl, sym, ap, ◌∙◌}
 use mathlib.Core.Bool.{Bool, true, false, not, ◌&&◌, and-false, false≢true}
-use mathlib.Core.List.{List, [], ◌∷◌, ◌++◌, map, append_assoc}
-use mathlib.Core.Option.{Option, none, some}
-use lib.ListN.{length, get_or, take, drop, length-append, length-take, drop_of_length-le}
+use mathlib.Core.List.{List, [], ◌∷◌}
+use mathlib.Core.Option.{some}
 use lib.Dec.{eqb}
-use borrow.Author.Tests.{eqb-true, eq-eqb, ne_eqb}
-use lib.Seq.{drop-drop, drop-cons, drop-append-add, take_at, length-take-le}
-use Rattle.line.specs.declared.Found.{Found}
-use Rattle.line.specs.declared.Found.TheVariants.{At, Nothing}
-use Rattle.line.specs.Line.{Symbol, capture, octets_of, marks_of, as_data, as_control, is_data, is_control, is_start, start, first_where, find_start, find_control, run, ending, AfterStart, unended, ended, ended_by, after_start, MetStart, met_starts, start_count, overwrite}
+use borrow.Author.Tests.{eqb-true}
+use Rattle.line.specs.declared.Found.TheVariants.{At}
+use Rattle.line.specs.Line.{Symbol, is_data, is_control, is_start, start, first_where, run, ending, after_start, met_starts, start_count}
 
 -- a test is true or false
 pub by_test {ℓ} : {P : Type ℓ} (b : Bool) → (b ≡ true → P) → (b ≡ false → P) → P

@@ -5,7 +5,7 @@ use native.Mathlib.Nat.{add-zero, pow-suc, pow-succ', mul_assoc, div-one, div-di
 use lib.Arith.{mod-mul}
 use lib.Pow.{pow_pos}
 use mathlib.Core.Path.{◌≡◌, refl, sym, ap, ap₂, ◌∙◌, subst}
-use mathlib.Core.List.{List, [], ◌∷◌}
+use mathlib.Core.List.{List}
 use lib.ListN.{length, get_or, drop}
 use lib.Seq.{get_or-drop, ext_get_or}
 use lib.Dec.{eqb}

@@ -1,7 +1,7 @@
 -- Document 01, "The line", and what "Reading one Start" says of a capture before any rule is tried.
 --
 -- Every definition stands on ONE list of symbols. The code has two lent buffers, and a contract says
--- `capture (now octets.entry) (now marks.entry)`. Refusal 2 sees to it that the two are equally long, so nothing is cut off.
+-- `capture octets.now marks.now`. Refusal 2 sees to it that the two are equally long, so nothing is cut off.
 use Rattle.std.specs.Prelude.{ℕ, ◌+◌, Bool, true, false, not, ◌&&◌, List, [], ◌∷◌, ◌++◌, length, take, drop, eqb}
 use Rattle.std.proofs.Math.Option.{Option, none, some}
 use Rattle.line.specs.declared.Found.{Found}

@@ -1,5 +1,5 @@
 -- Octet strings, as every section of document 01 uses them: equality, numbers of several octets, a part.
-use Rattle.std.specs.Prelude.{ℕ, zero, suc, ◌+◌, ◌-◌, ◌*◌, ◌/◌, ◌%◌, Bool, true, false, ◌&&◌, List, [], ◌∷◌, ◌++◌, length, get_or, take, drop, eqb}
+use Rattle.std.specs.Prelude.{ℕ, zero, suc, ◌+◌, ◌-◌, ◌*◌, ◌/◌, ◌%◌, Bool, true, false, ◌&&◌, List, [], ◌∷◌, get_or, take, drop, eqb}
 
 -- the same octets, "all six" of an address and as many of any other string
 unfoldable pub same_octets : List ℕ → List ℕ → Bool

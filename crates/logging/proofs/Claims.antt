@@ -33,7 +33,7 @@ use Rattle.receive.specs.Reading.{read_refusals, reading}
 use Rattle.receive.specs.Walk.{readings_from, walk, walk_of, walked}
 use Rattle.receive.proofs.Cases.{read-refused}
 use Rattle.logging.specs.declared.KeepRefusal.TheVariants.{ByReading}
-use Rattle.logging.specs.declared.LogEnd.TheVariants.{Nothing, Open}
+use Rattle.logging.specs.declared.LogEnd.TheVariants.{Nothing}
 use Rattle.logging.specs.Records.{record_of_reading}
 use Rattle.logging.specs.Walks.{Keeping, stopped, keep_from, walk_logged}
 use Rattle.logging.specs.Claims.{records_of, last_next, end_of, KeepsWalk}

@@ -1,21 +1,19 @@
--- A walk that keeps its readings and finds the log full, as a theorem: `full-goes-on`. Assumes nothing.
+-- A walk that keeps its readings and finds the log full, as a theorem: `full-goes_on`. Assumes nothing.
 use Prim.Native.Nat.{ℕ, zero, suc, ◌+◌, ◌-◌, ◌<◌}
 use native.Mathlib.Omega.{arith}
-use mathlib.Core.Path.{◌≡◌, refl, sym, ap, ap₂, ◌∙◌, subst}
-use mathlib.Core.Bool.{true, false, false≢true}
-use mathlib.Core.List.{List, [], ◌∷◌, ◌++◌, map}
+use mathlib.Core.Path.{◌≡◌, refl, sym, ap, ◌∙◌, subst}
+use mathlib.Core.Bool.{true}
+use mathlib.Core.List.{List, [], ◌∷◌, ◌++◌}
 use lib.ListN.{length}
 use Rattle.line.specs.Table.{first}
 use Rattle.station.specs.declared.Settings.{Settings}
 use Rattle.station.specs.declared.State.{State}
-use Rattle.station.specs.declared.Part.{Part}
-use Rattle.station.specs.declared.Outcome.{Outcome}
 use Rattle.table.specs.declared.Entry.{Entry}
 use Rattle.reading_log.specs.declared.LogRefusal.{LogRefusal}
 use Rattle.reading_log.specs.declared.LogRefusal.TheVariants.{BadLog, LogFull, NotUsed}
 use Rattle.reading_log.specs.declared.Logged.{Logged}
 use Rattle.reading_log.specs.Numbers.{log_refusal_number, logged_refusal}
-use Rattle.reading_log.specs.Log.{Logging, appending}
+use Rattle.reading_log.specs.Log.{appending}
 use Rattle.reading_log.specs.Claims.{append_all}
 use Rattle.receive.specs.declared.Answer.{Answer}
 use Rattle.receive.specs.declared.Answer.TheVariants.{Counted}
@@ -29,7 +27,6 @@ use Rattle.logging.specs.declared.LogEnd.TheVariants.{Nothing, Open, Full}
 use Rattle.logging.specs.Records.{record_of_reading}
 use Rattle.logging.specs.Walks.{Keeping, stopped, keep_from, keep_refusals, walk_logged}
 use Rattle.logging.specs.declared.KeepChecked.{KeepChecked}
-use Rattle.logging.specs.declared.KeepRefusal.{KeepRefusal}
 use Rattle.logging.specs.Claims.{AllCounted, StopsFull}
 use Rattle.logging.proofs.Claims.{readings_on}
 use Rattle.logging.proofs.Turns.{turn_refused, turn_none, turn_open, by-appending, walk_refused, walk_fine}

@@ -1,4 +1,4 @@
--- A reading of a capture: it moves on, its places lie inside the capture, and its record holds it whole: `reading-whole`. Assumes nothing.
+-- A reading of a capture: it moves on, its places lie inside the capture, and its record holds it whole: `reading_whole`. Assumes nothing.
 use Prim.Native.Nat.{ℕ, ◌+◌, ◌-◌, ◌^◌, ◌≤◌, ◌<◌}
 use native.Mathlib.Omega.{arith}
 use native.Mathlib.Nat.{mod-eq_of_lt, mod-lt}

@@ -5,7 +5,7 @@ use Rattle.receive.specs.declared.Reading.{Reading}
 use Rattle.receive.specs.Values.{answer_outcome, answer_status, answer_part, answer_way}
 
 -- "place (4 octets …), outcome (1), zero (1), octets handed out (2 …), status word (8 …)": each "at those widths", which a place and a number of octets
--- may exceed; those of a capture do not (`reading-whole`). Item 7: "the log's zero octet holds" the number of the address that let the frame in.
+-- may exceed; those of a capture do not (`reading_whole`). Item 7: "the log's zero octet holds" the number of the address that let the frame in.
 abbrev pub record_at : ℕ → ℕ → ℕ → ℕ → ℕ → Record
 record_at start outcome way handed status =
     record { place = start % 2 ^ 32; outcome = outcome; way = way; handed = handed % 2 ^ 16; status = status }

@@ -1,27 +1,26 @@
 -- A client frame, encoded and read back, is handed out. Assumes nothing.
-use Prim.Native.Nat.{ℕ, zero, suc, ◌+◌, ◌-◌, ◌*◌, ◌≤◌, ◌<◌}
+use Prim.Native.Nat.{ℕ, ◌+◌, ◌-◌, ◌*◌, ◌≤◌, ◌<◌}
 use native.Mathlib.Omega.{arith}
-use mathlib.Core.Path.{◌≡◌, refl, sym, ap, ap₂, ◌∙◌, subst}
-use mathlib.Core.Bool.{Bool, true, false, not, ◌&&◌, ◌||◌, cond, and-false, true≢false}
-use mathlib.Core.List.{List, [], ◌∷◌, ◌++◌, append_assoc, append-nil}
+use mathlib.Core.Path.{◌≡◌, refl, sym, ap, ap₂, ◌∙◌}
+use mathlib.Core.Bool.{Bool, true, false, ◌||◌, cond, true≢false}
+use mathlib.Core.List.{List, ◌++◌, append_assoc, append-nil}
 use mathlib.Core.Option.{Option}
-use lib.ListN.{length, take, drop, replicate, length-append, length-replicate, length-take}
-use lib.Seq.{drop_at, take_at, take-length}
-use lib.Dec.{eqb, ltb, leb, lit<}
-use borrow.Author.Tests.{eq-eqb, ne_eqb, le-ltb, lt-ltb, ltb-true, ltb-false, eqb-false}
+use lib.ListN.{length, take, replicate, length-append, length-replicate, length-take}
+use lib.Seq.{take_at}
+use lib.Dec.{eqb, ltb}
+use borrow.Author.Tests.{ne_eqb, le-ltb, ltb-true, ltb-false}
 use Rattle.line.specs.Limits.{least_frame, tag_size, least_type, most_length, least_data, most_tags}
-use Rattle.line.specs.Line.{start, terminate, preamble, ended}
-use Rattle.line.specs.Octets.{same_octets, high_first_at, high_first}
+use Rattle.line.specs.Line.{terminate, preamble}
+use Rattle.line.specs.Octets.{same_octets, high_first}
 use Rattle.line.specs.Table.{first}
 use Rattle.line.proofs.Symbols.{by_test}
 use Rattle.line.proofs.Tables.{first_next, first-other}
 use Rattle.fcs.specs.Fcs.{fcs}
 use Rattle.station.specs.declared.Address.{Address}
 use Rattle.station.specs.declared.Settings.{Settings}
-use Rattle.station.specs.declared.Outcome.{Outcome}
 use Rattle.station.specs.declared.Outcome.TheVariants.{Cut, BadPreamble, Undersized, Oversized, WrongFcs, WrongLength, Filtered, PauseTaken, PfcTaken, ControlDropped, HandedOut}
 use Rattle.fields.specs.Tags.{is_tag_kind, tag_count}
-use Rattle.fields.specs.Fields.{destination, first_field, field}
+use Rattle.fields.specs.Fields.{destination, field}
 use Rattle.frame.specs.Frame.{frame_data, wrong_fcs, undersized, oversized}
 use Rattle.frame.specs.Length.{kept, wrong_length, handed_of, client_data}
 use Rattle.table.specs.Way.{accepts}
@@ -153,7 +152,7 @@ pub padded-long : (d : List ℕ) → least_data ≤ length d → padded d ≡ d
 unfolding padded
 padded-long d h = ap (λ (k : ℕ). d ++ replicate k 0) (let e : least_data - length d ≡ 0 = omega arith in e) ∙ append-nil d
 
--- a type that is not refused: what each test of `badType` leaves
+-- a type that is not refused: what each test of `bad_type` leaves
 type-tests : (t : ℕ) → bad_type (ByType t) ≡ false → (least_type ≤ t) × (eqb t 0x8100 ≡ false) × (eqb t 0x8808 ≡ false) × (eqb t 0x88A8 ≡ false)
 unfolding bad_type
 type-tests t h =

@@ -2,7 +2,6 @@
 use Prim.Native.Nat.{ℕ, ◌+◌}
 use native.Mathlib.Omega.{arith}
 use mathlib.Core.Path.{◌≡◌, refl, sym, ap, ap₂, ◌∙◌, subst}
-use mathlib.Core.Bool.{Bool, true, false}
 use mathlib.Core.List.{List, [], ◌∷◌, ◌++◌}
 use mathlib.Core.Option.{Option, none, some}
 use lib.ListN.{length, drop}
@@ -20,7 +19,6 @@ use Rattle.frame.specs.Length.{client_data}
 use Rattle.table.specs.declared.Entry.{Entry}
 use Rattle.table.specs.Entries.{mine}
 use Rattle.receive.specs.declared.Answer.TheVariants.{Counted}
-use Rattle.receive.specs.declared.Reading.{Reading}
 use Rattle.control.specs.Control.{way_carried}
 use Rattle.outcome.specs.Outcomes.{outcome, frame_of}
 use Rattle.outcome.specs.Status.{status}

@@ -1,6 +1,6 @@
 -- Claim 2, demand 1: each call ends with a reading, symbols written or a refusal out of exactly its list, the first that holds; a refusal leaves
--- state and both buffers as they were. The statements are `reading-refuses`, `walk-refuses`, `client-refuses`, `pause-refuses`, `pfc-refuses`
--- and `idle-refuses`. Assumes nothing.
+-- state and both buffers as they were. The statements are `reading_refuses`, `walk_refuses`, `client_refuses`, `pause_refuses`, `pfc_refuses`
+-- and `idle_refuses`. Assumes nothing.
 use Prim.Native.Nat.{ℕ, ◌+◌, ◌<◌}
 use native.Mathlib.Omega.{arith}
 use mathlib.Core.Path.{◌≡◌, refl, sym, ap, ◌∙◌, subst₂}

@@ -1,10 +1,10 @@
 -- Claim 5, demand 3, for the calls as they are made: any symbols, then any number of client frames back to back, with any number of Idles behind
 -- the Terminate of each; the readings from place 0, each at the next place of the one before, hand out what the damaged part hands out by itself, and
--- then the frames' data in order, each once. The statements are `demand3` and, with anything after the frames, `demand3-within`. Assumes nothing.
+-- then the frames' data in order, each once. The statements are `demand3` and, with anything after the frames, `demand3_within`. Assumes nothing.
 use Prim.Native.Nat.{ℕ, zero, suc, ◌+◌, ◌≤◌}
 use native.Mathlib.Omega.{arith}
-use mathlib.Core.Path.{◌≡◌, refl, sym, ap, ap₂, ◌∙◌, subst}
-use mathlib.Core.Bool.{Bool, true, false}
+use mathlib.Core.Path.{◌≡◌, refl, sym, ap, ap₂, ◌∙◌}
+use mathlib.Core.Bool.{Bool, true}
 use mathlib.Core.List.{List, [], ◌∷◌, ◌++◌, map, append_assoc, append-nil}
 use mathlib.Core.Option.{Option}
 use lib.ListN.{length, replicate, length-append}
@@ -21,7 +21,7 @@ use Rattle.station.specs.Numbers.{by_outcome}
 use Rattle.table.specs.declared.Entry.{Entry}
 use Rattle.table.specs.Entries.{mine}
 use Rattle.frame.specs.Length.{client_data}
-use Rattle.outcome.specs.Outcomes.{frame_of, outcome}
+use Rattle.outcome.specs.Outcomes.{frame_of}
 use Rattle.receive.specs.Walk.{walk, handed_out}
 use Rattle.receive.proofs.Refusals.{passed, fine as refuses-none}
 use Rattle.writing.specs.Frames.{gap, on_line, client_body, client_symbols}

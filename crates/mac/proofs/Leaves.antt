@@ -1,4 +1,4 @@
--- The symbols that claim 7 counts are those that the very call leaves in its buffers, from its place on, and its place rises by their number: `call-leaves`.
+-- The symbols that claim 7 counts are those that the very call leaves in its buffers, from its place on, and its place rises by their number: `call_leaves`.
 -- Assumes nothing.
 use Prim.Native.Nat.{ℕ}
 use native.Mathlib.Omega.{arith}

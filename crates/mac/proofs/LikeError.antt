@@ -1,5 +1,5 @@
 -- Claim 3, the line: "Any other control octet, Sequence 0x9C included, is treated like Error". With Error in its place each reading, the octets that
--- it hands out, and the walk are the same. The statements are `like-error`, `like-error-data` and `like-error-walk`. Assumes nothing.
+-- it hands out, and the walk are the same. The statements are `like_error_lem`, `like_error_data` and `like_error-walk`. Assumes nothing.
 use Prim.Native.Nat.{ℕ, zero, suc, ◌+◌}
 use native.Mathlib.Omega.{arith}
 use mathlib.Core.Path.{◌≡◌, refl, sym, ap, ap₂, ◌∙◌}

@@ -1,8 +1,8 @@
 -- Claim 2, demand 1, of the plain reader (document 02, item 12): a symbol, in any state, is refused by exactly 1, 14, 20 and 2, the first that holds, and
--- refused it leaves the state: `symbol-refuses`. Assumes nothing.
+-- refused it leaves the state: `symbol_refuses`. Assumes nothing.
 use Prim.Native.Nat.{ℕ, ◌<◌}
 use native.Mathlib.Omega.{arith}
-use mathlib.Core.Path.{◌≡◌, refl, ap, ◌∙◌}
+use mathlib.Core.Path.{◌≡◌, refl}
 use mathlib.Core.Bool.{Bool, true, false, cond}
 use mathlib.Core.List.{List, [], ◌∷◌}
 use mathlib.Core.Option.{Option}

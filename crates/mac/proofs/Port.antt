@@ -1,7 +1,7 @@
--- Document 02, item 5, the four_lane port. A frame that goes out on it starts and ends at multiples of four, and its gap, of 9 to 15 symbols, adds to the
--- deficit count what it is short of 12 (`frame-on-port`, and of its Starts alone `starts-aligned`); no other call changes the count (`only-this-port`).
+-- Document 02, item 5, the four-lane port. A frame that goes out on it starts and ends at multiples of four, and its gap, of 9 to 15 symbols, adds to the
+-- deficit count what it is short of 12 (`frame_on_port`, and of its Starts alone `starts-aligned`); no other call changes the count (`only_this_port`).
 -- Over any calls, refused ones and frames of the other port among them, the count is exactly what the gaps of this port are short of 12 each
--- (`deficit-is`), and from a count of 0, n gaps together lie between 12 × n - 3 and 12 × n (`gaps-between`). Assumes nothing.
+-- (`deficit_is`), and from a count of 0, n gaps together lie between 12 × n - 3 and 12 × n (`gaps_between`). Assumes nothing.
 use Prim.Native.Nat.{ℕ, zero, suc, ◌+◌, ◌-◌, ◌*◌, ◌%◌, ◌≤◌}
 use native.Mathlib.Omega.{arith}
 use mathlib.Core.Path.{◌≡◌, refl, sym, ap, ◌∙◌, subst}

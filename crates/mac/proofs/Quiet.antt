@@ -1,13 +1,13 @@
 -- Document 02, item 14, "Quiet means quiet", over any sequence of our calls on one state: `quiet`. What it speaks of is what we write: `events-written`,
--- `call-leaves` (proofs/Leaves.antt) and `one-start`; and what holds a class is the timer of the state: `events-timer`. "Control frames and other classes may
--- start": `may-start`. "A frame written before the reading isn't touched": `events-append`, and `sets-or-writes` (proofs/Timers.antt). Demand 2, sending
--- "starts no client frame while its class timer runs": `held-quiet`. Assumes nothing.
+-- `call_leaves` (proofs/Leaves.antt) and `one-start`; and what holds a class is the timer of the state: `events-timer`. "Control frames and other classes may
+-- start": `may_start`. "A frame written before the reading isn't touched": `events-append`, and `sets_or-writes` (proofs/Timers.antt). Demand 2, sending
+-- "starts no client frame while its class timer runs": `held_quiet`. Assumes nothing.
 use Prim.Native.Nat.{ℕ, zero, suc, ◌+◌, ◌-◌, ◌*◌, ◌<◌}
 use native.Mathlib.Omega.{arith}
 use mathlib.Core.Path.{◌≡◌, refl, sym, ap, ap₂, ◌∙◌, subst}
 use mathlib.Core.Bool.{Bool, true, false, false≢true}
 use mathlib.Core.List.{List, [], ◌∷◌, ◌++◌, map, append_assoc}
-use mathlib.Core.Logic.{◌⊎◌, ⊎_elim}
+use mathlib.Core.Logic.{⊎_elim}
 use lib.ListN.{length, get_or}
 use lib.Dec.{ltb}
 use borrow.Author.Tests.{ltb-false, ltb-true, lt-ltb, eqb-true, eq-eqb}

@@ -2,12 +2,11 @@
 use Prim.Native.Nat.{ℕ, suc, ◌+◌}
 use native.Mathlib.Omega.{arith}
 use native.Mathlib.Nat.{add-zero}
-use mathlib.Core.Path.{◌≡◌, refl, sym, ap, ap₂, ◌∙◌, subst}
-use mathlib.Core.Bool.{Bool, true, false}
+use mathlib.Core.Path.{◌≡◌, refl, sym, ap, ap₂, ◌∙◌}
 use mathlib.Core.List.{List, [], ◌∷◌, ◌++◌, append_assoc}
 use mathlib.Core.Option.{Option, none, some}
 use lib.ListN.{length}
-use Rattle.line.specs.Line.{Symbol, is_start, start, terminate, run, ending, AfterStart, unended, ended, ended_by, after_start, MetStart, met_starts}
+use Rattle.line.specs.Line.{Symbol, is_start, start, run, ending, ended, ended_by, after_start, MetStart, met_starts}
 use Rattle.line.specs.Table.{first}
 use Rattle.line.proofs.Symbols.{by_test, met_start, met-other, start-not_data, start-octet, ending_control}
 use Rattle.line.proofs.Starts.{run-ended, run_open, Begins}

@@ -1,4 +1,4 @@
--- Document 02, item 13: "All bands together equal the rise of those four counters, modulo 2^64". The statement is `sizes-rise`. Assumes nothing.
+-- Document 02, item 13: "All bands together equal the rise of those four counters, modulo 2^64". The statement is `sizes_rise`. Assumes nothing.
 use Prim.Native.Nat.{ℕ, ◌+◌, ◌%◌}
 use native.Mathlib.Omega.{arith}
 use native.Mathlib.Nat.{mod-add-mod, add-mod-mod}

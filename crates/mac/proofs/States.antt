@@ -22,7 +22,6 @@ use Rattle.station.specs.declared.Checked.TheVariants.{Fine, Refused}
 use Rattle.reading_log.specs.Log.{appending}
 use Rattle.table.specs.declared.Entry.{Entry}
 use Rattle.table.specs.Entries.{mine}
-use Rattle.outcome.specs.Outcomes.{outcome}
 use Rattle.receive.specs.declared.Reading.{Reading}
 use Rattle.receive.specs.declared.Walking.{Walking}
 use Rattle.receive.specs.Reading.{state_after, read_run, read_start, read_found, read_at, read_refusals, read_checked, reading}

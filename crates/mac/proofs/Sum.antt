@@ -1,7 +1,7 @@
 -- Claim 4, demand 2: after a walk the eleven counters together have risen by the number of Start symbols, less one if open, modulo 2^64, and each
--- counter by the number of Starts with its outcome, on the screen modulo 2^32. The statements are `walk-counts`, `counters-rise`, `counter-rises` and
--- `screen-rises`. Assumes nothing.
-use Prim.Native.Nat.{ℕ, zero, suc, ◌+◌, ◌-◌, ◌%◌, ◌^◌, ◌≤◌, ◌<◌}
+-- counter by the number of Starts with its outcome, on the screen modulo 2^32. The statements are `walk-counts`, `counters_rise`, `counter-rises` and
+-- `screen_rises`. Assumes nothing.
+use Prim.Native.Nat.{ℕ, zero, suc, ◌+◌, ◌-◌, ◌%◌, ◌≤◌, ◌<◌}
 use native.Mathlib.Omega.{arith}
 use native.Mathlib.Nat.{not-suc-le-zero, le_of_suc-le-suc, mod-add-mod}
 use mathlib.Core.Path.{◌≡◌, refl, sym, ap, ap₂, ◌∙◌, subst}
@@ -26,12 +26,11 @@ use Rattle.station.proofs.Shown.{shown-sum, counter-shown}
 use Rattle.table.specs.declared.Entry.{Entry}
 use Rattle.table.specs.Entries.{mine}
 use Rattle.receive.specs.declared.Reading.{Reading}
-use Rattle.receive.specs.declared.WalkAnswer.{WalkAnswer}
 use Rattle.receive.specs.declared.WalkAnswer.TheVariants.{Ended}
 use Rattle.receive.specs.declared.Walking.{Walking}
 use Rattle.outcome.specs.Outcomes.{outcome, frame_of}
 use Rattle.receive.specs.Reading.{state_after, read_run, read_start}
-use Rattle.receive.specs.Walk.{walk, walk_of, walked}
+use Rattle.receive.specs.Walk.{walk_of, walked}
 use Rattle.mac.specs.Demand2.{Readable, is_unended, last_unended, one_if, has, starts_with}
 use Rattle.receive.proofs.Walks.{through, walk_through}
 use Rattle.mac.proofs.Walk.{OpenLast, open_last, not_last}

@@ -1,5 +1,5 @@
 -- Claim 2, demand 1, of the table calls (document 02, item 10): each refuses by exactly the numbers of its list, the first that holds, and refused it leaves
--- every octet of the table. The statements are `adding-refuses` and `removing-refuses`. Assumes nothing.
+-- every octet of the table. The statements are `adding_refuses` and `removing_refuses`. Assumes nothing.
 use Prim.Native.Nat.{ℕ, ◌<◌}
 use native.Mathlib.Omega.{arith}
 use mathlib.Core.Path.{◌≡◌, refl}

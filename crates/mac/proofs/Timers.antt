@@ -1,8 +1,8 @@
--- Claim 7, the timers: what a call leaves of one is what the call's readings set it to last, or else what it was, less the symbols written (`call-timer`); so
--- it is set only by reading (`timer-set`), and falls only by sending and by exactly the symbols written (`call-lowers`, `timer-falls`); a client frame is
+-- Claim 7, the timers: what a call leaves of one is what the call's readings set it to last, or else what it was, less the symbols written (`call_timer`); so
+-- it is set only by reading (`timer-set`), and falls only by sending and by exactly the symbols written (`call_lowers`, `timer_falls`); a client frame is
 -- refused by 9 exactly while its timer is above zero and no refusal tested before it holds (`held-exactly`); one refused at t slots isn't refused for it once
 -- t more are written, if no reading set it meanwhile (`released`); zero quanta let the class go at once (`let_go`). Assumes nothing.
-use Prim.Native.Nat.{ℕ, zero, suc, ◌+◌, ◌-◌, ◌*◌, ◌/◌, ◌%◌, ◌≤◌, ◌<◌}
+use Prim.Native.Nat.{ℕ, zero, suc, ◌-◌, ◌*◌, ◌/◌, ◌%◌, ◌≤◌, ◌<◌}
 use native.Mathlib.Omega.{arith}
 use native.Mathlib.Nat.{not-suc-le-zero, le_of_suc-le-suc}
 use mathlib.Core.Path.{◌≡◌, refl, sym, ap, ap₂, ◌∙◌}

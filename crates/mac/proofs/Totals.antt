@@ -1,5 +1,5 @@
 -- Claim 2, demand 1, of the calls with totals (document 02, item 9): each refuses by exactly the numbers of its list, the first that holds, and refused it
--- changes nothing. The statements are `counting-refuses`, over the four sending calls, `question-refuses` and `filling-refuses`. Assumes nothing.
+-- changes nothing. The statements are `counting_refuses`, over the four sending calls, `question_refuses` and `filling_refuses`. Assumes nothing.
 use Prim.Native.Nat.{ℕ}
 use mathlib.Core.Path.{◌≡◌, refl}
 use mathlib.Core.List.{List, [], ◌∷◌}

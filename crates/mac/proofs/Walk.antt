@@ -1,38 +1,25 @@
 -- Claim 3, demand 2: a walk by next places from place 0 meets every Start symbol once and in order, each but a last open one is counted, and it
--- ends with `none` or `open`. The statements are `walk_meets`, `walk-whole` and `walk-opens`. Assumes nothing.
-use Prim.Native.Nat.{ℕ, zero, suc, ◌+◌, ◌-◌, ◌≤◌, ◌<◌}
+-- ends with `none` or `open`. The statements are `walk_meets`, `walk_whole` and `walk-opens`. Assumes nothing.
+use Prim.Native.Nat.{ℕ, ◌+◌}
 use native.Mathlib.Omega.{arith}
-use mathlib.Core.Path.{◌≡◌, refl, sym, ap, ap₂, ◌∙◌, subst}
-use mathlib.Core.Bool.{Bool, true, false, ◌||◌, not, true≢false}
-use mathlib.Core.List.{List, [], ◌∷◌, ◌++◌}
+use mathlib.Core.Path.{◌≡◌, refl, sym, ap, ◌∙◌, subst}
+use mathlib.Core.List.{List, [], ◌∷◌}
 use mathlib.Core.Option.{Option, none, some}
-use lib.ListN.{length, drop, length-drop}
-use lib.Dec.{eqb, ltb}
-use lib.Seq.{drop-drop}
-use borrow.Author.Tests.{eqb-true, ltb-false, le-ltb}
-use Rattle.line.specs.declared.Found.{Found}
-use Rattle.line.specs.declared.Found.TheVariants.{At}
+use lib.ListN.{length}
 use Rattle.line.specs.Limits.{lead_size}
-use Rattle.line.specs.Line.{Symbol, capture, find_start, run, ending, AfterStart, unended, ended, ended_by, after_start, is_start, MetStart, met_starts}
-use Rattle.line.specs.Table.{first}
+use Rattle.line.specs.Line.{Symbol, capture, run, ending, AfterStart, unended, ended, ended_by, after_start, is_start, MetStart, met_starts}
 use Rattle.line.proofs.Symbols.{by_test, met_start, met-other}
-use Rattle.line.proofs.Starts.{skip_run, open_none, met-nothing, met_found, where_range, ending-inside}
-use Rattle.line.proofs.Buffers.{length-capture}
+use Rattle.line.proofs.Starts.{open_none}
 use Rattle.station.specs.declared.Address.{Address}
 use Rattle.station.specs.declared.Settings.{Settings}
 use Rattle.station.specs.declared.State.{State}
-use Rattle.station.specs.declared.Checked.{Checked}
-use Rattle.station.specs.declared.Checked.TheVariants.{Fine}
 use Rattle.table.specs.declared.Entry.{Entry}
 use Rattle.table.specs.Entries.{mine}
-use Rattle.receive.specs.declared.Answer.TheVariants.{Nothing, Open, Counted}
-use Rattle.receive.specs.declared.Reading.{Reading}
 use Rattle.control.specs.Control.{way_carried}
 use Rattle.outcome.specs.Outcomes.{outcome, frame_of}
 use Rattle.outcome.specs.Status.{status}
-use Rattle.receive.specs.Reading.{read_run, read_start, read_found, read_at, read_refusals, read_checked, reading, handed_part}
-use Rattle.receive.specs.Values.{is_counted}
-use Rattle.receive.specs.Walk.{readings_from, walk}
+use Rattle.receive.specs.Reading.{read_run, read_start, handed_part}
+use Rattle.receive.specs.Walk.{walk}
 use Rattle.receive.proofs.Walks.{through, walk_through}
 use Rattle.mac.specs.Demand2.{Readable, place_found, places_found, start_places, Whole, ends_none, ends_open, counts, is_open, ends_open_test, is_unended, last_unended}
 

@@ -1,5 +1,5 @@
--- Document 02, item 7: "Accepted and refused stay as they are" (`accepts-stays`, `passes-stays`, and of a reading `reading-way`), and nothing else of a
--- reading moved (`nothing-moved`). Assumes nothing.
+-- Document 02, item 7: "Accepted and refused stay as they are" (`accepts_stays`, `passes_stays`, and of a reading `reading-way`), and nothing else of a
+-- reading moved (`nothing_moved`). Assumes nothing.
 use Prim.Native.Nat.{ℕ, ◌+◌, ◌≤◌, ◌<◌}
 use native.Mathlib.Omega.{arith}
 use mathlib.Core.Path.{◌≡◌, refl, sym, ap, ◌∙◌, subst}
@@ -7,12 +7,11 @@ use mathlib.Core.Bool.{Bool, true, false, not}
 use mathlib.Core.Logic.{◌↔◌}
 use mathlib.Core.List.{List}
 use mathlib.Core.Option.{Option}
-use lib.ListN.{length, get_or, drop}
-use lib.Dec.{ltb}
+use lib.ListN.{get_or, drop}
 use borrow.Author.Tests.{ltb-true, lt-ltb}
 use Rattle.line.specs.declared.Found.{Found}
 use Rattle.line.specs.declared.Found.TheVariants.{At}
-use Rattle.line.specs.Line.{Symbol, capture, find_start, find_control, AfterStart, unended, ended, after_start}
+use Rattle.line.specs.Line.{capture, find_start, find_control, AfterStart, unended, ended, after_start}
 use Rattle.line.specs.Octets.{between}
 use Rattle.line.specs.Table.{Table, ◌⇒◌, ◌∣◌, first}
 use Rattle.line.proofs.Symbols.{by_test}
@@ -33,7 +32,6 @@ use Rattle.table.proofs.Ways.{way-accepts}
 use Rattle.control.specs.Control.{filtered, frame_way, way_carried}
 use Rattle.control.proofs.Ways.{let_in}
 use Rattle.outcome.specs.Outcomes.{outcomes, outcome, frame_of}
-use Rattle.receive.specs.declared.Answer.{Answer}
 use Rattle.receive.specs.declared.Reading.{Reading}
 use Rattle.receive.specs.Values.{answer_outcome, answer_way}
 use Rattle.receive.specs.Jobs.{unnumbered}

@@ -1,7 +1,7 @@
 -- Demand 2: what the claims on a walk speak of. The theorems are proofs/Walk.antt and proofs/Sum.antt.
 use Rattle.std.specs.Prelude.{ℕ, ◌+◌, ◌≡◌, Bool, true, false, cond, List, [], ◌∷◌, ◌++◌, eqb}
 use Rattle.std.proofs.Math.Option.{Option}
-use Rattle.line.specs.Line.{Symbol, AfterStart, unended, ended, MetStart, met_starts}
+use Rattle.line.specs.Line.{AfterStart, unended, ended, MetStart}
 use Rattle.line.specs.Table.{first}
 use Rattle.station.specs.declared.Address.{Address}
 use Rattle.station.specs.declared.Settings.{Settings}

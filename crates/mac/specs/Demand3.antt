@@ -1,5 +1,5 @@
 -- Demand 3: what it speaks of. The theorems are proofs/Demand3.antt and, from the sending calls on, proofs/Row.antt.
-use Rattle.std.specs.Prelude.{ℕ, ◌+◌, ◌-◌, ◌≤◌, ◌<◌, ◌≡◌, Bool, true, false, List, [], ◌∷◌, ◌++◌, length, take, drop}
+use Rattle.std.specs.Prelude.{ℕ, ◌+◌, ◌-◌, ◌≤◌, ◌<◌, ◌≡◌, true, false, List, [], ◌∷◌, ◌++◌, length, take, drop}
 use Rattle.std.proofs.Math.Option.{Option}
 use Rattle.line.specs.Line.{Symbol, capture, octets_of, marks_of, overwrite}
 use Rattle.fcs.specs.Fcs.{fcs}

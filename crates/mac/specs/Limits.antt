@@ -4,7 +4,6 @@ use Rattle.line.specs.Limits.{plain_idles}
 use Rattle.line.specs.Line.{Symbol, as_data, as_control, start, terminate, preamble, octets_of, marks_of}
 use Rattle.line.specs.Octets.{same_octets, high_first}
 use Rattle.station.specs.declared.Settings.{Settings}
-use Rattle.station.specs.declared.Quanta.{Quanta}
 use Rattle.station.specs.declared.Flow.{Flow}
 use Rattle.station.specs.declared.Flow.TheVariants.{Off, Pause, Pfc}
 use Rattle.station.specs.declared.Port.TheVariants.{Plain, FourLane}
@@ -20,10 +19,8 @@ use Rattle.receive.specs.Values.{answer_outcome, answer_refusal, answer_status, 
 use Rattle.receive.specs.Reading.{reading}
 use Rattle.receive.specs.Walk.{walk}
 use Rattle.writing.specs.declared.Client.{Client}
-use Rattle.writing.specs.declared.Classes.{Classes}
 use Rattle.writing.specs.declared.Kind.{Kind}
 use Rattle.writing.specs.declared.Kind.TheVariants.{Customer, Service}
-use Rattle.writing.specs.declared.Tag.{Tag}
 use Rattle.writing.specs.declared.Form.TheVariants.{ByLength}
 use Rattle.writing.specs.Frames.{client_body, on_line, pause_symbols, pfc_symbols}
 use Rattle.writing.specs.Gaps.{symbols_on}
@@ -115,7 +112,7 @@ unfoldable pub takes : ℕ → ℕ → ℕ → Bool
 takes tags field n =
     kept tags field n && not (kept tags field (n - 1)) && not (kept tags field (n + 1)) && kept tags field 46 && not (kept tags field 47)
 
--- document 02, item 5: client frames of these lengths, FCS included, in a row on the four_lane port, from a fresh state and place 0 on
+-- document 02, item 5: client frames of these lengths, FCS included, in a row on the four-lane port, from a fresh state and place 0 on
 unfoldable pub row_of : List ℕ → List Asked
 row_of lengths = map (λ (n : ℕ). record { port = FourLane; client = client Customer 0; octets = replicate (n - 18) 0xA5 }) lengths
 

@@ -1,4 +1,4 @@
--- Document 02, item 5, "The four_lane port": what the claims on it speak of. The theorems are proofs/Port.antt.
+-- Document 02, item 5, "The four-lane port": what the claims on it speak of. The theorems are proofs/Port.antt.
 use Rattle.std.specs.Prelude.{ℕ, ◌+◌, ◌-◌, ◌*◌, ◌%◌, ◌≤◌, ◌≡◌, Bool, true, false, not, cond, ◌&&◌, List, [], ◌∷◌, ◌++◌, ◌⊎◌, length}
 use Rattle.line.specs.Limits.{full_gap, most_deficit, lanes}
 use Rattle.line.specs.Line.{Symbol, is_control, is_start, met_starts}

@@ -4,7 +4,7 @@ use Rattle.std.specs.Prelude.{ℕ, ◌+◌, List, length, drop}
 use Rattle.line.specs.declared.Found.{Found}
 use Rattle.line.specs.declared.Found.TheVariants.{At}
 use Rattle.line.specs.Limits.{lead_size}
-use Rattle.line.specs.Line.{capture, find_start, AfterStart, unended, ended, after_start}
+use Rattle.line.specs.Line.{capture, find_start, unended, ended, after_start}
 use Rattle.line.specs.Table.{first}
 use Rattle.station.specs.declared.Settings.{Settings}
 use Rattle.station.specs.declared.State.{State}

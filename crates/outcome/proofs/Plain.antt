@@ -1,4 +1,4 @@
--- What becomes of a plain frame, by the rules' own definitions: rules 1 to 4 and 6 to 10 do not hold of it, and so rule 5 decides (`plain-judged`). And what
+-- What becomes of a plain frame, by the rules' own definitions: rules 1 to 4 and 6 to 10 do not hold of it, and so rule 5 decides (`plain_judged_lem`). And what
 -- the code looks for. Assumes nothing.
 use Prim.Native.Nat.{ℕ, ◌+◌, ◌-◌, ◌*◌, ◌%◌, ◌≤◌, ◌<◌}
 use native.Mathlib.Omega.{arith}
@@ -12,14 +12,12 @@ use lib.Dec.{eqb, ltb}
 use borrow.Author.Tests.{le-ltb, ltb-true, ltb-false, ne_eqb}
 use Rattle.line.specs.Line.{preamble}
 use Rattle.line.specs.Octets.{same_octets, high_first_at, low_first}
-use Rattle.line.specs.Table.{first}
 use Rattle.line.proofs.Octets.{same_octets-refl, high_first-drop}
 use Rattle.line.proofs.Symbols.{by_test}
 use Rattle.line.proofs.Tables.{first-here, first_next, first-other}
 use Rattle.line.proofs.Words.{Octets, low_same}
 use Rattle.station.specs.declared.Address.{Address}
 use Rattle.station.specs.declared.Settings.{Settings}
-use Rattle.station.specs.declared.Outcome.{Outcome}
 use Rattle.station.specs.declared.Outcome.TheVariants.{Cut, BadPreamble, Undersized, Oversized, WrongFcs, WrongLength, Filtered, PauseTaken, PfcTaken, ControlDropped, HandedOut}
 use Rattle.station.specs.Station.{is_group}
 use Rattle.fields.specs.Fields.{destination, first_field, field_place, field}
@@ -35,7 +33,7 @@ use Rattle.control.specs.Control.{is_control_frame, to_reserved_group, to_own, f
 use Rattle.control.proofs.Ways.{own_accepted}
 use Rattle.outcome.specs.declared.Judged.{Judged}
 use Rattle.outcome.specs.Outcomes.{bad_preamble, frame_of, outcomes, outcome, check_made, judged}
-use Rattle.outcome.specs.Plain.{opening_of, Ordinary, Plain, plain_outcome, plain_judged}
+use Rattle.outcome.specs.Plain.{opening_of, Plain, plain_outcome, plain_judged}
 use Rattle.outcome.proofs.Rules.{not-cut, told}
 
 -- the check that goes with what becomes of it

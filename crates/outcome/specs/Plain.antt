@@ -1,5 +1,5 @@
 -- The plain frame to the own address, which is the frame most seen: of it rules 1 to 4 and 6 to 10 of document 01's "Reading one Start" do not hold. That
--- is a theorem, `plain-judged` (proofs/Plain). The code looks for it first; no promise to a caller needs it.
+-- is a theorem, `plain_judged_lem` (proofs/Plain). The code looks for it first; no promise to a caller needs it.
 use Rattle.std.specs.Prelude.{ℕ, ◌+◌, ◌≤◌, ◌≡◌, false, cond, List, ◌++◌, length, take, drop}
 use Rattle.line.specs.Limits.{preamble_size, least_frame, least_type}
 use Rattle.line.specs.Line.{terminate, preamble}

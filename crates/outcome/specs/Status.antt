@@ -1,5 +1,5 @@
 -- Document 01, "Status word (source document 004)". `f` is a whole frame, from destination to FCS.
-use Rattle.std.specs.Prelude.{ℕ, ◌+◌, ◌*◌, ◌^◌, Bool, true, false, cond, not, ◌&&◌, List, length, eqb, leb}
+use Rattle.std.specs.Prelude.{ℕ, ◌+◌, ◌*◌, ◌^◌, Bool, cond, not, ◌&&◌, List, length, eqb, leb}
 use Rattle.line.specs.Octets.{same_octets}
 use Rattle.station.specs.declared.Settings.{Settings}
 use Rattle.station.specs.declared.Outcome.{Outcome}

@@ -1,11 +1,11 @@
 -- Document 02, item 12: over any capture that a walk reads, the reader that takes one symbol at a time reads what the walk reads: the same readings in
--- order, each with its state, and at the end `none` or `open`: `plain-walks`. So it tells what the walk's readings say (`plain-tells`), ends with the walk's
--- counters and timers, and has a run in progress exactly when the walk ended `open` (`plain-ends`). It has then taken as many symbols as there are, so that
--- refusal 2 is for the symbol after 65,536 of them (`plain-place`). Assumes nothing.
+-- order, each with its state, and at the end `none` or `open`: `plain_walks`. So it tells what the walk's readings say (`plain_tells`), ends with the walk's
+-- counters and timers, and has a run in progress exactly when the walk ended `open` (`plain_ends`). It has then taken as many symbols as there are, so that
+-- refusal 2 is for the symbol after 65,536 of them (`plain_place`). Assumes nothing.
 use Rattle.std.proofs.Common.{◌≡◌, ℕ, ◌+◌, ◌<◌, ◌≤◌, true, false, eqb, List, [], ◌∷◌, ◌++◌, length, sym, refl, ap, ◌∙◌, subst, ap₂, append_assoc, append-nil, arith, length-append}
 use mathlib.Core.Option.{Option}
 use Rattle.line.specs.Limits.{most_symbols}
-use Rattle.line.specs.Line.{Symbol, capture, is_data, is_control, is_start, start, run, ending, ended, ended_by, after_start, met_starts}
+use Rattle.line.specs.Line.{Symbol, capture, is_data, is_control, is_start, start, run, ending, ended_by, after_start, met_starts}
 use Rattle.line.specs.Table.{first}
 use Rattle.line.proofs.Symbols.{by_test, data_not-start, met_start, met-other, run_data, run_control, ending_data, ending_control}
 use Rattle.line.proofs.Buffers.{length-capture}
@@ -24,7 +24,6 @@ use Rattle.control.specs.Control.{way_carried}
 use Rattle.flow.proofs.TimerLaws.{length-timers_after}
 use Rattle.outcome.specs.Outcomes.{outcome, frame_of}
 use Rattle.outcome.specs.Status.{status}
-use Rattle.receive.specs.declared.Answer.{Answer}
 use Rattle.receive.specs.declared.Answer.TheVariants.{Counted}
 use Rattle.receive.specs.declared.Reading.{Reading}
 use Rattle.receive.specs.declared.WalkAnswer.TheVariants.{Ended}

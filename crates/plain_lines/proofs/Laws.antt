@@ -2,7 +2,7 @@
 use Prim.Native.Nat.{ℕ, ◌+◌, ◌≤◌, ◌<◌}
 use native.Mathlib.Omega.{arith}
 use mathlib.Core.Path.{◌≡◌, refl, sym, ap, ap₂, ◌∙◌}
-use mathlib.Core.Bool.{true, false, cond}
+use mathlib.Core.Bool.{false, cond}
 use mathlib.Core.List.{List, [], ◌∷◌, ◌++◌}
 use lib.ListN.{length, get_or, drop}
 use Rattle.line.specs.Line.{Symbol, capture}
@@ -17,7 +17,7 @@ use Rattle.station.specs.Numbers.{outcome_number}
 use Rattle.station.specs.Station.{is_group, bad_settings, fresh}
 use Rattle.table.specs.declared.Entry.{Entry}
 use Rattle.table.specs.Calls.{empty_table}
-use Rattle.table.specs.Tests.{bad_job, bad_table}
+use Rattle.table.specs.Tests.{bad_job}
 use Rattle.table.specs.Entries.{entries_of}
 use Rattle.table.specs.Computed as table
 use Rattle.receive.specs.Reading.{read_refusals}

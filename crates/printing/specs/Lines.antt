@@ -1,5 +1,5 @@
 -- Document 01, "The printing program": what it prints, by what it reads.
-use Rattle.std.specs.Prelude.{ℕ, ◌+◌, ◌*◌, ◌/◌, ◌%◌, Bool, true, false, cond, not, ◌||◌, List, [], ◌∷◌, ◌++◌, length, eqb, ltb}
+use Rattle.std.specs.Prelude.{ℕ, ◌+◌, ◌*◌, ◌%◌, Bool, true, false, cond, ◌||◌, List, [], ◌∷◌, ◌++◌, length, eqb, ltb}
 use Rattle.line.specs.Limits.{least_limit, most_records}
 use Rattle.station.specs.declared.Settings.{Settings}
 use Rattle.station.specs.declared.Flow.TheVariants.{Off}
@@ -8,7 +8,6 @@ use Rattle.station.specs.Station.{fresh}
 use Rattle.table.specs.declared.Entry.{Entry}
 use Rattle.table.specs.Entries.{entries_of}
 use Rattle.table.specs.Calls.{empty_table}
-use Rattle.receive.specs.declared.Answer.{Answer}
 use Rattle.receive.specs.declared.Answer.TheVariants.{Refused, Nothing, Open, Counted}
 use Rattle.receive.specs.declared.Reading.{Reading}
 use Rattle.receive.specs.Walk.{walk}

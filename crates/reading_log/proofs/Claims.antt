@@ -1,12 +1,12 @@
--- The claims of document 02, item 4, as theorems: `log-holds`, `log-no-hole`, `log-reads-back`, `log-reads-all`, `log-writes-again`, `reader-reads-back`,
--- and item 11's `reader-reads-remaining`; and the exact refusals of the calls that both have, `append-refuses`, `record-refuses`, `reader-refuses`.
+-- The claims of document 02, item 4, as theorems: `log-holds`, `log_no_hole`, `log-reads-back`, `log-reads_all`, `log-writes-again`, `reader-reads-back`,
+-- and item 11's `reader-reads-remaining`; and the exact refusals of the calls that both have, `append_refuses`, `record_refuses`, `reader_refuses`.
 -- Assumes nothing.
 use Prim.Native.Nat.{ℕ, zero, suc, ◌+◌, ◌-◌, ◌*◌, ◌/◌, ◌≤◌, ◌<◌}
 use native.Mathlib.Omega.{arith}
 use native.Mathlib.Nat.{eq-or-lt_of_le}
-use mathlib.Core.Path.{◌≡◌, refl, sym, ap, ap₂, ◌∙◌, subst}
+use mathlib.Core.Path.{◌≡◌, refl, sym, ap, ◌∙◌, subst}
 use mathlib.Core.Bool.{true, false, false≢true}
-use mathlib.Core.Logic.{◌↔◌, ◌⊎◌, inl, inr, ⊎_elim}
+use mathlib.Core.Logic.{◌↔◌, inl, inr, ⊎_elim}
 use mathlib.Core.List.{List, [], ◌∷◌, ◌++◌, map, append_assoc, append-nil}
 use mathlib.Core.Option.{none, some}
 use lib.ListN.{length, take, drop, replicate, length-append}
@@ -29,7 +29,7 @@ use Rattle.reading_log.specs.Claims.{zero_log, append_all, counted_ones, filled,
 use Rattle.reading_log.specs.Claims.{IsMultiple, Used, NoHole, IsNextUsed, AppendsOrRefuses, RecordOrRefuses, HandsOutOrRefuses}
 use Rattle.reading_log.proofs.Records.{counts-not, outcome-none}
 use Rattle.reading_log.proofs.Used.{used-none, used_keep}
-use Rattle.reading_log.proofs.Searches.{not-used, length-slots, slots-from, slots_end, extent-is, every_used, used_every}
+use Rattle.reading_log.proofs.Searches.{not-used, slots-from, slots_end, extent-is, every_used, used_every}
 use Rattle.reading_log.proofs.Calls.{good_log, good_mod, bad_mod, append_bad, append-none, append-full, append-room, read_bad, read-unused, read-used}
 use Rattle.reading_log.proofs.Filled.{AllCount, filled_multiple, length-filled, extent-filled, count-filled, write_filled, full-count}
 use Rattle.reading_log.proofs.Filled.{append-behind, append-compacts}

@@ -4,8 +4,8 @@ use native.Mathlib.Omega.{arith}
 use mathlib.Core.Path.{◌≡◌, refl, sym, ap, ap₂, ◌∙◌}
 use mathlib.Core.Bool.{true, false, not, ◌&&◌}
 use mathlib.Core.List.{List, [], ◌∷◌, ◌++◌, append_assoc, append-nil}
-use lib.ListN.{length, get_or, take, drop, set, replicate, length-append, length-set, length-replicate, take-append-drop, drop_of_length-le}
-use lib.Seq.{take_all, take_at, drop-append-add, drop-drop, take-add, take-set-le, take-set-lt, drop-set-lt, drop-set-add, length-take-le}
+use lib.ListN.{length, get_or, take, drop, set, replicate, length-replicate, drop_of_length-le}
+use lib.Seq.{take_all, take-add, take-set-le, take-set-lt, drop-set-lt, drop-set-add, length-take-le}
 use lib.Dec.{eqb, lit<}
 use borrow.Author.Tests.{eq-eqb, ne_eqb}
 use Rattle.line.specs.Limits.{record_size}

@@ -1,12 +1,12 @@
--- The claims of document 02, item 11, as theorems. Compaction: `compact-keeps`, `compact-front`, `compact-twice`, `compact-reads`, `compact-no-hole`,
--- `written-again`. Appending: `append-adds`. Deleting: `delete-removes`. And the exact refusals of the new calls: `delete-refuses`, `outcome-refuses`,
--- `compact-refuses`, `count-refuses`. What the reader hands out is in proofs/Claims. Assumes nothing.
+-- The claims of document 02, item 11, as theorems. Compaction: `compact_keeps`, `compact_front`, `compact_twice`, `compact_reads`, `compact_no_hole`,
+-- `written-again`. Appending: `append-adds`. Deleting: `delete_removes`. And the exact refusals of the new calls: `delete_refuses`, `outcome_refuses`,
+-- `compact_refuses`, `count_refuses`. What the reader hands out is in proofs/Claims. Assumes nothing.
 use Prim.Native.Nat.{ℕ, zero, suc, ◌+◌, ◌-◌, ◌*◌, ◌/◌, ◌≤◌, ◌<◌}
 use native.Mathlib.Omega.{arith}
 use native.Mathlib.Nat.{lt_of_not-le}
 use mathlib.Core.Path.{◌≡◌, refl, sym, ap, ap₂, ◌∙◌, subst}
-use mathlib.Core.Bool.{true, false, not, ◌&&◌, false≢true}
-use mathlib.Core.Logic.{◌⊎◌, inl, inr}
+use mathlib.Core.Bool.{true, false, ◌&&◌, false≢true}
+use mathlib.Core.Logic.{inl, inr}
 use mathlib.Core.List.{List, [], ◌∷◌, ◌++◌, map}
 use mathlib.Core.Option.{some}
 use lib.ListN.{length, get_or, take, drop, set, length-append, length-map, length-set, take-append-drop, get_or-eq_default}
@@ -17,16 +17,15 @@ use Rattle.line.specs.Limits.{record_size}
 use Rattle.line.specs.Octets.{low_first}
 use Rattle.line.proofs.Symbols.{by_test}
 use Rattle.reading_log.specs.declared.Record.{Record}
-use Rattle.reading_log.specs.declared.LogNumber.TheVariants.{Number}
 use Rattle.reading_log.specs.Numbers.{logged_refusal, log_number_refusal, log_number_value}
-use Rattle.reading_log.specs.Log.{octets_of_record, record_of, is_used, counts, slot_at, slots_in, slots, all_used, used_ones, used_count, remaining, extent}
-use Rattle.reading_log.specs.Log.{joined, at_front, compacted, bad_log, Logging, appending, used_records}
+use Rattle.reading_log.specs.Log.{octets_of_record, record_of, is_used, slot_at, slots_in, slots, all_used, used_ones, used_count, remaining}
+use Rattle.reading_log.specs.Log.{at_front, compacted, bad_log, Logging, appending, used_records}
 use Rattle.reading_log.specs.Room.{deleting, has_outcome, deleted_all, count_of, Numbered, deleting_all, compacting}
-use Rattle.reading_log.specs.Claims.{zero_log, append_all, counted_ones, filled, Fits, AllFit, OfOctets, IsMultiple, Used, EveryUsed, NoHole}
+use Rattle.reading_log.specs.Claims.{zero_log, append_all, filled, Fits, AllFit, OfOctets, IsMultiple, Used, EveryUsed, NoHole}
 use Rattle.reading_log.specs.Claims.{before, behind, Removes, others, unused_count, DeletesOrRefuses, DeletesAllOrRefuses, CompactsOrRefuses, CountsOrRefuses}
 use Rattle.reading_log.proofs.Records.{record_stands, record_fits, used-counts, octet-unused}
 use Rattle.reading_log.proofs.Used.{used-none, used_keep, used_skip, used-append, all_kept, kept_all}
-use Rattle.reading_log.proofs.Searches.{slot_first, slot_next, slot_octets, outcome-octet, slot_unused, length-slots, slots-from, every_used, count-le}
+use Rattle.reading_log.proofs.Searches.{slot_first, slot_next, slot_octets, slot_unused, length-slots, slots-from, every_used, count-le}
 use Rattle.reading_log.proofs.Calls.{good_log, good_mod, bad_mod, delete_bad, delete_unused, delete_used, outcome_bad, outcome_good}
 use Rattle.reading_log.proofs.Calls.{compact_bad, compact_good, count_bad, count_good}
 use Rattle.reading_log.proofs.Filled.{Whole, whole_used, whole_slots, slots_side, octets_of, AllCount, back_all}

@@ -1,16 +1,15 @@
 -- Sixteen octets over a record of a log: what stands there then, and around it. Assumes nothing.
 use Prim.Native.Nat.{ℕ, zero, suc, ◌+◌, ◌-◌, ◌*◌, ◌/◌, ◌≤◌, ◌<◌}
 use native.Mathlib.Omega.{arith}
-use mathlib.Core.Path.{◌≡◌, refl, sym, ap, ap₂, ◌∙◌}
+use mathlib.Core.Path.{◌≡◌, sym, ap, ap₂, ◌∙◌}
 use mathlib.Core.Bool.{true}
-use mathlib.Core.List.{List, [], ◌∷◌, ◌++◌, append_assoc, append-nil}
+use mathlib.Core.List.{List, [], ◌∷◌, ◌++◌, append_assoc}
 use lib.ListN.{length, take, drop, length-append, length-drop, take-append-drop}
 use lib.Seq.{take_at, drop_at, drop-append-add, drop-drop, take-append-le, take-take, take-add, length-take-le}
 use Rattle.line.specs.Limits.{record_size}
 use Rattle.line.specs.Line.{overwrite}
 use Rattle.line.proofs.Overwrite.{length-overwrite}
-use Rattle.reading_log.specs.Log.{is_used, slot_at, slots_in, slots, used_ones, up_to_last, extent}
-use Rattle.reading_log.specs.Claims.{Used}
+use Rattle.reading_log.specs.Log.{is_used, slot_at, slots_in, slots, used_ones, extent}
 use Rattle.reading_log.proofs.Used.{used_keep, used-append, used_beyond, used-up_to}
 use Rattle.reading_log.proofs.Searches.{length_slot, extent-holds, extent-is}
 

@@ -1,4 +1,4 @@
--- The claims of document 02, item 8, as theorems: `reason-true`, `explain-reads`, `explain-true`, `reason-for-each`. Assumes nothing.
+-- The claims of document 02, item 8, as theorems: `reason_true`, `explain_reads`, `explain_true`, `reason_for_each`. Assumes nothing.
 use Prim.Native.Nat.{ℕ, zero, suc, ◌+◌, ◌-◌, ◌*◌, ◌≤◌, ◌<◌}
 use native.Mathlib.Omega.{arith}
 use mathlib.Core.Path.{◌≡◌, refl, sym, ap, ◌∙◌, subst}

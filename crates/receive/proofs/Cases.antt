@@ -1,9 +1,9 @@
 -- A reading, case by case, as the code finds it. Assumes nothing.
-use Rattle.std.proofs.Common.{◌≡◌, ℕ, ◌+◌, List, length, get_or, drop, sym, ap, ◌∙◌}
+use Rattle.std.proofs.Common.{◌≡◌, ℕ, ◌+◌, List, length, get_or, ap, ◌∙◌}
 use mathlib.Core.Option.{Option}
 use Rattle.line.specs.declared.Found.{Found}
 use Rattle.line.specs.declared.Found.TheVariants.{At}
-use Rattle.line.specs.Line.{capture, find_start, find_control, AfterStart, ended, unended}
+use Rattle.line.specs.Line.{capture, find_start, find_control}
 use Rattle.line.specs.Octets.{between}
 use Rattle.line.specs.Table.{first}
 use Rattle.line.proofs.Buffers.{length-capture}
@@ -16,7 +16,6 @@ use Rattle.station.specs.declared.Checked.{Checked}
 use Rattle.station.specs.declared.Checked.TheVariants.{Fine, Refused}
 use Rattle.receive.specs.declared.Answer.{Answer}
 use Rattle.receive.specs.declared.Answer.TheVariants.{Open}
-use Rattle.receive.specs.declared.Reading.{Reading}
 use Rattle.table.specs.declared.Entry.{Entry}
 use Rattle.table.specs.Entries.{mine}
 use Rattle.outcome.specs.Outcomes.{outcome}

@@ -1,6 +1,6 @@
 -- "Client data is a part of the captured octets themselves": the part that a reading answers lies inside the captured octets, and its octets are
 -- the client data by definition. The statement is `handed-part`. Assumes nothing.
-use Rattle.std.proofs.Common.{◌≡◌, ℕ, zero, suc, ◌+◌, ◌-◌, ◌<◌, ◌≤◌, min, Bool, true, false, cond, ◌&&◌, ltb, leb, List, [], ◌∷◌, ◌++◌, length, take, drop, sym, refl, ap, ◌∙◌, subst, ap₂, append_assoc, append-nil, arith, length-drop, take-append-drop, drop_of_length-le, length-take, drop-drop, le-leb, leb-false, leb-true}
+use Rattle.std.proofs.Common.{◌≡◌, ℕ, zero, suc, ◌+◌, ◌-◌, ◌<◌, ◌≤◌, min, Bool, true, false, cond, ◌&&◌, ltb, leb, List, [], ◌∷◌, ◌++◌, length, take, drop, sym, refl, ap, ◌∙◌, subst, append_assoc, append-nil, arith, length-drop, take-append-drop, drop_of_length-le, length-take, drop-drop, le-leb, leb-false}
 use lib.Seq.{take-append_seam, take-nil}
 use borrow.Author.Tests.{lt-leb}
 use Rattle.line.specs.Limits.{preamble_size, lead_size, fcs_size, least_data}

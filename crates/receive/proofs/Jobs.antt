@@ -1,6 +1,6 @@
 -- Document 02, item 10: "a job's readings depend on its capture, settings, state and own entries, and on entry numbers in item 7's answer only through where
 -- the table put them": `own-reads`, `own-walks`, `placed-reads`. Assumes nothing.
-use Rattle.std.proofs.Common.{◌≡◌, ℕ, zero, suc, ◌+◌, Bool, true, false, List, [], ◌∷◌, length, drop, sym, refl, ap, ◌∙◌, ap₂}
+use Rattle.std.proofs.Common.{◌≡◌, ℕ, zero, suc, ◌+◌, Bool, true, false, List, [], ◌∷◌, length, drop, refl, ap, ◌∙◌, ap₂}
 use mathlib.Core.Option.{Option}
 use Rattle.line.specs.declared.Found.{Found}
 use Rattle.line.specs.declared.Found.TheVariants.{At}

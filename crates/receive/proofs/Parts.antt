@@ -11,7 +11,7 @@ use Rattle.fields.specs.declared.Layout.{Layout}
 use Rattle.fields.specs.Fields.{field, data_place}
 use Rattle.fields.specs.Places.{layout_of}
 use Rattle.frame.specs.Frame.{data_from, frame_data}
-use Rattle.frame.specs.Length.{handed_of, client_data, handed_length}
+use Rattle.frame.specs.Length.{client_data, handed_length}
 use Rattle.frame.proofs.Length.{data_length, handed-le}
 use Rattle.outcome.specs.Status.{status_of}
 use Rattle.receive.specs.Reading.{empty_part, handed_part}

@@ -1,4 +1,4 @@
--- A reading in two steps: what is seen of a run is its reading (`sight-read`), and only a Start that is counted changes the state. Assumes nothing.
+-- A reading in two steps: what is seen of a run is its reading (`sight_read`), and only a Start that is counted changes the state. Assumes nothing.
 use Rattle.std.proofs.Common.{◌≡◌, ℕ, ◌+◌, List, [], ◌∷◌, length, refl, ap₂}
 use mathlib.Core.Option.{Option}
 use denote.Enum.Declared.{tag_of}
@@ -16,7 +16,6 @@ use Rattle.outcome.specs.Status.{status}
 use Rattle.receive.specs.declared.Answer.{Answer}
 use Rattle.receive.specs.declared.Answer.TheVariants.{Refused, Nothing, Open, Counted}
 use Rattle.receive.specs.declared.Sight.{Sight}
-use Rattle.receive.specs.declared.Reading.{Reading}
 use Rattle.receive.specs.contracts.Answer.{the_type}
 use Rattle.receive.specs.Reading.{state_after, handed_part, read_run}
 use Rattle.receive.specs.Steps.{sight_of, after_sight, read_of}

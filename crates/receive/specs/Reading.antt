@@ -1,6 +1,6 @@
 -- Document 01, "Reading one Start" and, for reading, "Refusals and their order": what a reading gives, exact for refusals too. Document 02, item 10: a
 -- reading is of a job, 0 or 1, and goes by the address table `es`; behind the refusals it sees `own`, the job's own entries, and nothing else of the table.
-use Rattle.std.specs.Prelude.{ℕ, ◌+◌, ◌-◌, Bool, true, false, cond, ◌&&◌, List, [], length, take, drop, nat_le}
+use Rattle.std.specs.Prelude.{ℕ, ◌+◌, ◌-◌, cond, ◌&&◌, List, [], length, take, drop, nat_le}
 use Rattle.std.proofs.Math.Option.{Option}
 use Rattle.line.specs.declared.Found.{Found}
 use Rattle.line.specs.declared.Found.TheVariants.{At}

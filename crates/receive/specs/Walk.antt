@@ -1,8 +1,7 @@
 -- Document 01, "Reading one Start": "a walk from place 0 until `none` or `open`".
-use Rattle.std.specs.Prelude.{ℕ, zero, suc, ◌+◌, Bool, true, false, List, [], ◌∷◌, ◌++◌, length}
+use Rattle.std.specs.Prelude.{ℕ, zero, suc, ◌+◌, true, false, List, [], ◌∷◌, ◌++◌, length}
 use Rattle.station.specs.declared.Settings.{Settings}
 use Rattle.station.specs.declared.State.{State}
-use Rattle.station.specs.declared.Part.{Part}
 use Rattle.station.specs.Numbers.{by_outcome}
 use Rattle.table.specs.declared.Entry.{Entry}
 use Rattle.receive.specs.declared.Answer.{Answer}

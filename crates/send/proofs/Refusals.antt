@@ -95,7 +95,7 @@ not_beyond FourLane os place h = (or-false (bad_place os place) (not (eqb (place
 pub inside-port : (port : Port) (os : List ℕ) (place : ℕ) → bad_start port os place ≡ false → place ≤ length os
 inside-port port os place h = inside os place (not_beyond port os place h)
 
--- and on the four_lane port
+-- and on the four-lane port
 pub divisible : (os : List ℕ) (place : ℕ) → bad_start FourLane os place ≡ false → place % lanes ≡ 0
 unfolding bad_start
 divisible os place h = eqb-true (place % lanes) 0 (not-false (eqb (place % lanes) 0) (or-false (bad_place os place) (not (eqb (place % lanes) 0)) h).1)

@@ -1,6 +1,6 @@
 -- Document 01, "Sending" and, for sending, "Refusals and their order": the four calls. Each is a table of refusals and the symbols it writes;
 -- what is common to them stands here once.
-use Rattle.std.specs.Prelude.{ℕ, ◌+◌, ◌-◌, Bool, true, false, not, ◌||◌, List, [], length, eqb, ltb}
+use Rattle.std.specs.Prelude.{ℕ, ◌+◌, ◌-◌, Bool, false, not, ◌||◌, List, [], length, eqb, ltb}
 use Rattle.line.specs.Limits.{least_type, most_length, most_class, around_data, most_tags}
 use Rattle.line.specs.Line.{Symbol, octets_of, marks_of, overwrite}
 use Rattle.line.specs.Table.{Table, ◌⇒◌, ◌∣◌, otherwise, first}

@@ -1,6 +1,6 @@
--- The claims of document 02, item 13, as theorems: `any_order`, `two-halves`, `refused-adds-nothing`, `refused-as-a-walk`, `octets-rise`. What they say of
+-- The claims of document 02, item 13, as theorems: `any_order`, `two_halves`, `refused-adds-nothing`, `refused_as_a_walk`, `octets_rise`. What they say of
 -- the counters is mac/proofs/SizesRise.antt. Assumes nothing.
-use Rattle.std.proofs.Common.{◌≡◌, ℕ, zero, suc, ◌+◌, ◌-◌, ◌%◌, ◌<◌, Bool, true, false, eqb, ltb, leb, List, [], ◌∷◌, ◌++◌, length, get_or, set, sym, refl, ap, ◌∙◌, ap₂, le_of_suc-le-suc, not-suc-le-zero, arith, lit<, get_or-set_other, get_or-set_same, set-set, ltb-false, ltb-true, eqb-true}
+use Rattle.std.proofs.Common.{◌≡◌, ℕ, zero, suc, ◌+◌, ◌%◌, ◌<◌, Bool, true, false, eqb, ltb, leb, List, [], ◌∷◌, ◌++◌, length, get_or, set, sym, refl, ap, ◌∙◌, ap₂, le_of_suc-le-suc, not-suc-le-zero, arith, lit<, get_or-set_other, get_or-set_same, set-set, ltb-false, ltb-true, eqb-true}
 use native.Mathlib.Nat.{mod-add-mod}
 use mathlib.Core.Option.{Option}
 use lib.Seq.{set_comm, set_out}
@@ -12,10 +12,9 @@ use Rattle.line.proofs.Tables.{first-here, first_next, first-other}
 use Rattle.station.specs.declared.Address.{Address}
 use Rattle.station.specs.declared.Settings.{Settings}
 use Rattle.station.specs.declared.State.{State}
-use Rattle.station.specs.declared.Refusal.{Refusal}
 use Rattle.station.specs.declared.Checked.{Checked}
 use Rattle.station.specs.declared.Checked.TheVariants.{Fine, Refused}
-use Rattle.station.specs.Numbers.{checked_number, refusal_number}
+use Rattle.station.specs.Numbers.{checked_number}
 use Rattle.station.specs.Station.{total, fresh}
 use Rattle.table.specs.declared.Entry.{Entry}
 use Rattle.table.specs.Entries.{mine}

@@ -9,8 +9,8 @@ use native.Mathlib.Numerals.{add-one}
 use native.Mathlib.Omega.{arith}
 use borrow.Author.Count.{below_more}
 use lib.Bits.{bit_xor, xor_comm, xor_zero_l, xor_zero_r, xor_lt, xor_block}
-use lib.Dec.{lit<, lit≤}
-use lib.ListN.{length, get_or, take, drop, set, length-set, length-drop, get_or-eq_default}
+use lib.Dec.{lit<}
+use lib.ListN.{length, get_or, take, drop, set, length-drop, get_or-eq_default}
 use lib.Seq.{get_or-set_same, get_or-set_other, get_or-take, get_or-drop, ext_get_or, length-take-le, drop-cons, drop-set-add, take-set-le, take-suc, take-suc-set}
 use Rattle.crc.specs.Crc.{crc_over}
 use Rattle.crc.specs.Words.{crc_zeros, word}

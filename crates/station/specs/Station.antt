@@ -1,5 +1,5 @@
 -- Settings and state: the counters and the fresh state ("Reading one Start"), the flow mode ("Sending"), refusals 1 to 3.
-use Rattle.std.specs.Prelude.{ℕ, ◌+◌, ◌-◌, ◌%◌, ◌^◌, Bool, true, false, not, ◌&&◌, ◌||◌, List, [], ◌∷◌, map, length, replicate, ◌==◌, nat_lt, slice_index, slice_set}
+use Rattle.std.specs.Prelude.{ℕ, ◌+◌, ◌-◌, ◌%◌, ◌^◌, Bool, true, false, not, ◌||◌, List, [], ◌∷◌, map, length, replicate, ◌==◌, nat_lt, slice_index, slice_set}
 use Rattle.line.specs.Limits.{most_symbols, least_limit, most_limit, most_deficit, lanes}
 use Rattle.station.specs.declared.Settings.{Settings}
 use Rattle.station.specs.declared.State.{State}

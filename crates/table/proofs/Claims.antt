@@ -1,19 +1,19 @@
 -- Document 02, item 10, its claims on the table. Assumes nothing.
 --   `added-entries`, `removed-entries`     of the list of entries a call sets one, or none
 --   readings: `own-accepts`, `own-way`     a job's own entries alone decide what it accepts, and their places the number
---   `others-add`, `others-remove`          and no call of the other job changes them
+--   `others-add`, `others_remove`          and no call of the other job changes them
 --   additions: `own-adds`                  these, and which entries the other holds, decide an addition, while no 20 is given
---   `always-four`                          a job that holds fewer than 4 gets the address that it asks for
---   `takes-lowest`, `freed-again`          an addition takes the lowest free entry, so freed ones are used again
---   `both-list`                            both may list the same address
---   `adds-stay-good`, `removes-stay-good`, `never-twenty`    from an empty table on, no table call makes one that gives 20
---   `add-gives`, `remove-gives`            "Table calls give only 14 to 18 and 20."
+--   `always_four`                          a job that holds fewer than 4 gets the address that it asks for
+--   `takes_lowest`, `freed-again`          an addition takes the lowest free entry, so freed ones are used again
+--   `both_list`                            both may list the same address
+--   `adds_stay_good`, `removes_stay_good`, `never_twenty`    from an empty table on, no table call makes one that gives 20
+--   `add-gives`, `remove_gives`            "Table calls give only 14 to 18 and 20."
 -- That a table has 128 octets and an address six is true of every value of their types.
 use Prim.Native.Nat.{ℕ, zero, suc, ◌+◌, ◌-◌, ◌*◌, ◌≤◌, ◌<◌}
 use native.Mathlib.Omega.{arith}
 use native.Mathlib.Nat.{not-suc-le-zero, le_of_suc-le-suc}
 use mathlib.Core.Path.{◌≡◌, refl, sym, ap, ap₂, ◌∙◌, subst}
-use mathlib.Core.Bool.{Bool, true, false, not, ◌||◌, cond, false≢true}
+use mathlib.Core.Bool.{Bool, true, false, not, ◌||◌, false≢true}
 use mathlib.Core.Logic.{inl, inr}
 use mathlib.Core.List.{List, [], ◌∷◌, map}
 use mathlib.Core.Option.{Option, none, some}
@@ -25,7 +25,7 @@ use Rattle.line.specs.declared.Found.{Found}
 use Rattle.line.specs.declared.Found.TheVariants.{At, Nothing}
 use Rattle.line.specs.Limits.{table_entries, most_held}
 use Rattle.line.specs.Octets.{same_octets}
-use Rattle.line.specs.Table.{Table, ◌⇒◌, ◌∣◌, otherwise, first}
+use Rattle.line.specs.Table.{◌⇒◌, ◌∣◌, otherwise, first}
 use Rattle.line.proofs.Symbols.{by_test}
 use Rattle.line.proofs.Octets.{same_octets-refl}
 use Rattle.line.proofs.Tables.{first_next, first-other}
@@ -43,11 +43,11 @@ use Rattle.table.specs.declared.Placed.{Placed}
 use Rattle.table.specs.Entries.{entry_at, entries_of, is_held, is_free, unused, first_entry, free_entry, own_at, mine, own_entries, held, among, names, first_mine, is_found}
 use Rattle.table.specs.Tests.{bad_job, twice, overfull, bad_table}
 use Rattle.table.specs.Way.{accepts, way}
-use Rattle.table.specs.Calls.{empty_table, freed, taken, put_entry, is_listed, add_refusals, remove_refusals, Change, put_at, changed, added, removed}
+use Rattle.table.specs.Calls.{empty_table, freed, taken, is_listed, add_refusals, remove_refusals, put_at, changed, added, removed}
 use Rattle.table.specs.Steps.{one_if}
 use Rattle.table.specs.Claims.{placed_refusal, OneOf, after_call, frees, Alike, Call, adds, removes, after, Six, AllSix}
-use Rattle.table.proofs.Entries.{entries_sixteen, entry_is, length-mine, sixteen, own_held, own-not, never, mine_range, mine-here, mine-later, entry_here, entry_later, held_cons, blank_good}
-use Rattle.table.proofs.Own.{map-set, mine-set, among_more, overfull_more, overfull_less}
+use Rattle.table.proofs.Entries.{entries_sixteen, entry_is, sixteen, own-not, never, mine_range, mine-here, mine-later, entry_here, entry_later, held_cons, blank_good}
+use Rattle.table.proofs.Own.{map-set, among_more, overfull_more, overfull_less}
 use Rattle.table.proofs.Written.{length-put, put_entries}
 
 -- ---- readings: "a job's readings depend on its … own entries, and on entry numbers in item 7's answer only through where the table put them"

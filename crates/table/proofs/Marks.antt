@@ -16,7 +16,7 @@ use Rattle.line.proofs.Symbols.{by_test}
 use Rattle.station.specs.declared.Address.{Address}
 use Rattle.table.specs.declared.Entry.{Entry}
 use Rattle.table.specs.Entries.{address_at, entry_at, is_held, own_at, own_entries, names, among}
-use Rattle.table.specs.Tests.{again, twice}
+use Rattle.table.specs.Tests.{twice}
 use Rattle.table.specs.Steps.{Marked, Met}
 use Rattle.table.proofs.Entries.{again-held, again-not, own_held, own-not, own-from, own-end, twice-later}
 

@@ -1,6 +1,6 @@
--- Document 02, item 9, of the question and of filling: the answer is right whenever the totals are true (`answer-right`), true totals are never refused
--- (`true-fit`) and so answer every place of a capture (`true-answers`); filling makes them true (`filled-true`) and, refused, changes none
--- (`fill-refused-none`); which blocks are written into (`written-into-is`). Assumes nothing.
+-- Document 02, item 9, of the question and of filling: the answer is right whenever the totals are true (`answer_right`), true totals are never refused
+-- (`true_fit`) and so answer every place of a capture (`true_answers`); filling makes them true (`filled-true`) and, refused, changes none
+-- (`fill_refused-none`); which blocks are written into (`written_into_is`). Assumes nothing.
 use Prim.Native.Nat.{ℕ, zero, suc, ◌+◌, ◌*◌, ◌/◌, ◌≤◌, ◌<◌}
 use native.Mathlib.Omega.{arith}
 use mathlib.Core.Path.{◌≡◌, refl, sym, ap, ◌∙◌}

@@ -1,21 +1,20 @@
--- Document 02, item 9: the answer is right whenever the totals are true (`right`); counted anew after a writing they stay true (`stay-true`), no other
--- total is touched (`untouched`), and all of them counted are the true ones (`all-counted`). Assumes nothing.
+-- Document 02, item 9: the answer is right whenever the totals are true (`right`); counted anew after a writing they stay true (`stay_true`), no other
+-- total is touched (`untouched`), and all of them counted are the true ones (`all_counted`). Assumes nothing.
 use Prim.Native.Nat.{ℕ, zero, suc, ◌+◌, ◌-◌, ◌*◌, ◌/◌, ◌≤◌, ◌<◌}
 use native.Mathlib.Omega.{arith}
 use native.Mathlib.Nat.{le_of_suc-le-suc, not-suc-le-zero}
-use native.Mathlib.Numerals.{add-one}
-use mathlib.Core.Path.{◌≡◌, refl, sym, ap, ap₂, ◌∙◌, subst}
-use mathlib.Core.Bool.{Bool, true, false, cond, ◌&&◌, ◌||◌, true≢false}
+use mathlib.Core.Path.{◌≡◌, refl, sym, ap, ap₂, ◌∙◌}
+use mathlib.Core.Bool.{Bool, true, false, cond, ◌&&◌, true≢false}
 use mathlib.Core.List.{List, [], ◌∷◌, ◌++◌, append_assoc}
-use lib.ListN.{length, get_or, set, take, drop, length-append, length-take, length-drop, length-set, drop_of_length-le, take-append-drop}
-use lib.Seq.{take-add, take_all, take-append-le, drop-append-le, drop-append-add, take_at, drop_at, drop-drop, take-take, get_or-set_same, get_or-set_other, ext_get_or, take-nil, drop-nil}
+use lib.ListN.{length, get_or, set, take, drop, length-append, length-take, length-drop, length-set, take-append-drop}
+use lib.Seq.{take-add, take_all, take-append-le, drop-append-le, drop-append-add, drop-drop, get_or-set_same, get_or-set_other, ext_get_or}
 use lib.Dec.{eqb, ltb}
-use borrow.Author.Tests.{lt-ltb, le-ltb, ltb-true, ltb-false, eqb-true, eqb-false}
+use borrow.Author.Tests.{lt-ltb, ltb-true, ltb-false, eqb-true, eqb-false}
 use Rattle.line.specs.Limits.{block_size}
 use Rattle.line.specs.Line.{Symbol, capture, is_start, start_count, overwrite}
 use Rattle.line.proofs.Overwrite.{overwrite-none, length-overwrite}
 use Rattle.line.proofs.Symbols.{by_test, starts-start, starts_other}
-use Rattle.line.proofs.Buffers.{length-capture, capture-at}
+use Rattle.line.proofs.Buffers.{capture-at}
 use Rattle.station.specs.Station.{total}
 use Rattle.totals.specs.Totals.{blocks, starts_in, block_total, totals_from, true_totals, starts_before, answer, written_into, renewed, recounted}
 

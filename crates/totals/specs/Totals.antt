@@ -1,5 +1,5 @@
 -- Document 02, item 9, "Starts per stretch": a total for each block of 256 symbols beside a capture, and how many Starts lie before a place.
-use Rattle.std.specs.Prelude.{ℕ, zero, suc, ◌+◌, ◌-◌, ◌*◌, ◌/◌, Bool, true, false, not, cond, ◌&&◌, ◌||◌, List, [], ◌∷◌, length, take, drop, eqb, ltb}
+use Rattle.std.specs.Prelude.{ℕ, zero, suc, ◌+◌, ◌-◌, ◌*◌, ◌/◌, Bool, false, not, cond, ◌&&◌, ◌||◌, List, [], ◌∷◌, length, take, drop, eqb, ltb}
 use Rattle.line.specs.Limits.{block_size, most_total}
 use Rattle.line.specs.Line.{Symbol, capture, start_count}
 use Rattle.line.specs.Table.{Table, ◌⇒◌, ◌∣◌, otherwise, first}

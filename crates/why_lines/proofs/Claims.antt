@@ -3,7 +3,7 @@
 use Prim.Native.Nat.{ℕ, zero, suc, ◌+◌}
 use mathlib.Core.Path.{◌≡◌}
 use mathlib.Core.Bool.{Bool, true, false, false≢true, true≢false}
-use mathlib.Core.List.{List, [], ◌∷◌}
+use mathlib.Core.List.{List, []}
 use lib.ListN.{length}
 use Rattle.station.specs.declared.Settings.{Settings}
 use Rattle.station.specs.declared.State.{State}
@@ -12,7 +12,6 @@ use Rattle.receive.specs.declared.Reading.{Reading}
 use Rattle.receive.specs.Reading.{reading}
 use Rattle.receive.specs.Walk.{readings_from, walk}
 use Rattle.reason.specs.declared.Explained.{Explained}
-use Rattle.reason.specs.Reasons.{explained}
 use Rattle.reason.proofs.Claims.{explain_reads}
 use Rattle.why_lines.specs.Whys.{explained_from}
 use Rattle.why_lines.specs.Claims.{AllSame}

@@ -1,4 +1,4 @@
--- What the claim on the program `why` speaks of. The theorem is `whys-walk` of proofs/Claims.antt.
+-- What the claim on the program `why` speaks of. The theorem is `whys_walk` of proofs/Claims.antt.
 use Rattle.std.specs.Prelude.{List, [], ◌∷◌}
 use Rattle.receive.specs.declared.Reading.{Reading}
 use Rattle.reason.specs.declared.Explained.{Explained}

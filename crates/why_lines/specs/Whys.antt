@@ -1,5 +1,5 @@
 -- Document 02, item 8, as the crew's program `why` prints it. A text stands as its octets, with the text itself in the comment above.
-use Rattle.std.specs.Prelude.{ℕ, zero, suc, ◌+◌, Bool, true, false, cond, List, [], ◌∷◌, ◌++◌, length, eqb}
+use Rattle.std.specs.Prelude.{ℕ, zero, suc, ◌+◌, true, false, cond, List, [], ◌∷◌, ◌++◌, length, eqb}
 use Rattle.line.specs.Line.{idle, start}
 use Rattle.line.specs.Table.{◌⇒◌, ◌∣◌, otherwise, first}
 use Rattle.station.specs.declared.Settings.{Settings}

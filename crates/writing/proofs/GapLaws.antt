@@ -1,4 +1,4 @@
--- Document 02, item 5: the gap behind a frame on the four_lane port. What is true of it is `four-lane`; by the frame's length alone, `by_length`; and
+-- Document 02, item 5: the gap behind a frame on the four-lane port. What is true of it is `four_lane`; by the frame's length alone, `by_length`; and
 -- what the code reckons is what the definition says, `shorter` and `longer`. Assumes nothing.
 use Prim.Native.Nat.{ℕ, ◌+◌, ◌-◌, ◌%◌, ◌≤◌, ◌<◌}
 use native.Mathlib.Omega.{arith}

@@ -4,7 +4,7 @@ use Prim.Native.Nat.{ℕ, zero, suc, ◌+◌, ◌-◌, ◌*◌, ◌/◌, ◌%◌
 use native.Mathlib.Nat.{add-zero}
 use native.Mathlib.Numerals.{add-one}
 use native.Mathlib.Omega.{arith}
-use mathlib.Core.Path.{◌≡◌, refl, sym, ap, ap₂, ◌∙◌}
+use mathlib.Core.Path.{◌≡◌, refl, sym, ap, ◌∙◌}
 use mathlib.Core.List.{List, [], ◌∷◌, ◌++◌, map, append_assoc}
 use mathlib.Core.Bool.{cond}
 use lib.Dec.{eqb}
@@ -14,11 +14,11 @@ use borrow.Rule.Slice.PartMut.{mid_of, put_mid}
 use Rattle.line.specs.Limits.{lead_size}
 use Rattle.line.specs.Line.{Symbol, octets_of, marks_of, as_data, as_control, overwrite, preamble, idle, terminate}
 use Rattle.line.specs.Octets.{high_first, between}
-use Rattle.line.proofs.Buffers.{octets_of-append, marks_of-append, length-octets_of, length-marks_of}
+use Rattle.line.proofs.Buffers.{octets_of-append, marks_of-append, length-octets_of}
 use Rattle.line.proofs.Octets.{between_middle}
 use Rattle.line.proofs.Overwrite.{put-part}
 use Rattle.splice.specs.Written.{Put}
-use Rattle.splice.proofs.Laws.{◌⨾◌, read_back, put-overwrite}
+use Rattle.splice.proofs.Laws.{◌⨾◌, put-overwrite}
 use Rattle.station.specs.declared.Address.{Address}
 use Rattle.station.specs.declared.Settings.{Settings}
 use Rattle.station.specs.declared.Quanta.{Quanta}

@@ -1,12 +1,12 @@
 -- What the reader finds of the sender's tags: the laws that demand 3 uses, by induction on the run. `a` is the two addresses, `n` the field after
 -- the tags. Assumes nothing.
-use Prim.Native.Nat.{ℕ, zero, suc, ◌+◌, ◌*◌, ◌≤◌, ◌<◌}
+use Prim.Native.Nat.{ℕ, zero, suc, ◌*◌, ◌≤◌, ◌<◌}
 use native.Mathlib.Omega.{arith}
 use native.Mathlib.Nat.{not-suc-le-zero, le_of_suc-le-suc}
-use mathlib.Core.Path.{◌≡◌, refl, sym, ap, ◌∙◌}
-use mathlib.Core.Bool.{Bool, true, false}
+use mathlib.Core.Path.{◌≡◌, refl, ap, ◌∙◌}
+use mathlib.Core.Bool.{true, false}
 use mathlib.Core.List.{List, [], ◌∷◌, ◌++◌, append_assoc}
-use lib.ListN.{length, length-append}
+use lib.ListN.{length}
 use lib.Seq.{drop_at, length-take-le}
 use lib.Dec.{eqb, lit<}
 use Rattle.line.specs.Limits.{most_tags}

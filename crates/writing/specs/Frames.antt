@@ -1,5 +1,5 @@
 -- Document 01, "Sending": frames as line symbols.
-use Rattle.std.specs.Prelude.{ℕ, ◌+◌, ◌-◌, ◌/◌, ◌%◌, Bool, true, false, cond, List, [], ◌∷◌, ◌++◌, map, length, take, replicate, eqb}
+use Rattle.std.specs.Prelude.{ℕ, ◌-◌, ◌/◌, ◌%◌, cond, List, [], ◌∷◌, ◌++◌, map, length, take, replicate, eqb}
 use Rattle.line.specs.Limits.{least_data}
 use Rattle.line.specs.Line.{Symbol, as_data, as_control, idle, start, terminate, preamble}
 use Rattle.line.specs.Octets.{high_first}
@@ -45,7 +45,7 @@ unfoldable pub client_body : Settings → Client → List ℕ → List ℕ
 client_body s c d = c.dest.0 ++ (s.own.0 ++ (tag_octets (tags_sent c) ++ (high_first (field_sent c.form d) ++ padded d)))
 
 -- "one Terminate and eleven Idles": the gap, of a number of Idles, since on the port of document 02, item 5, it varies by the place and the deficit
--- count (`gapAt`, specs/Gaps). A plain port has `plainIdles`
+-- count (`gap_at`, specs/Gaps). A plain port has `plain_idles`
 unfoldable pub gap : ℕ → List Symbol
 gap idles = as_control terminate ∷ replicate idles (as_control idle)
 

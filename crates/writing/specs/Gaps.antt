@@ -1,4 +1,4 @@
--- Document 02, item 5, "The four_lane port": how long the gap behind a frame is, and the deficit count after it.
+-- Document 02, item 5, "The four-lane port": how long the gap behind a frame is, and the deficit count after it.
 use Rattle.std.specs.Prelude.{ℕ, ◌+◌, ◌-◌, ◌%◌, ◌≤◌, ◌≡◌, cond, List, length, leb}
 use Rattle.line.specs.Limits.{plain_idles, around_body, full_gap, most_deficit, lanes}
 use Rattle.line.specs.Line.{Symbol}

@@ -1,0 +1,14 @@
+-- `plain_lines::show_plain` meets its contract. Its two cases are those of `printed`. Assumes nothing.
+use native.Mathlib.Omega.{arith}
+use mathlib.Core.Path.{sym, ◌∙◌}
+use Rattle.printing.proofs.Shows.{shown_as}
+use Rattle.printing.proofs.Records.{bad_printed}
+use Rattle.plain_lines.proofs.show_plain.Goals as goal
+
+pub returns-then-bad_input : goal.returns-then-bad_input
+returns-then-bad_input c =
+    let is = bad_printed c.args.input.now (sym c.bad_input.ensures ∙ c.if-bad_input.true) in
+    record { shown = shown_as is c.show.ensures; upper_bound = omega (arith, c.show.ensures.goes) }
+
+pub show_steps-requires : goal.show_steps-requires
+show_steps-requires c = sym c.bad_input.ensures ∙ c.if-bad_input.false

@@ -1,0 +1,21 @@
+-- `log::room` meets its contract: the log is compacted, or it has room. Assumes nothing.
+use mathlib.Core.Path.{◌≡◌, sym, ap, ◌∙◌}
+use Rattle.reading_log.specs.Log.{extent, compacted, roomy}
+use Rattle.reading_log.proofs.Calls.{roomy-compacts, roomy_stays}
+use Rattle.reading_log.proofs.Filled.{extent-compacted}
+use Rattle.reading_log.proofs.room.Goals as goal
+
+pub returns-then-k-log : goal.returns-then-k-log
+returns-then-k-log c =
+    let d = c in
+    let s = d in
+    let l = s.args.log.now in
+    let r : roomy l ≡ compacted l = roomy-compacts l (sym s.requires.1 ∙ d.if-k-log.true) in
+    (d.compact_front.ensures.0 ∙ sym r, d.compact_front.ensures.1 ∙ sym (extent-compacted l s.requires.0) ∙ ap extent (sym r))
+
+pub returns : goal.returns
+returns c =
+    let s = c in
+    let l = s.args.log.now in
+    let r : roomy l ≡ l = roomy_stays l (λ q. c.if-k-log.false (s.requires.1 ∙ q)) in
+    (sym r, s.requires.1 ∙ ap extent (sym r))

@@ -1,0 +1,13 @@
+-- `why_lines::put_handed` meets its contract: one write after the other. Assumes nothing.
+use native.Mathlib.Omega.{arith}
+use Rattle.splice.proofs.Laws.{◌⨾◌}
+use Rattle.why_lines.specs.Whys.{reason_text}
+use Rattle.why_lines.proofs.put_handed.Goals as goal
+
+pub returns : goal.returns
+unfolding reason_text
+returns c =
+    let y = c in
+    let x = y in
+    let w = x in
+    record { put = w.put_number-i.ensures.put ⨾ x.put_number-j.ensures.put ⨾ y.put_octet.ensures; upper_bound = omega (arith, y.put_octet.ensures.goes) }

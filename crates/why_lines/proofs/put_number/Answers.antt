@@ -1,0 +1,18 @@
+-- `why_lines::put_number` meets its contract: a number of 64 bits has at most 20 digits. Assumes nothing.
+use native.Mathlib.Omega.{arith}
+use Rattle.splice.proofs.Laws.{◌⨾◌}
+use Rattle.printing.proofs.Digits.{decimal_64}
+use Rattle.why_lines.specs.Whys.{with_number}
+use borrow.Author.Rules.{rules}
+use Rattle.why_lines.proofs.put_number.Goals as goal
+
+pub put_decimal-requires : goal.put_decimal-requires
+put_decimal-requires c =
+    let w = c in
+    omega (arith, w.put-a.ensures.goes, decimal_64 w.args.n (search rules))
+
+pub returns : goal.returns
+unfolding with_number
+returns c =
+    let x = c in
+    let w = x in record { put = w.put-a.ensures ⨾ x.put_decimal.ensures; upper_bound = omega (arith, w.put-a.ensures.goes, x.put_decimal.ensures.goes, decimal_64 w.args.n (search rules)) }

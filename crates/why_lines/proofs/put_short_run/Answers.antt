@@ -1,0 +1,12 @@
+-- `why_lines::put_short_run` meets its contract: one write after the other. Assumes nothing.
+use native.Mathlib.Omega.{arith}
+use Rattle.splice.proofs.Laws.{◌⨾◌}
+use Rattle.why_lines.specs.Whys.{reason_text}
+use Rattle.why_lines.proofs.put_short_run.Goals as goal
+
+pub returns : goal.returns
+unfolding reason_text
+returns c =
+    let x = c in
+    let w = x in
+    record { put = w.put_number-i.ensures.put ⨾ x.put_octet.ensures; upper_bound = omega (arith, x.put_octet.ensures.goes) }

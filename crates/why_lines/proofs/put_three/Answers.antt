@@ -1,0 +1,13 @@
+-- `why_lines::put_three` meets its contract: one write after the other. Assumes nothing.
+use native.Mathlib.Omega.{arith}
+use Rattle.splice.proofs.Laws.{◌⨾◌}
+use Rattle.why_lines.specs.Whys.{three_octets}
+use Rattle.why_lines.proofs.put_three.Goals as goal
+
+pub returns : goal.returns
+unfolding three_octets
+returns c =
+    let y = c in
+    let x = y in
+    let w = x in
+    record { put = w.put_then-i.ensures.put ⨾ x.put_then-j.ensures.put ⨾ y.put_then.ensures.put; value = omega arith }
