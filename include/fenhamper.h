@@ -1,8 +1,8 @@
 /*
  * Fenhamper: the software Ethernet MAC of a link tester. Read line symbols, send line symbols.
  *
- *   Platform      x86-64, System V calling convention; C11 or C++17. Link with libfenhamper.a (rt staticlib
- *                 fenhamper), which itself needs memset and nothing else.
+ *   Platform      x86-64, System V calling convention; C11 or C++17. Link with libfenhamper.a (tools/archive),
+ *                 which itself needs memset and nothing else.
  *   Memory        No heap. The archive is code and constants: it has no data section, neither .data nor .bss.
  *   Reentrant     Yes. Nothing is kept between calls but what the caller lends.
  *   Stack         Under 20 KB for a walk, into a log or not, or a capture whose sizes are added, 16 KB of it for

@@ -206,7 +206,7 @@ def main():
     n, seed = int(sys.argv[2]) if len(sys.argv) > 2 else 300, int(sys.argv[3]) if len(sys.argv) > 3 else 1
     for name in ("readings", "plain_readings", "why", "size_table"):
         if not (folder / name).is_file():
-            fail(f"no program {folder / name}; `rt check {name}` builds target/bin/{name}")
+            fail(f"no program {folder / name}; `tools/program {name}` builds target/bin/{name}")
     stale = make.differences()  # so that the samples kept, and what stands beside them, are the model's
     if stale:
         fail(stale[0])

@@ -1,7 +1,7 @@
 #!/usr/bin/env python3
-"""The case program on tapes that are not whole: it says `bad tape` and makes no call. On the whole tape `rt check` runs it.
+"""The case program on tapes that are not whole: it says `bad tape` and makes no call. On the whole tape `rt ci` runs it.
 
-Needs target/bin/cases (rt check cases). Prints how many tapes were told, or what was printed of one that was not, and exits 1.
+Needs target/bin/cases (tools/program cases). Prints how many tapes were told, or what was printed of one that was not, and exits 1.
 """
 import pathlib
 import subprocess

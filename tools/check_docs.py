@@ -9,8 +9,9 @@ made in them: links, tables, the picture, lines of the changelog.
 - docs/ARCHITECTURE.md has every crate on its floor, and docs/crates.svg shows who uses whom (tools/pages/picture.py).
 - CHANGELOG.md has a line for each landing note (tools/pages/changelog.py).
 - docs/TRUST.md tells how many lines one has to believe (tools/pages/trust.py).
-- README.md shows its samples as they are. docs/PLAIN.md shows the reader's code, all of it and in its order but for what it uses and promises, and the
-  model's rows of its worked capture, these alone and in their order, on one page.
+- README.md shows its samples as they are. docs/PLAIN.md shows the reader's code, all of it and in its order but for what it uses and promises and its
+  derives, and the model's rows of its worked capture, these alone and in their order, on one page.
+- crates/fenhamper_c exports the functions of crates/fenhamper, each under its own name and clauses (tools/pages/exports.py).
 - All pages: links lead to files and headings; docs/RULES.md names definitions in their files, and docs/DEFINITIONS.md links its sections
   (tools/pages/links.py).
 """
@@ -22,6 +23,7 @@ root = pathlib.Path(__file__).resolve().parent.parent
 sys.dont_write_bytecode = True
 sys.path[:0] = [str(root / "tools" / "pages"), str(root / "tools" / "oracle")]
 import changelog  # noqa: E402
+import exports  # noqa: E402
 import files  # noqa: E402
 import links  # noqa: E402
 import picture  # noqa: E402
@@ -48,7 +50,7 @@ promises = (root / "docs" / "PROMISES.md").read_text()
 promised = set(re.findall(r"`(\w+::\w+)`", promises))
 public = set()
 for path in root.glob("crates/*/src/lib.rt"):
-    for name in re.findall(r"^pub (?:extern \"C\" )?fn (\w+)", path.read_text(), re.M):
+    for name in re.findall(r"^pub fn (\w+)", path.read_text(), re.M):
         public.add(f"{path.parent.parent.name}::{name}")
 missing += [f"docs/PROMISES.md: `{name}` is not there" for name in sorted(public - promised)]
 missing += [f"docs/PROMISES.md: there is no public `{name}`" for name in sorted(promised - public)]
@@ -60,14 +62,15 @@ shown = [line for block in re.findall(r"^```rust\n(.*?)^```", plain, re.M | re.S
 PAGE = 112  # "a reader that fits on one page" (document 02, item 12)
 code = (root / "crates" / "plain" / "src" / "lib.rt").read_text()
 code = code[code.index("// The reader between"):]
-if shown != [line for line in code.split("\n") if line.strip() and not line.strip().startswith("ensures")]:
+code = re.sub(r"^ +ensures.*?(?=^\{)|^#\[[^\n]*\n", "", code, flags=re.M | re.S)
+if shown != [line for line in code.split("\n") if line.strip()]:
     missing.append("docs/PLAIN.md: the code is not crates/plain/src/lib.rt")
 if re.findall(r"^\| \d.*$", plain, re.M) != plain_page.rows():
     missing.append("docs/PLAIN.md: the rows of its capture are not tools/oracle/plain_page.py's")
 if plain.count("\n") > PAGE:
     missing.append(f"docs/PLAIN.md: more than a page of {PAGE} lines")
 # links, and what is made
-missing += links.wrong() + files.wrong() + ruled_out.wrong() + trust.wrong() + picture.wrong() + changelog.wrong()
+missing += links.wrong() + files.wrong() + ruled_out.wrong() + trust.wrong() + picture.wrong() + changelog.wrong() + exports.wrong()
 for line in missing:
     print(line)
 sys.exit(1 if missing else 0)

@@ -2,7 +2,8 @@
 """tools/more_edits.py [CRATE ..]: tries the must-fail edits of more-edits/, of all crates or of these.
 
 They are edits like those of crates/*/must-fail, for which the gate has no time: each costs a check of its crate. All must be refused. The edits are
-tried by `rt must-fail` in a copy of the crates, with what is already proved (target/) taken along. Ends as rt does: 0 if all were refused.
+tried by `rt must-fail` in a copy of the crates, which begins with what checks here or elsewhere on this machine have kept of the same files. Ends as rt does:
+0 if all were refused.
 """
 import pathlib
 import shutil
@@ -15,11 +16,9 @@ more = root / "more-edits"
 
 
 def copy_with_edits(to, crates):
-    """The crates, with the edits of more-edits/ for those named in place of the gate's: rt tries those of the crates below too, if they are there."""
+    """The crates, with the edits of more-edits/ for those named in place of the gate's."""
     shutil.copy(root / "crates.txt", to)
-    shutil.copytree(root / "crates", to / "crates", ignore=shutil.ignore_patterns("must-fail"))
-    if (root / "target").exists():
-        shutil.copytree(root / "target", to / "target", symlinks=True, ignore=shutil.ignore_patterns("must-fail"))
+    shutil.copytree(root / "crates", to / "crates", ignore=shutil.ignore_patterns("must-fail", "out"))
     for crate in crates:
         shutil.copytree(more / crate, to / "crates" / crate / "must-fail")
 

@@ -308,7 +308,7 @@ def main():
     folder = sys.argv[1] if len(sys.argv) > 1 else os.environ.get("FENHAMPER_LIB_DIR") or root / "target" / "staticlib"
     archive = pathlib.Path(folder) / "libfenhamper.a"
     if not archive.is_file():
-        sys.exit(f"stack.py: {archive} is not there; make it with: rt staticlib fenhamper")
+        sys.exit(f"stack.py: {archive} is not there; make it with: tools/archive")
     code = Code(archive)
     stack = Stack(code)
     of, wrong = told(header.read_text(), code.exported)

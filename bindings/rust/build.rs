@@ -20,17 +20,17 @@ fn warn(message: &str) {
 
 // Proves the library and writes the archive.
 fn make(root: &Path) {
-    let mut rt = Command::new("rt");
-    rt.args(["staticlib", "fenhamper"]).current_dir(root);
-    match rt.status() {
-        Ok(status) if status.success() => {}
-        Ok(status) => fail(&format!("`rt staticlib fenhamper` failed ({status})")),
-        Err(error) => fail(&format!(
-            "target/staticlib/{ARCHIVE} is not there, and `rt staticlib fenhamper`, which makes it, \
-             could not be run ({error}). Put `rt`, of the Rattle kit, on PATH, or name the folder \
-             that has {ARCHIVE} in {LIB_DIR}"
-        )),
-    }
+    let mut tool = Command::new("sh");
+    tool.arg("tools/archive").current_dir(root);
+    let failed = match tool.status() {
+        Ok(status) if status.success() => return,
+        Ok(status) => format!("failed ({status})"),
+        Err(error) => format!("could not be run ({error})"),
+    };
+    fail(&format!(
+        "target/staticlib/{ARCHIVE} is not there, and tools/archive, which makes it, {failed}. Put \
+         `rt`, of the Rattle kit, on PATH, or name the folder that has {ARCHIVE} in {LIB_DIR}"
+    ))
 }
 
 // The archive is for x86-64. A build for another processor is told so before its linker fails.
@@ -50,9 +50,9 @@ fn sources(root: &Path) -> Vec<PathBuf> {
     let text = fs::read_to_string(&list).unwrap_or_default();
     let lower = text
         .lines()
-        .find_map(|line| line.strip_prefix("fenhamper:"))
+        .find_map(|line| line.strip_prefix("fenhamper_c staticlib:"))
         .unwrap_or_default();
-    let names = lower.split_whitespace().chain(["fenhamper"]);
+    let names = lower.split_whitespace().chain(["fenhamper_c"]);
     let parts = names.flat_map(|name| {
         let folder = root.join("crates").join(name);
         ["src", "specs", "proofs"].map(|part| folder.join(part))
@@ -82,7 +82,7 @@ fn tell_stale(root: &Path, archive: &Path) {
     if let Some(source) = sources.iter().find(|source| written(source) > made) {
         let source = source.strip_prefix(root).unwrap_or(source);
         warn(&format!(
-            "target/staticlib/{ARCHIVE} is older than {}: `rt staticlib fenhamper` makes it anew",
+            "target/staticlib/{ARCHIVE} is older than {}: tools/archive makes it anew",
             source.display()
         ));
     }

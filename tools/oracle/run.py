@@ -4,7 +4,6 @@
 The definitions are copied to a temporary folder (nothing is written into the repository), where a crate `oracle` sees receive, reason, plain, sizes,
 jobs, send, logging and counting and all that they list. Each case is a theorem there, which antt admits only if the definition computes to the model's answer.
 """
-import os
 import re
 import shutil
 import subprocess
@@ -31,7 +30,7 @@ WANTED = ["receive", "reason", "plain", "sizes", "jobs", "send", "logging", "cou
 def listed_crates(repository):
     """crates.txt: each crate and what it lists."""
     lines = [x.split("#")[0] for x in (repository / "crates.txt").read_text().splitlines()]
-    return {name.strip(): rest.split() for name, _, rest in (x.partition(":") for x in lines) if name.strip()}
+    return {name.split()[0]: rest.split() for name, _, rest in (x.partition(":") for x in lines) if name.strip()}
 
 
 def needed_crates(listed):
@@ -45,12 +44,18 @@ def needed_crates(listed):
     return [name for name in listed if name in seen]
 
 
+def types_alone(use):
+    return use[1] + ", ".join(name for name in re.split(r"[,\s]+", use[2]) if name[:1].isupper()) + "};"
+
+
 def declarations(text):
     """What definitions need of a source file: its modules, constants and types, and the types that it uses. Functions go, and with them their
     proofs: the definitions are tried, not the code. An item begins in column 0 and ends there too, or on the line that it begins on."""
+    # of the names that a `use` lists, the functions go
+    text = re.sub(r"^((?:pub )?use [^{;]*\{)([^}]*)\};", types_alone, text, flags=re.M)
     kept, keep = [], False
     for line in text.splitlines():
-        if re.match(r"(pub )?(mod|const|type|struct|enum)\b", line) or re.match(r"(pub )?use .*(\b[A-Z]\w*|[{}]);?$", line):
+        if re.match(r"(pub )?(mod|const|type|struct|enum)\b", line) or re.match(r"(pub )?use .*(\b[A-Z]\w*|\w\});?$", line):
             keep = True
         elif line[:1] not in ("", " ", "}", ")", "]"):
             keep = False
@@ -87,13 +92,12 @@ def unfoldable(folder, names):
     for crate in names:
         specs = folder / "crates" / crate / "specs"
         for file in sorted(specs.rglob("*.antt")):
-            found = re.findall(r"^unfoldable pub (\S+) *:", file.read_text(), re.M)
+            found = re.findall(r"^unfoldable pub (\S+)(?: \{[^}]*\})* *:", file.read_text(), re.M)
             module = ".".join(file.relative_to(specs).with_suffix("").parts)
-            # no underscore in a name of ours: antt reads it as an operator's place
-            own = f"{crate}-{module}-".replace("_", "-").replace(".", "-")
-            here = {name: own + (f"operator{n}" if "_" in name else name) for n, name in enumerate(found)}
+            own = f"{crate}-{module}-".replace(".", "-")
+            here = {name: own + (f"operator{n}" if "◌" in name else name) for n, name in enumerate(found)}
             if here:
-                uses.append(f"use Rattle·{crate}.specs.{module}.{{{', '.join(f'{a} as {b}' for a, b in here.items())}}}")
+                uses.append(f"use Rattle.{crate}.specs.{module}.{{{', '.join(f'{a} as {b}' for a, b in here.items())}}}")
                 all_names += here.values()
     return uses, all_names
 
@@ -134,14 +138,14 @@ def settings(s):
 
 
 def state(st):
-    return f"(stateOf {numbers(st.counters)} {numbers(st.timers)} {st.deficit})"
+    return f"(state_of {numbers(st.counters)} {numbers(st.timers)} {st.deficit})"
 
 
 def tags(asked):
     """An array of eight: those asked for, as far as there is room, and others behind them that do not count."""
     names = {model.CUSTOMER: "Customer", model.SERVICE: "Service"}
     eight = (asked + [(model.SERVICE, 0xFFFF)] * model.MOST_TAGS)[:model.MOST_TAGS]
-    return "(" + "".join(f"tagOf {names[kind]} {control} ∷ " for kind, control in eight) + "[])"
+    return "(" + "".join(f"tag_of {names[kind]} {control} ∷ " for kind, control in eight) + "[])"
 
 
 PORTS = {model.PLAIN: "Plain", model.FOUR_LANE: "FourLane"}
@@ -150,52 +154,52 @@ PORTS = {model.PLAIN: "Plain", model.FOUR_LANE: "FourLane"}
 def call(c):
     """The definition's answer to a case."""
     if c.call == "fcs":
-        return f"giveFcs {numbers(c.asked[0])}"
+        return f"give_fcs {numbers(c.asked[0])}"
     if c.call == "append":
-        return f"giveAppend {numbers(c.log)} (recordMade {' '.join(map(str, c.asked))})"
+        return f"give_append {numbers(c.log)} (record_made {' '.join(map(str, c.asked))})"
     if c.call in ("look", "delete", "delete_all"):
-        return f"give{c.call.title().replace('_', '')} {numbers(c.log)} {c.asked}"
+        return f"give_{c.call} {numbers(c.log)} {c.asked}"
     if c.call == "compact":
-        return f"giveCompact {numbers(c.log)}"
+        return f"give_compact {numbers(c.log)}"
     if c.call == "bad":
-        return f"giveBad {numbers(c.table)}"
+        return f"give_bad {numbers(c.table)}"
     if c.call in ("add", "remove"):
-        return f"give{c.call.title()} {c.job} {numbers(c.table)} {numbers(c.asked)}"
+        return f"give_{c.call} {c.job} {numbers(c.table)} {numbers(c.asked)}"
     if c.table:
         reader = f"{settings(c.settings)}\n    {c.job} {numbers(c.table)}\n    "
     if c.call == "why":
-        return f"giveWhy {reader}{numbers(c.octets)}\n    {numbers(c.marks)}\n    {c.place}"
+        return f"give_why {reader}{numbers(c.octets)}\n    {numbers(c.marks)}\n    {c.place}"
     if c.call == "sizes":
-        return f"giveSizes {numbers(c.totals)} {reader}{numbers(c.octets)}\n    {numbers(c.marks)}"
+        return f"give_sizes {numbers(c.totals)} {reader}{numbers(c.octets)}\n    {numbers(c.marks)}"
     if c.call == "screen":
         captures = [(c.octets, c.marks), c.other][::-1 if c.job == 1 else 1]
-        return f"giveScreen {reader}" + "\n    ".join(numbers(buffer) for capture in captures for buffer in capture) + f"\n    {c.place}"
+        return f"give_screen {reader}" + "\n    ".join(numbers(buffer) for capture in captures for buffer in capture) + f"\n    {c.place}"
     if c.call == "fill":
-        return f"giveFill {numbers(c.octets)}\n    {numbers(c.marks)}\n    {numbers(c.totals)}"
+        return f"give_fill {numbers(c.octets)}\n    {numbers(c.marks)}\n    {numbers(c.totals)}"
     if c.call == "before":
-        return f"giveBefore {numbers(c.octets)}\n    {numbers(c.marks)}\n    {c.place} {numbers(c.totals)}"
+        return f"give_before {numbers(c.octets)}\n    {numbers(c.marks)}\n    {c.place} {numbers(c.totals)}"
     line = f"{state(c.state)}\n    {numbers(c.octets)}\n    {numbers(c.marks)}"
     keeps = c.totals is not None
     if c.call == "idle":
-        return f"keepIdle {line}\n    {numbers(c.totals)} {c.place} {c.asked}" if keeps else f"giveIdle {line}\n    {c.place} {c.asked}"
+        return f"keep_idle {line}\n    {numbers(c.totals)} {c.place} {c.asked}" if keeps else f"give_idle {line}\n    {c.place} {c.asked}"
     if c.call == "reading":
-        return f"giveReading {reader}{line}\n    {c.place}"
+        return f"give_reading {reader}{line}\n    {c.place}"
     if c.call == "walk":
-        return f"giveWalk {reader}{line}"
+        return f"give_walk {reader}{line}"
     if c.call == "plain":
-        return f"givePlain {reader}{line}"
+        return f"give_plain {reader}{line}"
     if c.call == "keep":
-        return f"giveKeep {reader}{line}\n    {c.place} {numbers(c.log)}"
+        return f"give_keep {reader}{line}\n    {c.place} {numbers(c.log)}"
     line = f"{settings(c.settings)} {line}"
     # a call that keeps totals has a port
     give, line = ("keep", f"{PORTS[c.port]} {line}\n    {numbers(c.totals)}") if keeps else ("give", line)
     if c.call == "pause":
-        return f"{give}Pause {line}\n    {c.place} {c.asked}"
+        return f"{give}_pause {line}\n    {c.place} {c.asked}"
     if c.call == "pfc":
-        return f"{give}Pfc {line}\n    {c.place} (classesOf {c.asked[0]} {numbers(c.asked[1])})"
+        return f"{give}_pfc {line}\n    {c.place} (classes_of {c.asked[0]} {numbers(c.asked[1])})"
     k = c.asked
     form = "ByLength" if k.type is None else f"(ByType {k.type})"
-    return f"{give}Client {line}\n    {c.place} (clientOf {numbers(k.destination)} {tags(k.tags)} {len(k.tags)} {form} {k.cls}) {numbers(k.data)}"
+    return f"{give}_client {line}\n    {c.place} (client_of {numbers(k.destination)} {tags(k.tags)} {len(k.tags)} {form} {k.cls}) {numbers(k.data)}"
 
 
 # the fields of an answer, in the order of cases.py: names and how many numbers each has (none: the rest)
@@ -229,21 +233,21 @@ def fields(c):
 
 
 def agrees(c):
-    return f"sameOctets ({call(c)})\n    {numbers(c.answer)}"
+    return f"same_octets ({call(c)})\n    {numbers(c.answer)}"
 
 
 def differs(c):
-    return f"not (sameOctets ({call(c)})\n    {numbers(c.answer)})"
+    return f"not (same_octets ({call(c)})\n    {numbers(c.answer)})"
 
 
 def field_agrees(c, place, n, last):
     taken = f"drop {place} ({call(c)})"
     taken = taken if last else f"take {n} ({taken})"
-    return f"sameOctets ({taken})\n    {numbers(c.answer[place:place + n])}"
+    return f"same_octets ({taken})\n    {numbers(c.answer[place:place + n])}"
 
 
 def theorem(number, test, unfolding):
-    return f"case{number} : T ({test})\nunfolding {unfolding}\ncase{number} = tt\n"
+    return f"case{number} : ({test}) ≡ true\nunfolding {unfolding}\ncase{number} = refl\n"
 
 
 # ---- The runs
@@ -252,7 +256,7 @@ def theorem(number, test, unfolding):
 def check(folder, text):
     (folder / "crates/oracle/specs/Oracle.antt").write_text(text)
     (folder / "crates/oracle/specs/Lib.antt").write_text("pub mod Oracle\n")
-    run = subprocess.run(["rt", "dev", "oracle"], cwd=folder, stdout=subprocess.PIPE, stderr=subprocess.STDOUT, text=True, env={**os.environ, "RT_CUT": "0"})
+    run = subprocess.run(["rt", "check"], cwd=folder / "crates/oracle", stdout=subprocess.PIPE, stderr=subprocess.STDOUT, text=True)
     return run.returncode, run.stdout
 
 

@@ -76,7 +76,7 @@ def definitions():
         if path.name == "Lib.antt" or text.startswith("-- Internal"):
             continue
         for name in DEFINED.findall(text):
-            if name not in ("mod", "use") and not name.startswith("_"):
+            if name not in ("mod", "use") and name[0] not in "_◌":
                 yield path, name
 
 

@@ -18,10 +18,15 @@ HIGH, WIDE, APART, DOWN, EDGE = 26, 7.4, 18, 62, 20  # of a box, of a letter, be
 SWEEPS = 40
 
 
+def name_of(line):
+    """The crate of a line of crates.txt, without what stands behind its name, as `staticlib`."""
+    return line.split(":")[0].split()[0]
+
+
 def listed():
     """Each crate of crates.txt with those of the repository that it may name, in the file's order."""
     lines = [line.split("#")[0].strip() for line in (root / "crates.txt").read_text().split("\n")]
-    named = {line.split(":")[0]: line.split(":")[1].split() for line in lines if line}
+    named = {name_of(line): line.split(":")[1].split() for line in lines if line}
     return {crate: [one for one in below if one in named] for crate, below in named.items()}
 
 
@@ -174,7 +179,7 @@ def told():
 def ordered():
     """crates.txt, floor by floor as the page has them."""
     known, text = told(), (root / "crates.txt").read_text()
-    of = {line.split(":")[0]: line for line in text.split("\n") if line and not line.startswith("#")}
+    of = {name_of(line): line for line in text.split("\n") if line and not line.startswith("#")}
     lines, floor = [text.split("\n", 1)[0]], 0
     for crate in [crate for crate in known if crate in of] + [crate for crate in of if crate not in known]:
         if known.get(crate) != floor:

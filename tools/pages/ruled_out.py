@@ -15,7 +15,7 @@ from files import cells, long_rows, root, row_of  # noqa: E402
 
 page = root / "docs" / "PROMISES.md"
 EDIT = re.compile(r"\((?:\.\./crates/(\w+)/must-fail|\.\./more-edits/(\w+))/(\w+)\.edit\)|\b(\w+)/`(\w+)`")
-USED = re.compile(r"^ghost use Rattle·(\w+?)(?:·specs)?\.specs\.(\w+)\.\{([^}]*)\};", re.M)
+USED = re.compile(r"^ghost use Rattle\.(?!std\b)(\w+)\.specs\.(\w+)\.\{([^}]*)\};", re.M)
 LONGEST = 299
 
 

@@ -30,7 +30,7 @@ fn program() -> Option<PathBuf> {
     let path = named.map_or("../../target/bin/readings".into(), PathBuf::from);
     assert!(
         path.is_file(),
-        "the printing program {} is not there: make it by `rt check readings`, name another in \
+        "the printing program {} is not there: make it by `tools/program readings`, name another in \
          FENHAMPER_READINGS, or set FENHAMPER_NO_READINGS to leave this test out",
         path.display()
     );
