@@ -10,17 +10,15 @@ ghost use Rattle.address.specs.Address.{broadcast_address};
 use station::Address;
 
 // Whether the frame's destination is `a`, all six octets: the last one first, since stations of one maker share the others.
+#[tactic(auto, using(crate::proofs::Address::to_short, crate::proofs::Address::to_differs, crate::proofs::Address::to_same))]
 pub fn to(f: &[u8], a: Address) -> bool
     ensures { result ≡ same_octets (destination f.now) a.0 }
 {
     if f.len() < 6 {
         return false;
     }
-    let octets = a.0;
-    let mut k: usize = 6;
-    while 0 < k {
-        k -= 1;
-        if f[k] != octets[k] {
+    for k in (0..6).rev() {
+        if f[k] != a.0[k] {
             return false;
         }
     }
@@ -28,6 +26,7 @@ pub fn to(f: &[u8], a: Address) -> bool
 }
 
 // Broadcast is all ones.
+#[tactic(auto, unfolding(crate::specs::Address::broadcast_address))]
 pub fn is_broadcast(f: &[u8]) -> bool
     ensures { result ≡ same_octets (destination f.now) broadcast_address }
 {

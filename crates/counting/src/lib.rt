@@ -8,8 +8,8 @@ ghost use Rattle.send.specs.Sending.{refused_at};
 ghost use Rattle.totals.specs.Totals.{before_refusals};
 ghost use Rattle.counting.specs.Counting.{frame_totals, counting, client_counting, pause_counting, pfc_counting, idle_counting};
 
-use send::{SendAnswer, Sending};
-use station::{Checked, Port, Quanta, Refusal, Settings, State};
+use send::Sending;
+use station::{Port, Quanta, Refusal, Settings, State};
 use writing::{Classes, Client};
 
 // The refusals of a frame's call up to 22, on a port and with the deficit count.
@@ -21,41 +21,42 @@ pub fn check_frame(
     marks: &[u8],
     totals: &[u16],
     place: usize,
-) -> Checked
+) -> Result<(), Refusal>
     ensures { result ≡ first (frame_totals s port deficit octets.now marks.now place totals.now) }
 {
     if station::bad_settings(s) {
-        return Checked::Refused(Refusal::BadSettings);
+        return Err(Refusal::BadSettings);
     }
     if station::bad_buffers(octets, marks) {
-        return Checked::Refused(Refusal::BadBuffers);
+        return Err(Refusal::BadBuffers);
     }
     if station::bad_start(port, octets, place) {
-        return Checked::Refused(Refusal::BadPlace);
+        return Err(Refusal::BadPlace);
     }
     if station::high_deficit(port, deficit) {
-        return Checked::Refused(Refusal::HighDeficit);
+        return Err(Refusal::HighDeficit);
     }
     if totals::wrong_totals(octets, totals) {
-        return Checked::Refused(Refusal::WrongTotals);
+        return Err(Refusal::WrongTotals);
     }
     if totals::high_total(totals) {
-        return Checked::Refused(Refusal::HighTotal);
+        return Err(Refusal::HighTotal);
     }
-    Checked::Fine
+    Ok(())
 }
 
-// A call that was refused.
+// A call that was refused. The same function in `send` is private, since docs/PROMISES.md has a promise for each public one.
 fn refused(x: Refusal, place: usize, state: State) -> Sending
     ensures { result ≡ refused_at x place state }
 {
     Sending {
-        answer: SendAnswer::Refused(x),
+        answer: Err(x),
         place,
         state,
     }
 }
 
+// A closure over the call without totals would need clauses of its own for both lent buffers: four calls with a body of three steps are plainer.
 // A client frame on a port, and the blocks that it lies in counted anew.
 pub fn send_client(
     s: Settings,
@@ -71,8 +72,7 @@ pub fn send_client(
     ensures { counting result octets.new marks.new totals.new
         ≡ client_counting s state port octets.old marks.old totals.old place client «data».now }
 {
-    let checked = check_frame(s, port, state.deficit, octets, marks, totals, place);
-    if let Checked::Refused(x) = checked {
+    if let Err(x) = check_frame(s, port, state.deficit, octets, marks, totals, place) {
         return refused(x, place, state);
     }
     let sent = send::send_client(s, state, port, octets, marks, place, client, data);
@@ -94,8 +94,7 @@ pub fn send_pause(
     ensures { counting result octets.new marks.new totals.new
         ≡ pause_counting s state port octets.old marks.old totals.old place quanta }
 {
-    let checked = check_frame(s, port, state.deficit, octets, marks, totals, place);
-    if let Checked::Refused(x) = checked {
+    if let Err(x) = check_frame(s, port, state.deficit, octets, marks, totals, place) {
         return refused(x, place, state);
     }
     let sent = send::send_pause(s, state, port, octets, marks, place, quanta);
@@ -117,8 +116,7 @@ pub fn send_pfc(
     ensures { counting result octets.new marks.new totals.new
         ≡ pfc_counting s state port octets.old marks.old totals.old place classes }
 {
-    let checked = check_frame(s, port, state.deficit, octets, marks, totals, place);
-    if let Checked::Refused(x) = checked {
+    if let Err(x) = check_frame(s, port, state.deficit, octets, marks, totals, place) {
         return refused(x, place, state);
     }
     let sent = send::send_pfc(s, state, port, octets, marks, place, classes);
@@ -138,8 +136,7 @@ pub fn fill_idle(
     ensures { counting result octets.new marks.new totals.new
         ≡ idle_counting state octets.old marks.old totals.old place n }
 {
-    let checked = totals::check_before(octets, marks, totals, place);
-    if let Checked::Refused(x) = checked {
+    if let Err(x) = totals::check_before(octets, marks, totals, place) {
         return refused(x, place, state);
     }
     let sent = send::fill_idle(state, octets, marks, place, n);

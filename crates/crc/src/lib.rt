@@ -21,19 +21,10 @@ pub fn bits(n: u32, x: u32) -> u32
     ensures { result ≡ crc_bits n x }
 {
     let mut r = x;
-    let mut m = n;
-    while 0 < m {
+    for _ in 0..n {
         r = bit(r);
-        m -= 1;
     }
     r
-}
-
-// A register as a number of 64 bits.
-fn wide(x: u32) -> u64
-    ensures { result ≡ x }
-{
-    x as u64
 }
 
 // What an entry of the tables holds, computed. It is the arm of each table's `match` that no caller reaches, and LLVM removes it; with it a table's
@@ -42,5 +33,5 @@ pub fn far(n: u32, v: u32) -> u64
     ensures { result ≡ both 64 n v }
 {
     let a = bits(n, v);
-    wide(a) ^ wide(bits(64, a)) * 0x1_0000_0000
+    u64::from(a) ^ u64::from(bits(64, a)) * 0x1_0000_0000
 }

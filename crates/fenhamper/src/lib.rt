@@ -32,8 +32,7 @@ ghost use Rattle.fenhamper.specs.Face.{kept, keep_told, lodged, log_told, step_g
 ghost use Rattle.fenhamper.specs.Face.{totals_given, fill_told, starts_told, with_totals, count_told};
 ghost use Rattle.fenhamper.specs.Face.{table_given, table_told, part_given, part_told, plain_given, plain_told, sizes_given, add_told};
 
-use station::{Checked, Quanta};
-use totals::Count;
+use station::{Quanta, Refusal};
 
 // ---- the functions of the C face
 
@@ -303,8 +302,7 @@ pub fn fenhamper_log_next(log: &[u8], at: &mut usize, record: &mut [u8; 16]) -> 
 {
     let step = reading_log::next_at(log, *at);
     *at = step.at;
-    let read = step.read;
-    crossing::give_record(record, read)
+    crossing::give_record(record, step.read)
 }
 
 pub fn fenhamper_log_used(log: &[u8], used: &mut usize) -> u32
@@ -349,13 +347,7 @@ pub fn fenhamper_starts_before(
     ensures { number_given result starts.new
         ≡ starts_told starts.old (before_place octets.now marks.now place totals.now) }
 {
-    match totals::starts_before(octets, marks, totals, place) {
-        Count::Starts(n) => {
-            *starts = n;
-            0
-        }
-        Count::Refused(x) => station::refusal_number(x) as u32,
-    }
+    crossing::give_entry(starts, totals::starts_before(octets, marks, totals, place))
 }
 
 // The tests up to 22 of a frame's call with totals, on what its records stand for.
@@ -367,7 +359,7 @@ fn check_counted(
     marks: &[u8],
     totals: &[u16],
     place: usize,
-) -> Checked
+) -> Result<(), Refusal>
     ensures { result ≡ first (frame_totals (settings_of s.now) (port_of port) (state_of state.now).deficit
         octets.now marks.now place totals.now) }
 {
@@ -398,8 +390,7 @@ pub fn fenhamper_send_client_counted(
         ≡ count_told state.old (client_counting (settings_of s.now) (state_of state.old) (port_of port)
         octets.old marks.old totals.old place (client_of frame.now) «data».now) }
 {
-    let checked = check_counted(s, port, state, octets, marks, totals, place);
-    if let Checked::Refused(x) = checked {
+    if let Err(x) = check_counted(s, port, state, octets, marks, totals, place) {
         *answer = crossing::refused_numbers(x, place);
         return;
     }
@@ -422,8 +413,7 @@ pub fn fenhamper_send_pause_counted(
         ≡ count_told state.old (pause_counting (settings_of s.now) (state_of state.old) (port_of port)
         octets.old marks.old totals.old place (quanta_of quanta)) }
 {
-    let checked = check_counted(s, port, state, octets, marks, totals, place);
-    if let Checked::Refused(x) = checked {
+    if let Err(x) = check_counted(s, port, state, octets, marks, totals, place) {
         *answer = crossing::refused_numbers(x, place);
         return;
     }
@@ -447,8 +437,7 @@ pub fn fenhamper_send_pfc_counted(
         ≡ count_told state.old (pfc_counting (settings_of s.now) (state_of state.old) (port_of port)
         octets.old marks.old totals.old place (classes_of named quanta.now)) }
 {
-    let checked = check_counted(s, port, state, octets, marks, totals, place);
-    if let Checked::Refused(x) = checked {
+    if let Err(x) = check_counted(s, port, state, octets, marks, totals, place) {
         *answer = crossing::refused_numbers(x, place);
         return;
     }
@@ -469,8 +458,7 @@ pub fn fenhamper_fill_idle_counted(
         ≡ count_told state.old (idle_counting (state_of state.old)
         octets.old marks.old totals.old place idles) }
 {
-    let checked = totals::check_before(octets, marks, totals, place);
-    if let Checked::Refused(x) = checked {
+    if let Err(x) = totals::check_before(octets, marks, totals, place) {
         *answer = crossing::refused_numbers(x, place);
         return;
     }
@@ -490,8 +478,7 @@ pub fn fenhamper_table_add(table: &mut [u8; 128], job: u8, listed: &[u8; 6], at:
     ensures { table_given result at.new table.new
         ≡ table_told at.old (added job table.old (address_at listed.now 0)) }
 {
-    let placed = table::add(job, table, crossing::address(listed, 0));
-    crossing::give_entry(at, placed)
+    crossing::give_entry(at, table::add(job, table, crossing::address(listed, 0)))
 }
 
 pub fn fenhamper_table_remove(
@@ -503,8 +490,7 @@ pub fn fenhamper_table_remove(
     ensures { table_given result at.new table.new
         ≡ table_told at.old (removed job table.old (address_at listed.now 0)) }
 {
-    let placed = table::remove(job, table, crossing::address(listed, 0));
-    crossing::give_entry(at, placed)
+    crossing::give_entry(at, table::remove(job, table, crossing::address(listed, 0)))
 }
 
 // By `fenhamper_read`, so that the compiler goes on putting `receive::read` into that one. No state has a part in what it answers.
@@ -557,15 +543,11 @@ pub fn fenhamper_plain_symbol(
         (step (settings_of s.now) job (entries_of table.now)
         (plain_of reader.old first.old last.old (state_of state.old)) (record { octet = octet; mark = mark })) }
 {
-    let front = *first;
-    let end = *last;
-    let before = crossing::plain_of(reader, front, end, crossing::state_of(state));
+    let before = crossing::plain_of(reader, *first, *last, crossing::state_of(state));
     let k = plain::take_symbol(crossing::settings(s), job, table, before, octet, mark);
-    let after = k.plain;
-    let told = k.told;
-    *answer = crossing::told_numbers(told);
-    crossing::leave_reader(reader, first, last, answer[0], after);
-    crossing::leave_counted(state, answer[1], after.state);
+    *answer = crossing::told_numbers(k.told);
+    crossing::leave_reader(reader, first, last, answer[0], k.plain);
+    crossing::leave_counted(state, answer[1], k.plain.state);
 }
 
 // ---- the functions of the size table (document 02, item 13)
@@ -596,9 +578,8 @@ pub fn fenhamper_sizes_add_capture(
         octets,
         marks,
     );
-    let answer = a.answer;
     *sizes = crossing::sizes_numbers(a.sizes);
-    crossing::checked_number(answer)
+    crossing::checked_number(a.answer)
 }
 
 pub fn fenhamper_sizes_add_table(sizes: &mut [u64; 14], more: &[u64; 14])

@@ -11,29 +11,30 @@ use receive::Answer;
 use station::{Part, Settings};
 
 // The octets, or the marks, of the capture that the job's number chooses; a job above 1 has none. Both have one lifetime: a slice cannot be shortened.
+#[tactic(auto, unfolding(crate::specs::Jobs::of_job))]
 pub fn of_job<'a>(job: u8, zeroth: &'a [u8], first: &'a [u8]) -> &'a [u8]
     ensures { result.now ≡ of_job job zeroth.now first.now }
 {
-    if job == 0 {
-        return zeroth;
+    match job {
+        0 => zeroth,
+        1 => first,
+        _ => &zeroth[..0],
     }
-    if job == 1 {
-        return first;
-    }
-    &zeroth[..0]
 }
 
 // The part that an answer hands out.
 fn part_of(answer: Answer) -> Part
     ensures { result ≡ answer_part answer }
 {
-    match answer {
-        Answer::Counted(_o, _word, part, _way) => part,
-        _ => Part { at: 0, len: 0 },
+    if let Answer::Counted(_, _, part, _) = answer {
+        part
+    } else {
+        Part { at: 0, len: 0 }
     }
 }
 
 // The screen call: of a job that is refused, and where nothing is handed out, no octets.
+#[tactic(auto, unfolding(crate::specs::Jobs::screen_data, crate::specs::Jobs::screen_answer))]
 pub fn screen_data<'a>(
     s: Settings,
     job: u8,
@@ -52,7 +53,5 @@ pub fn screen_data<'a>(
     // no state has a part in an answer
     let state = station::fresh_state();
     let reading = receive::read(s, job, table, state, octets, marks, place);
-    let answer = reading.answer;
-    let part = part_of(answer);
-    receive::client_data(octets, part)
+    receive::client_data(octets, part_of(reading.answer))
 }

@@ -15,7 +15,7 @@ ghost use Rattle.kept.specs.Kept.{begun, front_of, frame_size, later_outcomes, f
 
 use fields::Layout;
 use line::{FCS_SIZE, LEAD_SIZE, LEAST_FRAME, MOST_SYMBOLS, PREAMBLE_SIZE, TAG_SIZE};
-use station::{Checked, Outcome, Part, Refusal, Settings, State};
+use station::{Outcome, Part, Refusal, Settings, State};
 
 // What is kept of a run.
 #[derive(Clone, Copy)]
@@ -33,7 +33,7 @@ pub struct Run {
 }
 
 // What the reader tells at a symbol.
-#[derive(Clone, Copy)]
+#[derive(Clone, Copy, Debug, PartialEq, Eq)]
 pub enum Told {
     Refused(Refusal),
     // no run ended here
@@ -44,6 +44,7 @@ pub enum Told {
 }
 
 // A run of no octets, behind a Start at this place.
+#[tactic(auto, unfolding(crate::specs::Kept::begun))]
 pub fn begun(start: u32) -> Run
     ensures { result ≡ begun start }
 {
@@ -59,28 +60,18 @@ pub fn begun(start: u32) -> Run
 // ---- sizes
 
 // How many octets the frame has.
+#[tactic(auto, unfolding(crate::specs::Kept::frame_size))]
 fn size(r: Run) -> usize
     ensures { (result ≡ frame_size r) × (result < 65536) }
 {
-    let n = r.count as usize;
-    if n < PREAMBLE_SIZE {
-        0
-    } else {
-        n - PREAMBLE_SIZE
-    }
+    usize::from(r.count).saturating_sub(PREAMBLE_SIZE)
 }
 
 // How many of a frame's octets are data, which begins at `place`.
 fn data_length(size: usize, place: usize) -> usize
     ensures { (result ≡ size - fcs_size - place) × (result ≤ size) }
 {
-    if size < FCS_SIZE {
-        return 0;
-    }
-    if size - FCS_SIZE < place {
-        return 0;
-    }
-    size - FCS_SIZE - place
+    size.saturating_sub(FCS_SIZE).saturating_sub(place)
 }
 
 // ---- the outcome
@@ -89,33 +80,27 @@ fn data_length(size: usize, place: usize) -> usize
 fn wrong_preamble(r: Run) -> bool
     ensures { result ≡ (ltb r.count preamble_size || bad_preamble r.first) }
 {
-    if (r.count as usize) < PREAMBLE_SIZE {
-        return true;
-    }
-    let octets = r.first;
-    outcome::bad_preamble(&octets)
+    usize::from(r.count) < PREAMBLE_SIZE || outcome::bad_preamble(&r.first)
 }
 
 // Rule 5: the last four octets differ from the check, which is the register's complement.
+#[tactic(auto, unfolding(frame::specs::Frame::last_four))]
 fn wrong_fcs(r: Run) -> bool
     ensures { result ≡ not (same_octets r.last (fcs_octets (0xFFFF_FFFF - r.register))) }
 {
-    let last = r.last;
-    frame::differs(&last, 0xFFFF_FFFF - r.register)
+    frame::differs(&r.last, 0xFFFF_FFFF - r.register)
 }
 
 // Rule 6, of a frame's layout and the number of its data octets.
 fn wrong_length(checking: bool, l: Layout, octets: usize) -> bool
     ensures { result ≡ (checking && not (kept l.tags l.field octets)) }
 {
-    if !checking {
-        return false;
-    }
-    !frame::length_kept(l.tags, l.field, octets)
+    checking && !frame::length_kept(l.tags, l.field, octets)
 }
 
 // Rules 7 to 11, of the frame's first octets. Rule 7 is asked of item 7's number: `control::filtered` has one caller, and so stays inside
 // `outcome::judge`, where a second one would cost a walk 32 instructions a frame.
+#[tactic(auto, unfolding(crate::specs::Kept::later_outcomes, line::specs::Table::first))]
 fn later_outcome(s: Settings, job: u8, table: &[u8; 128], f: &[u8]) -> Outcome
     ensures { result ≡ first (later_outcomes s (own_entries job table.now) f.now) }
 {
@@ -135,6 +120,7 @@ fn later_outcome(s: Settings, job: u8, table: &[u8; 128], f: &[u8]) -> Outcome
 }
 
 // Rules 3 to 11, of a frame whose first octets are `f`.
+#[tactic(auto, unfolding(crate::proofs::Opened::of_frame_outcome))]
 fn frame_outcome(s: Settings, job: u8, table: &[u8; 128], r: Run, f: &[u8]) -> Outcome
     requires { f.now ≡ front_of r }
     ensures { result ≡ first (frame_outcomes s (own_entries job table.now) r) }
@@ -144,7 +130,7 @@ fn frame_outcome(s: Settings, job: u8, table: &[u8; 128], r: Run, f: &[u8]) -> O
         return Outcome::Undersized;
     }
     let l = fields::layout_of(f);
-    if (s.limit as usize) + TAG_SIZE * (l.tags as usize) < n {
+    if usize::from(s.limit) + TAG_SIZE * usize::from(l.tags) < n {
         return Outcome::Oversized;
     }
     if wrong_fcs(r) {
@@ -157,6 +143,7 @@ fn frame_outcome(s: Settings, job: u8, table: &[u8; 128], r: Run, f: &[u8]) -> O
 }
 
 // The outcome of a run ended by the control octet `by`: the first rule that holds.
+#[tactic(auto, unfolding(crate::proofs::Opened::of_outcome))]
 pub fn outcome_of(s: Settings, job: u8, table: &[u8; 128], r: Run, by: u8) -> Outcome
     ensures { result ≡ kept_outcome s (own_entries job table.now) r by }
 {
@@ -166,8 +153,7 @@ pub fn outcome_of(s: Settings, job: u8, table: &[u8; 128], r: Run, by: u8) -> Ou
     if wrong_preamble(r) {
         return Outcome::BadPreamble;
     }
-    let octets = r.first;
-    frame_outcome(s, job, table, r, &octets[PREAMBLE_SIZE..])
+    frame_outcome(s, job, table, r, &r.first[PREAMBLE_SIZE..])
 }
 
 // ---- what is told of it
@@ -201,6 +187,7 @@ fn part_of(o: Outcome, at: usize, place: usize, handed: usize) -> Part
 }
 
 // All that is told of a run with this outcome, whose frame's first octets are `f`.
+#[tactic(auto, unfolding(crate::proofs::Opened::of_frame_told))]
 fn frame_told(s: Settings, job: u8, table: &[u8; 128], r: Run, o: Outcome, f: &[u8]) -> Told
     requires { f.now ≡ front_of r }
     ensures { result ≡ kept_told s (own_entries job table.now) o r }
@@ -217,22 +204,21 @@ fn frame_told(s: Settings, job: u8, table: &[u8; 128], r: Run, o: Outcome, f: &[
 }
 
 // The same of the run.
+#[tactic(auto, unfolding(crate::specs::Kept::front_of))]
 pub fn told_of(s: Settings, job: u8, table: &[u8; 128], r: Run, o: Outcome) -> Told
     ensures { result ≡ kept_told s (own_entries job table.now) o r }
 {
-    let octets = r.first;
-    frame_told(s, job, table, r, o, &octets[PREAMBLE_SIZE..])
+    frame_told(s, job, table, r, o, &r.first[PREAMBLE_SIZE..])
 }
 
 // The state after it: its counter rises, and a control frame may set timers.
+#[tactic(auto, unfolding(crate::specs::Kept::front_of, receive::specs::Reading::state_after))]
 pub fn state_of(o: Outcome, r: Run, state: State) -> State
     ensures { result ≡ state_after o (front_of r) state }
 {
     let mut counters = state.counters;
     station::count(o, &mut counters);
-    let octets = r.first;
-    let old = state.timers;
-    let timers = flow::timers_after(o, &octets[PREAMBLE_SIZE..], old);
+    let timers = flow::timers_after(o, &r.first[PREAMBLE_SIZE..], state.timers);
     State {
         counters,
         timers,
@@ -243,20 +229,21 @@ pub fn state_of(o: Outcome, r: Run, state: State) -> State
 // ---- refusals
 
 // The refusals of a symbol, in their order, where so many were taken.
-pub fn check_symbol(s: Settings, job: u8, table: &[u8; 128], taken: u32) -> Checked
+#[tactic(auto, unfolding(crate::specs::Kept::symbol_refusals, line::specs::Table::first))]
+pub fn check_symbol(s: Settings, job: u8, table: &[u8; 128], taken: u32) -> Result<(), Refusal>
     ensures { result ≡ first (symbol_refusals s job (entries_of table.now) taken) }
 {
     if station::bad_settings(s) {
-        return Checked::Refused(Refusal::BadSettings);
+        return Err(Refusal::BadSettings);
     }
     if table::bad_job(job) {
-        return Checked::Refused(Refusal::BadJob);
+        return Err(Refusal::BadJob);
     }
     if table::bad_table(table) {
-        return Checked::Refused(Refusal::BadTable);
+        return Err(Refusal::BadTable);
     }
     if MOST_SYMBOLS <= taken as usize {
-        return Checked::Refused(Refusal::BadBuffers);
+        return Err(Refusal::BadBuffers);
     }
-    Checked::Fine
+    Ok(())
 }

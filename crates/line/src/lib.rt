@@ -64,58 +64,44 @@ pub const MOST_HELD: usize = 12;
 
 // ---- The search
 
-// The search's answer: a place, or that there is none.
-#[derive(Clone, Copy)]
-pub enum Found {
-    At(usize),
-    Nothing,
-}
-
 // The first Start at `place` or later. The capture ends where the shorter buffer ends.
-pub fn find_start(octets: &[u8], marks: &[u8], place: usize) -> Found
+pub fn find_start(octets: &[u8], marks: &[u8], place: usize) -> Option<usize>
     ensures { result ≡ find_start (capture octets.now marks.now) place }
 {
-    let end = shorter(octets.len(), marks.len());
+    let end = octets.len().min(marks.len());
     if end <= place {
-        return Found::Nothing;
+        return None;
     }
     if is_start(octets, marks, place) {
-        return Found::At(place);
+        return Some(place);
     }
     let i = pass_words(octets, place + 1, end, 0x07);
     let j = start_from(octets, marks, i, end);
     if j < end {
-        return Found::At(j);
+        return Some(j);
     }
-    Found::Nothing
+    None
 }
 
 // The first control symbol at `place` or later. The capture ends where the shorter buffer ends.
-pub fn find_control(octets: &[u8], marks: &[u8], place: usize) -> Found
+pub fn find_control(octets: &[u8], marks: &[u8], place: usize) -> Option<usize>
     ensures { result ≡ find_control (capture octets.now marks.now) place }
 {
-    let end = shorter(octets.len(), marks.len());
+    let end = octets.len().min(marks.len());
     if end <= place {
-        return Found::Nothing;
+        return None;
     }
     if marks[place] != 0 {
-        return Found::At(place);
+        return Some(place);
     }
     let h = pass_data(marks, place, end, 64);
     let i = pass_data(marks, h, end, 16);
     let j = pass_words(marks, i, end, 0);
     let k = first_mark(marks, j, end);
     if k < end {
-        return Found::At(k);
+        return Some(k);
     }
-    Found::Nothing
-}
-
-// The shorter of two lengths.
-fn shorter(a: usize, b: usize) -> usize
-    ensures { (result ≤ a) × (result ≤ b) × (result < a → result ≡ b) }
-{
-    if a < b { a } else { b }
+    None
 }
 
 // ---- Data symbols, by their marks alone
@@ -125,11 +111,9 @@ fn any_mark(marks: &[u8], at: usize, width: usize) -> bool
     requires { at + width ≤ length marks.now }
     ensures { result ≡ false → (k : ℕ) → k < width → Has marks.now 0 (at + k) }
 {
-    let mut any: bool = false;
-    let mut k: usize = 0;
-    while k < width {
-        any = any | (marks[at + k] != 0);
-        k = k + 1;
+    let mut any = false;
+    for k in 0..width {
+        any |= marks[at + k] != 0;
     }
     any
 }
@@ -139,9 +123,10 @@ fn pass_data(marks: &[u8], place: usize, end: usize, width: usize) -> usize
     requires { (place ≤ end) × (end ≤ length marks.now) × (0 < width) }
     ensures { Passed (Has marks.now 0) place result end }
 {
+    // A stride and no `chunks_exact`: what is asked for is a place, and the first block that does not pass ends it.
     let mut i = place;
     while width <= end - i && !any_mark(marks, i, width) {
-        i = i + width;
+        i += width;
     }
     i
 }
@@ -151,42 +136,32 @@ fn first_mark(marks: &[u8], place: usize, end: usize) -> usize
     requires { (place ≤ end) × (end ≤ length marks.now) }
     ensures { Stopped (Has marks.now 0) (Lacks marks.now 0) place result end }
 {
-    let mut i = place;
-    while i < end && marks[i] == 0 {
-        i = i + 1;
+    for i in place..end {
+        if marks[i] != 0 {
+            return i;
+        }
     }
-    i
+    end
 }
 
 // ---- Words of eight octets
 
-// An octet as a number of 64 bits.
-fn wide(x: u8) -> u64
-    ensures { (result ≡ x) × (result < 256) }
-{
-    x as u64
-}
-
-// Two, four and eight octets from `at` on as one number, which is one load; so `eight` is public for this repository's crates.
-fn two(s: &[u8], at: usize) -> u64
-    requires { at + 2 ≤ length s.now }
-    ensures { (result ≡ low_first s.now at 2) × (result < 65536) }
-{
-    wide(s[at]) + wide(s[at + 1]) * 256
-}
-
-fn four(s: &[u8], at: usize) -> u64
-    requires { at + 4 ≤ length s.now }
-    ensures { (result ≡ low_first s.now at 4) × (result < 4294967296) }
-{
-    two(s, at) + two(s, at + 2) * 65536
-}
-
+// The eight octets from `at` on as one number, low octet first: one load. It is public for this repository's crates.
+#[tactic(auto, unfolding(crate::specs::Octets::low_first))]
 pub fn eight(s: &[u8], at: usize) -> u64
     requires { at + 8 ≤ length s.now }
     ensures { result ≡ low_first s.now at 8 }
 {
-    four(s, at) + four(s, at + 4) * 4294967296
+    u64::from_le_bytes([
+        s[at],
+        s[at + 1],
+        s[at + 2],
+        s[at + 3],
+        s[at + 4],
+        s[at + 5],
+        s[at + 6],
+        s[at + 7],
+    ])
 }
 
 // How many of the eight octets from `at` on are `v`, up to the first that is not.
@@ -194,8 +169,8 @@ fn alike(s: &[u8], at: usize, v: u8) -> usize
     requires { at + 8 ≤ length s.now }
     ensures { (result ≤ 8) × ((k : ℕ) → k < result → Has s.now v (at + k)) }
 {
-    let x = eight(s, at) ^ (wide(v) * 0x0101010101010101);
-    (u64::trailing_zeros(x) / 8) as usize
+    let x = eight(s, at) ^ (u64::from(v) * 0x0101010101010101);
+    (x.trailing_zeros() / 8) as usize
 }
 
 // Passes octets that are `v`, up to the first word that holds another one, and in it up to that one.
@@ -203,13 +178,14 @@ fn pass_words(s: &[u8], place: usize, end: usize, v: u8) -> usize
     requires { (place ≤ end) × (end ≤ length s.now) }
     ensures { Passed (Has s.now v) place result end }
 {
+    // A stride, as in `pass_data`.
     let mut i = place;
     while 8 <= end - i {
         let n = alike(s, i, v);
         if n < 8 {
             return i + n;
         }
-        i = i + 8;
+        i += 8;
     }
     i
 }
@@ -217,6 +193,7 @@ fn pass_words(s: &[u8], place: usize, end: usize, v: u8) -> usize
 // ---- Starts
 
 // Whether the symbol at `i` is a Start.
+#[tactic(auto, unfolding(crate::specs::Line::is_start, crate::specs::Line::is_control, crate::specs::Line::is_data))]
 fn is_start(octets: &[u8], marks: &[u8], i: usize) -> bool
     requires { (i < length octets.now) × (i < length marks.now) }
     ensures { result ≡ start_at octets.now marks.now i }
@@ -229,11 +206,9 @@ fn any_start(octets: &[u8], marks: &[u8], at: usize) -> bool
     requires { (at + 16 ≤ length octets.now) × (at + 16 ≤ length marks.now) }
     ensures { result ≡ false → (k : ℕ) → k < 16 → NoStart octets.now marks.now (at + k) }
 {
-    let mut any: bool = false;
-    let mut j: usize = 0;
-    while j < 16 {
-        any = any | is_start(octets, marks, at + j);
-        j = j + 1;
+    let mut any = false;
+    for j in 0..16 {
+        any |= is_start(octets, marks, at + j);
     }
     any
 }
@@ -243,9 +218,10 @@ fn pass_other(octets: &[u8], marks: &[u8], place: usize, end: usize) -> usize
     requires { (place ≤ end) × (end ≤ length octets.now) × (end ≤ length marks.now) }
     ensures { Passed (NoStart octets.now marks.now) place result end }
 {
+    // A stride, as in `pass_data`, over two buffers at once.
     let mut i = place;
     while 16 <= end - i && !any_start(octets, marks, i) {
-        i = i + 16;
+        i += 16;
     }
     i
 }
@@ -255,11 +231,12 @@ fn first_start(octets: &[u8], marks: &[u8], place: usize, end: usize) -> usize
     requires { (place ≤ end) × (end ≤ length octets.now) × (end ≤ length marks.now) }
     ensures { Stopped (NoStart octets.now marks.now) (Start octets.now marks.now) place result end }
 {
-    let mut i = place;
-    while i < end && !is_start(octets, marks, i) {
-        i = i + 1;
+    for i in place..end {
+        if is_start(octets, marks, i) {
+            return i;
+        }
     }
-    i
+    end
 }
 
 // The first Start, where it most likely stands: at `place`, else by blocks, else one by one.

@@ -4,39 +4,40 @@
 ghost use Rattle.std.specs.Prelude.{◌≡◌, true, false, ◌≤◌, length};
 ghost use Rattle.line.specs.Limits.{most_symbols};
 ghost use Rattle.line.specs.Table.{first};
-ghost use Rattle.fcs.specs.Lent.{Lent};
 ghost use Rattle.station.specs.declared.Outcome.TheVariants.{HandedOut};
 ghost use Rattle.station.specs.Numbers.{by_outcome};
 ghost use Rattle.fields.specs.Places.{layout_of};
 ghost use Rattle.table.specs.Entries.{entries_of, own_entries};
 ghost use Rattle.outcome.specs.Outcomes.{frame_of};
 ghost use Rattle.reading_log.specs.Log.{logging, appending};
-ghost use Rattle.logging.specs.declared.KeepChecked.TheVariants.{Fine};
+ghost use Rattle.logging.specs.declared.KeepRefusal.TheVariants.{ByReading};
 ghost use Rattle.logging.specs.Records.{record_at, record_of_reading};
 ghost use Rattle.logging.specs.Steps.{record_of_frame};
 ghost use Rattle.logging.specs.Walks.{keeping, keep_refusals, walk_logged};
 
+use fcs::Rows;
 use fields::Layout;
-use line::{Found, RECORD_SIZE};
-use reading_log::{LogRefusal, Logged, Record, append, extent_of, room, write_record};
+use line::RECORD_SIZE;
+use reading_log::{LogRefusal, Record, append, extent_of, room, write_record};
 use receive::{Answer, Reading};
-use station::{Checked, Outcome, Refusal, Settings, State};
+use station::{Outcome, Refusal, Settings, State};
 
 // Why a walk that keeps its readings is refused: by 1, 14, 2, 3 or 20, as a reading is, or by 11.
-#[derive(Clone, Copy)]
+#[derive(Clone, Copy, Debug, PartialEq, Eq)]
 pub enum KeepRefusal {
     ByReading(Refusal),
     ByLog(LogRefusal),
 }
 
-// What the table of its refusals gives: the first that holds, or that the walk goes on.
-#[derive(Clone, Copy)]
-pub enum KeepChecked {
-    Fine,
-    Refused(KeepRefusal),
+impl From<Refusal> for KeepRefusal {
+    ghost from_gives = { λ x y. y ≡ ByReading x };
+
+    fn from(x: Refusal) -> KeepRefusal {
+        KeepRefusal::ByReading(x)
+    }
 }
 
-// How such a walk ended.
+// How such a walk ended: four cases side by side, as in `receive::Answer`.
 #[derive(Clone, Copy)]
 pub enum LogEnd {
     Refused(KeepRefusal),
@@ -77,11 +78,8 @@ fn record_at(start: usize, outcome: u8, way: u8, handed: usize, status: u64) -> 
 fn record_of(r: Reading) -> Record
     ensures { result ≡ record_of_reading r }
 {
-    let a = r.answer;
-    match a {
-        Answer::Refused(_) => record_at(r.start, 0, 0, 0, 0),
-        Answer::Nothing => record_at(r.start, 0, 0, 0, 0),
-        Answer::Open => record_at(r.start, 0, 0, 0, 0),
+    match r.answer {
+        Answer::Refused(_) | Answer::Nothing | Answer::Open => record_at(r.start, 0, 0, 0, 0),
         Answer::Counted(o, word, part, way) => record_at(
             r.start,
             station::outcome_number(o),
@@ -93,7 +91,7 @@ fn record_of(r: Reading) -> Record
 }
 
 // Appends the record of a reading; one that counted no Start is not appended.
-pub fn append_reading(log: &mut [u8], r: Reading) -> Logged
+pub fn append_reading(log: &mut [u8], r: Reading) -> Result<(), LogRefusal>
     ensures { logging result log.new ≡ appending log.old (record_of_reading r) }
 {
     append(log, record_of(r))
@@ -102,16 +100,14 @@ pub fn append_reading(log: &mut [u8], r: Reading) -> Logged
 // ---- one Start of a walk
 
 // Whether a reading with this outcome says anything of its frame: outcomes 8 to 11.
+#[tactic(auto, using(crate::proofs::Loops::tells_none))]
 fn tells(o: Outcome) -> bool
     ensures { result ≡ by_outcome o false true true true true }
 {
-    match o {
-        Outcome::PauseTaken => true,
-        Outcome::PfcTaken => true,
-        Outcome::ControlDropped => true,
-        Outcome::HandedOut => true,
-        _ => false,
-    }
+    matches!(
+        o,
+        Outcome::PauseTaken | Outcome::PfcTaken | Outcome::ControlDropped | Outcome::HandedOut
+    )
 }
 
 // The record of a Start with outcome 11, of its frame, laid out as `l` says.
@@ -200,24 +196,21 @@ fn check_keep(
     marks: &[u8],
     place: usize,
     log: &[u8],
-) -> KeepChecked
+) -> Result<(), KeepRefusal>
     ensures { result ≡ first (keep_refusals s job (entries_of table.now) octets.now marks.now place log.now) }
 {
-    let checked = receive::check_read(s, job, table, octets, marks, place);
-    if let Checked::Refused(x) = checked {
-        return KeepChecked::Refused(KeepRefusal::ByReading(x));
-    }
+    receive::check_read(s, job, table, octets, marks, place)?;
     if log.len() % RECORD_SIZE != 0 {
-        return KeepChecked::Refused(KeepRefusal::ByLog(LogRefusal::BadLog));
+        return Err(KeepRefusal::ByLog(LogRefusal::BadLog));
     }
-    KeepChecked::Fine
+    Ok(())
 }
 
 // The walk where nothing is refused, the FCS by tables if they are lent. Counters and timers stay where they are, as in `receive::walk`. The last used
 // record is looked for once: what is appended is the last one then. So there is a compaction when the last slot is reached, and another that finds every
-// record used. A full log is seen before the outcome is: that costs no FCS.
+// record used. A full log is seen before the outcome is: that costs no FCS. A loop of its own: `receive::walk_on` says why.
 fn keep_on(
-    t: &[u32],
+    tables: Option<Rows>,
     s: Settings,
     job: u8,
     table: &[u8; 128],
@@ -227,7 +220,7 @@ fn keep_on(
     place: usize,
     log: &mut [u8],
 ) -> LogWalk
-    requires { Lent t.now × (first (keep_refusals s job (entries_of table.now) octets.now marks.now place log.old) ≡ Fine) }
+    requires { first (keep_refusals s job (entries_of table.now) octets.now marks.now place log.old) ≡ Ok tt }
     ensures { keeping result log.new
         ≡ walk_logged s job (entries_of table.now) state octets.now marks.now place log.old }
 {
@@ -241,7 +234,7 @@ fn keep_on(
     let mut at = place;
     let mut k = extent_of(log);
     loop {
-        let Found::At(start) = line::find_start(octets, marks, at) else {
+        let Some(start) = line::find_start(octets, marks, at) else {
             return LogWalk {
                 end: LogEnd::Nothing,
                 state: State {
@@ -254,7 +247,7 @@ fn keep_on(
             };
         };
         let from = start + 1;
-        let Found::At(end) = line::find_control(octets, marks, from) else {
+        let Some(end) = line::find_control(octets, marks, from) else {
             return LogWalk {
                 end: LogEnd::Open,
                 state: State {
@@ -281,9 +274,9 @@ fn keep_on(
         }
         // the frame most seen; all else goes by the rules
         let judged = if outcome::is_plain(&want, limit, &octets[from..end], octets[end]) {
-            outcome::judge_plain(t, &octets[from..end])
+            outcome::judge_plain(tables, &octets[from..end])
         } else {
-            outcome::judge(t, s, job, table, &octets[from..end], octets[end])
+            outcome::judge(tables, s, job, table, &octets[from..end], octets[end])
         };
         let o = judged.outcome;
         station::count(o, &mut counters);
@@ -326,8 +319,7 @@ pub fn walk_log(
     ensures { keeping result log.new
         ≡ walk_logged s job (entries_of table.now) state octets.now marks.now place log.old }
 {
-    let checked = check_keep(s, job, table, octets, marks, place, log);
-    if let KeepChecked::Refused(x) = checked {
+    if let Err(x) = check_keep(s, job, table, octets, marks, place, log) {
         return LogWalk {
             end: LogEnd::Refused(x),
             state,
@@ -336,10 +328,19 @@ pub fn walk_log(
         };
     }
     if !pays(octets, marks, place, log.len()) {
-        let none = [0u32; 1];
-        return keep_on(&none[..0], s, job, table, state, octets, marks, place, log);
+        return keep_on(None, s, job, table, state, octets, marks, place, log);
     }
     let mut t = [0u32; 4096];
     fcs::make_tables(&mut t);
-    keep_on(&t, s, job, table, state, octets, marks, place, log)
+    keep_on(
+        Some(Rows { t: &t }),
+        s,
+        job,
+        table,
+        state,
+        octets,
+        marks,
+        place,
+        log,
+    )
 }

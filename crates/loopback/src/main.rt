@@ -2,11 +2,9 @@
 // and the readings from place 0 and the walk are printed; tools/oracle/loopback.py works the expected lines out from the oracle's model.
 #![tactic(auto)]
 
-ghost use Rattle.std.specs.Prelude.{◌<◌, ◌≤◌};
-
-use receive::{Answer, WalkAnswer};
+use receive::{Answer, Ended, Reading};
 use send::Sending;
-use station::{Address, Flow, Part, Port, Settings, State};
+use station::{Address, Flow, Part, Port, Refusal, Settings, State};
 use std::io;
 use writing::{Client, Form, Kind, Tag};
 
@@ -44,281 +42,231 @@ fn client(count: u8, form: Form) -> Client {
     }
 }
 
-// A frame from station 1 at a place; the next place.
-fn sent(o: &mut [u8], m: &mut [u8], place: usize, c: Client, d: &[u8]) -> usize {
-    let r = send::send_client(
-        settings(1),
-        station::fresh_state(),
-        Port::Plain,
-        o,
-        m,
-        place,
-        c,
-        d,
-    );
-    r.place
+// ---- a capture
+
+#[derive(Drop)]
+struct Capture {
+    octets: [u8; 400],
+    marks: [u8; 400],
 }
 
-fn idles(o: &mut [u8], m: &mut [u8], place: usize, n: usize) -> usize {
-    let r = send::fill_idle(station::fresh_state(), o, m, place, n);
-    r.place
-}
-
-// One symbol is overwritten.
-fn damage(o: &mut [u8], m: &mut [u8], at: usize, octet: u8, mark: u8) {
-    if o.len() <= at {
-        return;
+impl Capture {
+    // One data octet throughout.
+    fn of(octet: u8) -> Capture {
+        Capture {
+            octets: [octet; 400],
+            marks: [0; 400],
+        }
     }
-    if m.len() <= at {
-        return;
-    }
-    o[at] = octet;
-    m[at] = mark;
-}
 
-// The three frames, back to back: short in the length form, short in the type form, and tagged.
-fn three(o: &mut [u8], m: &mut [u8], place: usize) -> usize {
-    let a = sent(o, m, place, client(0, Form::ByLength), b"short");
-    let b = sent(
-        o,
-        m,
-        a,
-        client(0, Form::ByType(0x0800)),
-        b"a type, and padding",
-    );
-    sent(
-        o,
-        m,
-        b,
-        client(1, Form::ByLength),
-        b"tagged, and longer than what is padded to forty-six octets",
-    )
+    // A frame from station 1 at a place, on this port and with this state; where it ended, and the state that it left.
+    fn send(&mut self, port: Port, state: State, place: usize, c: Client, d: &[u8]) -> Sending {
+        send::send_client(
+            settings(1),
+            state,
+            port,
+            &mut self.octets,
+            &mut self.marks,
+            place,
+            c,
+            d,
+        )
+    }
+
+    // A frame at a place; the next place.
+    fn sent(&mut self, place: usize, c: Client, d: &[u8]) -> usize {
+        self.send(Port::Plain, station::fresh_state(), place, c, d)
+            .place
+    }
+
+    fn idles(&mut self, place: usize, n: usize) -> Sending {
+        send::fill_idle(
+            station::fresh_state(),
+            &mut self.octets,
+            &mut self.marks,
+            place,
+            n,
+        )
+    }
+
+    // A frame on the four-lane port, from where the one before ended and with the state that it left.
+    fn on_lanes(&mut self, before: Sending, d: &[u8]) -> Sending {
+        self.send(
+            Port::FourLane,
+            before.state,
+            before.place,
+            client(0, Form::ByLength),
+            d,
+        )
+    }
+
+    // One symbol is overwritten.
+    fn damage(&mut self, at: usize, octet: u8, mark: u8) {
+        if at < 400 {
+            self.octets[at] = octet;
+            self.marks[at] = mark;
+        }
+    }
+
+    // The three frames, back to back: short in the length form, short in the type form, and tagged.
+    fn three(&mut self, place: usize) -> usize {
+        let a = self.sent(place, client(0, Form::ByLength), b"short");
+        let b = self.sent(a, client(0, Form::ByType(0x0800)), b"a type, and padding");
+        self.sent(
+            b,
+            client(1, Form::ByLength),
+            b"tagged, and longer than what is padded to forty-six octets",
+        )
+    }
 }
 
 // ---- what is printed
 
-fn word(rt: &impl Print, w: &[u8]) -> io::Result<()> {
-    rt.write_all(b" ")?;
-    rt.write_all(w)
-}
-
-fn count(rt: &impl Print, w: &[u8], n: u64) -> io::Result<()> {
-    word(rt, w)?;
-    print!(rt; " {n}")
-}
-
-fn number(rt: &impl Print, w: &[u8], n: usize) -> io::Result<()> {
-    count(rt, w, n as u64)
-}
-
 // Status word, and length and check of the client data.
 fn handed(rt: &impl Print, status: u64, part: Part, octets: &[u8]) -> io::Result<()> {
-    word(rt, b"status ")?;
-    print!(rt; "{status:010x}")?;
     let d = receive::client_data(octets, part);
-    number(rt, b"data", d.len())?;
-    word(rt, b"sum ")?;
     let sum = fcs::check(d);
-    print!(rt; "{sum:08x}")
+    print!(rt; " status {status:010x} data {} sum {sum:08x}", d.len())
 }
 
 fn answer(rt: &impl Print, a: Answer, octets: &[u8]) -> io::Result<()> {
     match a {
         Answer::Refused(x) => {
             let k = station::refusal_number(x);
-            number(rt, b"refused", k as usize)
+            print!(rt; " refused {k}")
         }
-        Answer::Nothing => word(rt, b"none"),
-        Answer::Open => word(rt, b"open"),
+        Answer::Nothing => rt.write_all(b" none"),
+        Answer::Open => rt.write_all(b" open"),
         Answer::Counted(o, status, part, _way) => {
             let k = station::outcome_number(o);
-            number(rt, b"outcome", k as usize)?;
+            print!(rt; " outcome {k}")?;
             handed(rt, status, part, octets)
         }
     }
 }
 
-fn reading_line(
-    rt: &impl Print,
-    name: &[u8],
-    a: Answer,
-    start: usize,
-    next: usize,
-    octets: &[u8],
-) -> io::Result<()> {
+fn reading_line(rt: &impl Print, name: &[u8], r: &Reading, octets: &[u8]) -> io::Result<()> {
     rt.write_all(name)?;
     rt.write_all(b":")?;
-    answer(rt, a, octets)?;
-    number(rt, b"start", start)?;
-    number(rt, b"next", next)?;
-    rt.write_all(b"\n")
+    answer(rt, r.answer, octets)?;
+    println!(rt; " start {} next {}", r.start, r.next)
 }
 
-fn walk_answer(rt: &impl Print, a: WalkAnswer) -> io::Result<()> {
+fn walk_answer(rt: &impl Print, a: Result<Ended, Refusal>) -> io::Result<()> {
     match a {
-        WalkAnswer::Refused(x) => {
-            let k = station::refusal_number(x);
-            number(rt, b"walk refused", k as usize)
-        }
-        WalkAnswer::Ended(n, open) => {
-            number(rt, b"walk", n)?;
-            number(rt, b"open", open as usize)
-        }
+        Err(x) => print!(rt; " walk refused {}", station::refusal_number(x)),
+        Ok(end) => print!(rt; " walk {} open {}", end.starts, u8::from(end.is_open)),
     }
 }
 
-fn walk_line(rt: &impl Print, name: &[u8], octets: &[u8], marks: &[u8]) -> io::Result<()> {
+fn walk_line(rt: &impl Print, name: &[u8], capture: &Capture) -> io::Result<()> {
     let none = table::empty();
-    let end = receive::walk(settings(2), 0, &none, station::fresh_state(), octets, marks);
+    let end = receive::walk(
+        settings(2),
+        0,
+        &none,
+        station::fresh_state(),
+        &capture.octets,
+        &capture.marks,
+    );
     rt.write_all(name)?;
     rt.write_all(b":")?;
     walk_answer(rt, end.answer)?;
-    let after = end.state;
-    let c = after.counters;
-    count(rt, b"cut", c[0])?;
-    count(rt, b"handed out", c[10])?;
-    rt.write_all(b"\n")
-}
-
-fn is_counted(a: Answer) -> bool {
-    match a {
-        Answer::Refused(_) => false,
-        Answer::Nothing => false,
-        Answer::Open => false,
-        Answer::Counted(_, _, _, _) => true,
-    }
-}
-
-fn turn_after(k: usize, on: bool) -> usize
-    requires { k < 16 }
-    ensures { (k < result) × (result ≤ 16) }
-{
-    if on { k + 1 } else { 16 }
+    let counters = end.state.counters;
+    println!(rt; " cut {} handed out {}", counters[0], counters[10])
 }
 
 // The readings from place 0 on, each at the next place of the one before, sixteen at most; and the walk.
-fn every(rt: &impl Print, name: &[u8], octets: &[u8], marks: &[u8]) -> io::Result<()> {
+fn every(rt: &impl Print, name: &[u8], capture: &Capture) -> io::Result<()> {
     let none = table::empty();
     let mut state = station::fresh_state();
-    let mut at: usize = 0;
-    let mut k: usize = 0;
-    while k < 16 {
-        let r = receive::read(settings(2), 0, &none, state, octets, marks, at);
-        let a = r.answer;
-        reading_line(rt, name, a, r.start, r.next, octets)?;
+    let mut at = 0;
+    for _ in 0..16 {
+        let r = receive::read(
+            settings(2),
+            0,
+            &none,
+            state,
+            &capture.octets,
+            &capture.marks,
+            at,
+        );
+        reading_line(rt, name, &r, &capture.octets)?;
+        if !matches!(r.answer, Answer::Counted(..)) {
+            break;
+        }
         state = r.state;
         at = r.next;
-        k = turn_after(k, is_counted(a));
     }
-    walk_line(rt, name, octets, marks)
+    walk_line(rt, name, capture)
 }
 
 // ---- what stands before the frames
 
 // Nothing but Idles.
 fn clean(rt: &impl Print) -> io::Result<()> {
-    let mut o = [0u8; 400];
-    let mut m = [0u8; 400];
-    let a = idles(&mut o, &mut m, 0, 9);
-    let b = three(&mut o, &mut m, a);
-    idles(&mut o, &mut m, b, 5);
-    every(rt, b"clean", &o, &m)
+    let mut capture = Capture::of(0);
+    let a = capture.idles(0, 9).place;
+    let b = capture.three(a);
+    capture.idles(b, 5);
+    every(rt, b"clean", &capture)
 }
 
 // A frame that an Error cuts.
 fn cut(rt: &impl Print) -> io::Result<()> {
-    let mut o = [0u8; 400];
-    let mut m = [0u8; 400];
-    let c = client(0, Form::ByLength);
-    let a = sent(&mut o, &mut m, 0, c, b"cut");
-    damage(&mut o, &mut m, 40, 0xFE, 1);
-    three(&mut o, &mut m, a);
-    every(rt, b"cut frame", &o, &m)
+    let mut capture = Capture::of(0);
+    let a = capture.sent(0, client(0, Form::ByLength), b"cut");
+    capture.damage(40, 0xFE, 1);
+    capture.three(a);
+    every(rt, b"cut frame", &capture)
 }
 
 // A frame with one octet turned.
 fn turned(rt: &impl Print) -> io::Result<()> {
-    let mut o = [0u8; 400];
-    let mut m = [0u8; 400];
-    let c = client(0, Form::ByLength);
-    let a = sent(&mut o, &mut m, 0, c, b"turned");
-    damage(&mut o, &mut m, 30, 0x99, 0);
-    three(&mut o, &mut m, a);
-    every(rt, b"turned octet", &o, &m)
+    let mut capture = Capture::of(0);
+    let a = capture.sent(0, client(0, Form::ByLength), b"turned");
+    capture.damage(30, 0x99, 0);
+    capture.three(a);
+    every(rt, b"turned octet", &capture)
 }
 
 // A frame that is overwritten from its middle on: its run ends at the Start of the next.
 fn overrun(rt: &impl Print) -> io::Result<()> {
-    let mut o = [0u8; 400];
-    let mut m = [0u8; 400];
-    let c = client(0, Form::ByLength);
-    sent(&mut o, &mut m, 0, c, b"overrun");
-    three(&mut o, &mut m, 50);
-    every(rt, b"open run", &o, &m)
+    let mut capture = Capture::of(0);
+    capture.sent(0, client(0, Form::ByLength), b"overrun");
+    capture.three(50);
+    every(rt, b"open run", &capture)
 }
 
 // Data with no Start, a Start with a wrong preamble, and other controls.
 fn noise(rt: &impl Print) -> io::Result<()> {
-    let mut o = [0xFBu8; 400];
-    let mut m = [0u8; 400];
-    damage(&mut o, &mut m, 3, 0x9C, 1);
-    damage(&mut o, &mut m, 5, 0xFB, 2);
-    damage(&mut o, &mut m, 17, 0xFD, 255);
-    damage(&mut o, &mut m, 20, 0xFB, 1);
-    three(&mut o, &mut m, 25);
-    every(rt, b"noise", &o, &m)
+    let mut capture = Capture::of(0xFB);
+    capture.damage(3, 0x9C, 1);
+    capture.damage(5, 0xFB, 2);
+    capture.damage(17, 0xFD, 255);
+    capture.damage(20, 0xFB, 1);
+    capture.three(25);
+    every(rt, b"noise", &capture)
 }
 
 // A Start behind the last frame stays open.
 fn open_behind(rt: &impl Print) -> io::Result<()> {
-    let mut o = [0u8; 400];
-    let mut m = [0u8; 400];
-    let a = three(&mut o, &mut m, 0);
-    damage(&mut o, &mut m, a, 0xFB, 1);
-    every(rt, b"open behind", &o, &m)
-}
-
-// A frame from station 1 on the four-lane port, from where the one before ended and with the state that it left.
-fn on_lanes(o: &mut [u8], m: &mut [u8], before: Sending, d: &[u8]) -> Sending {
-    let c = client(0, Form::ByLength);
-    send::send_client(
-        settings(1),
-        before.state,
-        Port::FourLane,
-        o,
-        m,
-        before.place,
-        c,
-        d,
-    )
+    let mut capture = Capture::of(0);
+    let a = capture.three(0);
+    capture.damage(a, 0xFB, 1);
+    every(rt, b"open behind", &capture)
 }
 
 // Frames on the four-lane port, of which an Error cuts the first: gaps of 12, 11, 10 and 13.
 fn four_lanes(rt: &impl Print) -> io::Result<()> {
-    let mut o = [0u8; 400];
-    let mut m = [0u8; 400];
-    let start = send::fill_idle(station::fresh_state(), &mut o, &mut m, 0, 0);
-    let a = on_lanes(&mut o, &mut m, start, b"cut");
-    damage(&mut o, &mut m, 40, 0xFE, 1);
-    let b = on_lanes(
-        &mut o,
-        &mut m,
-        a,
-        b"forty-seven octets: behind them a gap of eleven",
-    );
-    let c = on_lanes(
-        &mut o,
-        &mut m,
-        b,
-        b"forty-eight octets, and behind them a gap of ten",
-    );
-    on_lanes(
-        &mut o,
-        &mut m,
-        c,
-        b"forty-nine octets: behind them a gap of thirteen!",
-    );
-    every(rt, b"four lanes", &o, &m)
+    let mut capture = Capture::of(0);
+    let start = capture.idles(0, 0);
+    let a = capture.on_lanes(start, b"cut");
+    capture.damage(40, 0xFE, 1);
+    let b = capture.on_lanes(a, b"forty-seven octets: behind them a gap of eleven");
+    let c = capture.on_lanes(b, b"forty-eight octets, and behind them a gap of ten");
+    capture.on_lanes(c, b"forty-nine octets: behind them a gap of thirteen!");
+    every(rt, b"four lanes", &capture)
 }
 
 fn main(rt: HostRuntime) -> io::Result<()> {

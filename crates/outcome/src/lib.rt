@@ -4,7 +4,6 @@
 ghost use Rattle.std.specs.Prelude.{◌≡◌, true, not, cond, ◌&&◌, ◌≤◌, length, take};
 ghost use Rattle.line.specs.Limits.{most_symbols};
 ghost use Rattle.line.specs.Table.{first};
-ghost use Rattle.fcs.specs.Lent.{Lent};
 ghost use Rattle.station.specs.Station.{is_group};
 ghost use Rattle.fields.specs.Fields.{destination};
 ghost use Rattle.fields.specs.Places.{laid_out};
@@ -15,19 +14,13 @@ ghost use Rattle.outcome.specs.Plain.{opening_of, Ordinary, Plain, plain_judged}
 ghost use Rattle.outcome.specs.Steps.{early_outcomes, late_outcomes};
 ghost use Rattle.outcome.specs.Status.{kind_bits, frame_bits, status_of};
 
+use fcs::Rows;
 use fields::Layout;
 use line::{LEAST_TYPE, PREAMBLE_SIZE};
 use station::{Address, Outcome, Settings};
 
-// What rules 1 to 3 leave: an outcome, or a frame that is to be looked at.
-#[derive(Clone, Copy)]
-enum Early {
-    Decided(Outcome),
-    Framed,
-}
-
 // The outcome of a run, and the check that rule 5 compared with: 0 where an earlier rule held.
-#[derive(Clone, Copy)]
+#[derive(Clone, Copy, Debug, PartialEq, Eq)]
 pub struct Judged {
     pub outcome: Outcome,
     pub check: u32,
@@ -39,18 +32,7 @@ pub struct Judged {
 pub fn bad_preamble(run: &[u8]) -> bool
     ensures { result ≡ bad_preamble run.now }
 {
-    if run.len() < PREAMBLE_SIZE {
-        return true;
-    }
-    let right = [0x55u8, 0x55, 0x55, 0x55, 0x55, 0x55, 0xD5];
-    let mut k: usize = 0;
-    while k < PREAMBLE_SIZE {
-        if run[k] != right[k] {
-            return true;
-        }
-        k += 1;
-    }
-    false
+    !run.starts_with(&[0x55, 0x55, 0x55, 0x55, 0x55, 0x55, 0xD5])
 }
 
 // The frame of a run: what follows the preamble.
@@ -64,20 +46,20 @@ pub fn frame_of(run: &[u8]) -> &[u8]
 }
 
 // Rules 1 to 3, in their order.
-fn before_tags(run: &[u8], by: u8) -> Early
+fn before_tags(run: &[u8], by: u8) -> Option<Outcome>
     ensures { result ≡ first (early_outcomes run.now by) }
 {
     if by != 0xFD {
-        return Early::Decided(Outcome::Cut);
+        return Some(Outcome::Cut);
     }
     if bad_preamble(run) {
-        return Early::Decided(Outcome::BadPreamble);
+        return Some(Outcome::BadPreamble);
     }
     let f = frame_of(run);
     if frame::undersized(f) {
-        return Early::Decided(Outcome::Undersized);
+        return Some(Outcome::Undersized);
     }
-    Early::Framed
+    None
 }
 
 // Rules 6 to 11, in their order, of a frame with so many tags; rule 7 by a job's own entries of the address table.
@@ -104,16 +86,18 @@ fn after_fcs(s: Settings, job: u8, table: &[u8; 128], f: &[u8], tags: u8) -> Out
 
 // What becomes of a run ended by the control octet `by`: the first rule that holds. In steps, so that a run which rules 1 to 3 decide costs no look at
 // the settings, and tags are counted once for rules 4 and 6. The FCS by tables if they are lent, and so public for this repository's crates only.
-pub fn judge(t: &[u32], s: Settings, job: u8, table: &[u8; 128], run: &[u8], by: u8) -> Judged
-    requires { Lent t.now }
+pub fn judge(
+    tables: Option<Rows>,
+    s: Settings,
+    job: u8,
+    table: &[u8; 128],
+    run: &[u8],
+    by: u8,
+) -> Judged
     ensures { result ≡ judged s (own_entries job table.now) run.now by }
 {
-    let e = before_tags(run, by);
-    if let Early::Decided(o) = e {
-        return Judged {
-            outcome: o,
-            check: 0,
-        };
+    if let Some(outcome) = before_tags(run, by) {
+        return Judged { outcome, check: 0 };
     }
     let f = frame_of(run);
     let tags = fields::tag_count(f);
@@ -123,16 +107,15 @@ pub fn judge(t: &[u32], s: Settings, job: u8, table: &[u8; 128], run: &[u8], by:
             check: 0,
         };
     }
-    let check = frame::check_of(t, f);
+    let check = frame::check_of(tables, f);
     if frame::differs(f, check) {
         return Judged {
             outcome: Outcome::WrongFcs,
             check,
         };
     }
-    let late = after_fcs(s, job, table, f, tags);
     Judged {
-        outcome: late,
+        outcome: after_fcs(s, job, table, f, tags),
         check,
     }
 }
@@ -186,7 +169,7 @@ pub fn is_plain(want: &[u8; 13], limit: u16, run: &[u8], by: u8) -> bool
     if run.len() < LEAST_RUN {
         return false;
     }
-    if (limit as usize) + PREAMBLE_SIZE < run.len() {
+    if usize::from(limit) + PREAMBLE_SIZE < run.len() {
         return false;
     }
     if !opens(want, run) {
@@ -199,12 +182,11 @@ pub fn is_plain(want: &[u8; 13], limit: u16, run: &[u8], by: u8) -> bool
 }
 
 // What becomes of a plain frame: rule 5 decides alone.
-pub fn judge_plain(t: &[u32], run: &[u8]) -> Judged
-    requires { Lent t.now }
+pub fn judge_plain(tables: Option<Rows>, run: &[u8]) -> Judged
     ensures { result ≡ plain_judged run.now }
 {
     let f = frame_of(run);
-    let check = frame::check_of(t, f);
+    let check = frame::check_of(tables, f);
     if frame::differs(f, check) {
         return Judged {
             outcome: Outcome::WrongFcs,
@@ -230,17 +212,7 @@ fn flag(b: bool, value: u64) -> u64
 fn to_group(f: &[u8]) -> bool
     ensures { result ≡ is_group (destination f.now) }
 {
-    if f.len() == 0 {
-        return false;
-    }
-    f[0] % 2 == 1
-}
-
-// Multicast other than broadcast.
-fn is_multicast(group: bool, broadcast: bool) -> bool
-    ensures { result ≡ (group && not broadcast) }
-{
-    if group { !broadcast } else { false }
+    fields::octet(f, 0) % 2 == 1
 }
 
 // What destination, first field and the number of tags decide: bits 38 to 32.
@@ -250,7 +222,8 @@ pub fn kind_bits(f: &[u8], tags: u8) -> u64
     let group = to_group(f);
     let broadcast = address::is_broadcast(f);
     let b38 = flag(!group, 0x40_0000_0000);
-    let b37 = flag(is_multicast(group, broadcast), 0x20_0000_0000);
+    // multicast other than broadcast
+    let b37 = flag(group && !broadcast, 0x20_0000_0000);
     let b36 = flag(broadcast, 0x10_0000_0000);
     let b34 = flag(control::is_control_frame(f), 0x4_0000_0000);
     let b33 = flag(tags == 1, 0x2_0000_0000);
@@ -271,8 +244,7 @@ fn data_length(f: &[u8], place: usize) -> u64
     requires { length f.now ≤ most_symbols }
     ensures { (result ≡ length (data_from place f.now)) × (result ≤ most_symbols) }
 {
-    let data = frame::frame_data(f, place);
-    data.len() as u64
+    frame::frame_data(f, place).len() as u64
 }
 
 // The status word of a frame laid out as `l` says, of which `handed` octets are handed out: 0 for outcomes 1 to 7. The bounds keep its sums from

@@ -8,7 +8,7 @@ ghost use Rattle.plain.specs.Plain.{fresh_plain, grown, step};
 
 use kept::{Run, Told};
 use line::{FCS_SIZE, PREAMBLE_SIZE};
-use station::{Checked, Settings, State};
+use station::{Settings, State};
 
 // The reader between two symbols.
 #[derive(Clone, Copy)]
@@ -31,6 +31,7 @@ pub struct Step {
 }
 
 // The reader before the first symbol.
+#[tactic(auto, unfolding(crate::specs::Plain::fresh_plain))]
 pub fn fresh(state: State) -> Plain
     ensures { result ≡ fresh_plain state }
 {
@@ -44,33 +45,35 @@ pub fn fresh(state: State) -> Plain
 
 // A run with one octet more. The first 53 stay, the last four move on, and the octet that leaves these is one that the FCS covers, if it stands
 // behind the preamble.
+#[tactic(auto, using(crate::proofs::Growth::shifted), unfolding(crate::specs::Plain::grown))]
 fn grown(mut r: Run, o: u8) -> Run
     ensures { result ≡ grown r o }
 {
-    let at = r.count as usize;
+    let at = usize::from(r.count);
     let last = r.last;
     if at < 53 {
         r.first[at] = o;
     }
     if PREAMBLE_SIZE + FCS_SIZE <= at {
-        let leaves = [last[0]; 1];
-        r.register = fcs::update(r.register, &leaves);
+        r.register = fcs::update(r.register, &[last[0]]);
     }
     r.last = [last[1], last[2], last[3], o];
-    r.count = std::num::wrapping_add_u16(r.count, 1);
+    r.count = r.count.wrapping_add(1);
     r
 }
 
 // One symbol more: what is told at it, and the reader behind it.
+#[tactic(auto, unfolding(crate::proofs::Opened::of_take_symbol))]
 pub fn take_symbol(s: Settings, job: u8, table: &[u8; 128], p: Plain, octet: u8, mark: u8) -> Step
     ensures { result ≡ step s job (entries_of table.now) p (record { octet = octet; mark = mark }) }
 {
     let mut next = p;
     let mut told = Told::Quiet;
-    let checked = kept::check_symbol(s, job, table, p.place);
-    if let Checked::Refused(x) = checked {
-        told = Told::Refused(x);
-        return Step { told, plain: p };
+    if let Err(x) = kept::check_symbol(s, job, table, p.place) {
+        return Step {
+            told: Told::Refused(x),
+            plain: p,
+        };
     }
     next.place = p.place + 1;
     let run = p.run;

@@ -2,20 +2,15 @@
 // input symbol by symbol and keeps no capture. What it prints is the definition of crate `lines`, so that it is the same on every input.
 #![tactic(auto)]
 
-ghost use Rattle.std.specs.Prelude.{◌≡◌, false, cond, ◌≤◌, length};
+ghost use Rattle.std.specs.Prelude.{◌≡◌, false, ◌≤◌, length};
+ghost use Rattle.std.proofs.Math.Dec.{lit≤};
 ghost use Rattle.line.specs.Line.{overwrite};
-ghost use Rattle.printing.specs.Lines.{bad_input, printed};
+ghost use Rattle.printing.specs.Lines.{bad_input, printed, printed_bad};
 ghost use Rattle.printing.specs.Parts.{part};
 ghost use Rattle.printing.specs.Shown.{Shown};
 
 use kept::Told;
-
-// What the last line says of a run in progress.
-fn open_number(running: bool) -> u64
-    ensures { result ≡ cond running 1 0 }
-{
-    if running { 1 } else { 0 }
-}
+use printing::Output;
 
 // A part of the output of a whole input of at most 32,768 records, and how long that output is: a line at each symbol that ends a run.
 fn show_steps(input: &[u8], from: usize, out: &mut [u8]) -> usize
@@ -28,10 +23,9 @@ fn show_steps(input: &[u8], from: usize, out: &mut [u8]) -> usize
     let mut p = plain::fresh(station::fresh_state());
     let mut n: u64 = 0;
     let mut at: usize = 0;
-    let mut k: usize = 0;
-    while k + 1 < input.len() {
+    for k in 0..input.len() / 2 {
         let run = p.run;
-        let step = plain::take_symbol(s, 0, &none, p, input[k + 1], input[k]);
+        let step = plain::take_symbol(s, 0, &none, p, input[2 * k + 1], input[2 * k]);
         let told = step.told;
         match told {
             Told::Refused(_) => return printing::show_last(out, from, at, n, 0),
@@ -42,21 +36,25 @@ fn show_steps(input: &[u8], from: usize, out: &mut [u8]) -> usize
             }
         }
         p = step.plain;
-        k += 2;
     }
-    let opened = open_number(p.running);
-    printing::show_last(out, from, at, n, opened)
+    printing::show_last(out, from, at, n, u64::from(p.running))
 }
 
-// A part of the output of any input, and how long that output is.
-fn show_plain(input: &[u8], from: usize, out: &mut [u8]) -> usize
-    ensures shown { Shown from out.old 0 (printed input.now) result out.new }
-    ensures upper_bound { result ≤ 2752680 }
-{
-    if printing::bad_input(input) {
-        return printing::show(out, from, 0, b"bad input\n");
+// The lines of readings, by the plain reader.
+pub struct PlainReadings;
+
+impl Output for PlainReadings {
+    ghost text = { printed };
+
+    ghost most = { 2752680 };
+
+    ghost told_bad = { printed_bad };
+
+    ghost bounded = { (lit≤ tt, lit≤ tt) };
+
+    fn show_good(input: &[u8], from: usize, out: &mut [u8]) -> usize {
+        show_steps(input, from, out)
     }
-    show_steps(input, from, out)
 }
 
 // Of all that the program prints of its input, the octets from `from` on, as many as `out` has room for, over the front of `out`; how many that is.
@@ -65,6 +63,5 @@ pub fn print_plain(input: &[u8], from: usize, out: &mut [u8; 131072]) -> usize
     ensures out_after { out.new ≡ overwrite out.old 0 (part 131072 from (printed input.now)) }
     ensures input_len_bound { length (printed input.now) ≤ 2752680 }
 {
-    let total = show_plain(input, from, out);
-    printing::part_length(total, from)
+    printing::print_part::<PlainReadings>(input, from, out)
 }

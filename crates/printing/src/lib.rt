@@ -1,12 +1,13 @@
 // What the printing program prints (document 01, "The printing program"). Meaning: specs/.
 #![tactic(auto)]
 
-ghost use Rattle.std.specs.Prelude.{◌≡◌, false, [], ◌∷◌, ◌+◌, ◌-◌, ◌*◌, ◌/◌, ◌≤◌, min, length};
-ghost use Rattle.line.specs.Limits.{most_records};
+ghost use Rattle.std.specs.Prelude.{◌≡◌, ℕ, true, false, List, [], ◌∷◌, ◌+◌, ◌-◌, ◌*◌, ◌/◌, ◌≤◌, min, length};
+ghost use Rattle.std.proofs.Math.Dec.{lit≤};
 ghost use Rattle.line.specs.Line.{overwrite};
 ghost use Rattle.station.specs.Numbers.{outcome_number};
 ghost use Rattle.printing.specs.Decimal.{decimal};
-ghost use Rattle.printing.specs.Lines.{program_settings, followed, four_numbers, last_line, capture_lines, bad_input, printed, record_octets, record_marks};
+ghost use Rattle.printing.specs.Lines.{program_settings, followed, four_numbers, last_line, capture_lines, bad_input, printed, printed_bad, record_octets};
+ghost use Rattle.printing.specs.Lines.{record_marks};
 ghost use Rattle.printing.specs.Parts.{part};
 ghost use Rattle.printing.specs.Shown.{Shown, open_number};
 ghost use Rattle.splice.specs.Written.{Put};
@@ -15,6 +16,8 @@ use line::{LEAST_LIMIT, MOST_RECORDS};
 use receive::Answer;
 use splice::put;
 use station::{Address, Flow, Outcome, Settings};
+use std::io;
+use std::io::Read;
 
 // ---- writers: each gives the place behind what it wrote, and asks for the room; those that are public are so for this repository's crates only
 
@@ -28,6 +31,7 @@ pub fn put_octet(out: &mut [u8], at: usize, v: u8) -> usize
 }
 
 // The digits of n: those of its tenth, and the last one.
+// By hand: what std and `itoa` print is std's text, and the contract names `decimal` of specs/.
 pub fn put_decimal(out: &mut [u8], at: usize, n: u64) -> usize
     requires { at + length (decimal n) ≤ length out.old }
     ensures { Put out.old at (decimal n) result out.new }
@@ -73,14 +77,14 @@ fn put_last(out: &mut [u8], at: usize, n: u64, opened: u64) -> usize
     put_followed(out, k, opened, 10)
 }
 
-// The line of a Start that was counted.
+// The line of a Start that was counted. `as` from `usize`: std has no `From` of it.
 fn put_counted(out: &mut [u8], at: usize, start: usize, o: Outcome, word: u64, len: usize) -> usize
     requires { at + 84 ≤ length out.old }
     ensures put { Put out.old at (four_numbers start (outcome_number o) word len) result out.new }
     ensures upper_bound { result ≤ at + 84 }
 {
     let k = station::outcome_number(o);
-    put_line(out, at, start as u64, k as u64, word, len as u64)
+    put_line(out, at, start as u64, u64::from(k), word, len as u64)
 }
 
 // ---- a part of the output: of a text longer than `out`, the octets from place `from` of it on that `out` has room for; `at` is a place of the text
@@ -90,14 +94,12 @@ fn show_octet(out: &mut [u8], from: usize, at: usize, v: u8) -> usize
     requires { at ≤ 4294967295 }
     ensures { Shown from out.old at (v ∷ []) result out.new }
 {
-    if at < from {
-        return at + 1;
+    if from <= at {
+        let k = at - from;
+        if k < out.len() {
+            out[k] = v;
+        }
     }
-    let k = at - from;
-    if out.len() <= k {
-        return at + 1;
-    }
-    out[k] = v;
     at + 1
 }
 
@@ -107,10 +109,8 @@ pub fn show(out: &mut [u8], from: usize, at: usize, src: &[u8]) -> usize
     ensures { Shown from out.old at src.now result out.new }
 {
     let mut to = at;
-    let mut j: usize = 0;
-    while j < src.len() {
-        to = show_octet(out, from, to, src[j]);
-        j += 1;
+    for &v in src {
+        to = show_octet(out, from, to, v);
     }
     to
 }
@@ -149,11 +149,7 @@ pub fn show_last(out: &mut [u8], from: usize, at: usize, n: u64, opened: u64) ->
 pub fn part_length(total: usize, from: usize) -> usize
     ensures { result ≡ min 131072 (total - from) }
 {
-    if total <= from {
-        return 0;
-    }
-    let k = total - from;
-    if 131072 < k { 131072 } else { k }
+    total.saturating_sub(from).min(131072)
 }
 
 // ---- the lines of a capture
@@ -177,12 +173,7 @@ pub fn settings() -> Settings
 fn open_number(a: Answer) -> u64
     ensures { result ≡ open_number a }
 {
-    match a {
-        Answer::Refused(_) => 0,
-        Answer::Nothing => 0,
-        Answer::Open => 1,
-        Answer::Counted(_, _, _, _) => 0,
-    }
+    u64::from(matches!(a, Answer::Open))
 }
 
 // All lines: a reading after the other, each at the next place of the one before.
@@ -195,23 +186,19 @@ fn show_lines(octets: &[u8], marks: &[u8], from: usize, out: &mut [u8]) -> usize
     let none = table::empty();
     let mut st = station::fresh_state();
     let mut place: usize = 0;
-    let mut n: u64 = 0;
     let mut at: usize = 0;
-    let mut left = octets.len() + 1;
-    while 0 < left {
+    for n in 0..octets.len() + 1 {
         let r = receive::read(s, 0, &none, st, octets, marks, place);
         let a = r.answer;
         let Answer::Counted(o, word, part, _way) = a else {
             let opened = open_number(a);
-            return show_last(out, from, at, n, opened);
+            return show_last(out, from, at, n as u64, opened);
         };
         at = show_counted(out, from, at, r.start, o, word, part.len);
-        n += 1;
         st = r.state;
         place = r.next;
-        left -= 1;
     }
-    show_last(out, from, at, n, 0)
+    show_last(out, from, at, octets.len() as u64 + 1, 0)
 }
 
 // ---- the whole output
@@ -220,10 +207,7 @@ fn show_lines(octets: &[u8], marks: &[u8], from: usize, out: &mut [u8]) -> usize
 pub fn bad_input(input: &[u8]) -> bool
     ensures { result ≡ bad_input input.now }
 {
-    if input.len() % 2 == 1 {
-        return true;
-    }
-    2 * MOST_RECORDS < input.len()
+    input.len() % 2 == 1 || 2 * MOST_RECORDS < input.len()
 }
 
 // The octets and the marks of the records, from the start of the two buffers on.
@@ -232,54 +216,129 @@ pub fn split(input: &[u8], octets: &mut [u8], marks: &mut [u8])
     ensures put { Put octets.old 0 (record_octets input.now) (length input.now / 2) octets.new }
     ensures put_2 { Put marks.old 0 (record_marks input.now) (length input.now / 2) marks.new }
 {
-    let n = input.len() / 2;
-    let mut k: usize = 0;
-    while k < n {
+    for k in 0..input.len() / 2 {
         marks[k] = input[2 * k];
         octets[k] = input[2 * k + 1];
-        k += 1;
     }
 }
 
-// Room for the longest capture.
-fn room() -> [u8; MOST_RECORDS]
-    ensures { length result ≡ most_records }
-{
-    [0u8; MOST_RECORDS]
+// The lines that a program prints of a capture.
+pub trait CaptureLines {
+    ghost lines: { List ℕ → List ℕ → List ℕ };
+
+    // No capture has more octets of lines.
+    ghost most_octets: { ℕ };
+
+    // A part of the lines, and how long they are.
+    fn show_lines(octets: &[u8], marks: &[u8], from: usize, out: &mut [u8]) -> usize
+        requires { length octets.now ≤ 32768 }
+        ensures shown { Shown from out.old 0 (lines octets.now marks.now) result out.new }
+        ensures upper_bound { result ≤ most_octets };
 }
 
-// A part of the output of a whole input of at most 32,768 records, and how long that output is.
-fn show_good(input: &[u8], from: usize, out: &mut [u8]) -> usize
+// A part of the lines of a whole input of at most 32,768 records, and how long they are.
+pub fn show_records<L: CaptureLines>(input: &[u8], from: usize, out: &mut [u8]) -> usize
     requires { bad_input input.now ≡ false }
-    ensures shown { Shown from out.old 0 (printed input.now) result out.new }
-    ensures upper_bound { result ≤ 2752680 }
+    ensures shown { Shown from out.old 0 (L.lines (record_octets input.now) (record_marks input.now)) result out.new }
+    ensures upper_bound { result ≤ L.most_octets }
 {
     let n = input.len() / 2;
-    let mut o = room();
-    let mut m = room();
+    let mut o = [0u8; MOST_RECORDS];
+    let mut m = [0u8; MOST_RECORDS];
     split(input, &mut o, &mut m);
-    show_lines(&o[..n], &m[..n], from, out)
+    L::show_lines(&o[..n], &m[..n], from, out)
+}
+
+// What a program prints of its input: a text of its own of a good one, and `bad input` of any other.
+pub trait Output {
+    ghost text: { List ℕ → List ℕ };
+
+    // No text is longer.
+    ghost most: { ℕ };
+
+    // A part of the text of a whole input of at most 32,768 records, and how long that text is.
+    fn show_good(input: &[u8], from: usize, out: &mut [u8]) -> usize
+        requires { bad_input input.now ≡ false }
+        ensures shown { Shown from out.old 0 (text input.now) result out.new }
+        ensures upper_bound { result ≤ most };
+
+    // Of any other input the text is `bad input`.
+    ghost told_bad: { (input : List ℕ) → bad_input input ≡ true
+        → (98 ∷ 97 ∷ 100 ∷ 32 ∷ 105 ∷ 110 ∷ 112 ∷ 117 ∷ 116 ∷ 10 ∷ []) ≡ text input };
+
+    ghost bounded: { (10 ≤ most) × (most ≤ 3145920) };
+}
+
+// The lines of readings.
+pub struct Readings;
+
+impl CaptureLines for Readings {
+    ghost lines = { capture_lines };
+
+    ghost most_octets = { 2752680 };
+
+    fn show_lines(octets: &[u8], marks: &[u8], from: usize, out: &mut [u8]) -> usize {
+        show_lines(octets, marks, from, out)
+    }
+}
+
+impl Output for Readings {
+    ghost text = { printed };
+
+    ghost most = { 2752680 };
+
+    ghost told_bad = { printed_bad };
+
+    ghost bounded = { (lit≤ tt, lit≤ tt) };
+
+    fn show_good(input: &[u8], from: usize, out: &mut [u8]) -> usize {
+        show_records::<Readings>(input, from, out)
+    }
 }
 
 // A part of the output of any input, and how long that output is.
-fn show_all(input: &[u8], from: usize, out: &mut [u8]) -> usize
-    ensures shown { Shown from out.old 0 (printed input.now) result out.new }
-    ensures upper_bound { result ≤ 2752680 }
+fn show_all<P: Output>(input: &[u8], from: usize, out: &mut [u8]) -> usize
+    ensures shown { Shown from out.old 0 (P.text input.now) result out.new }
+    ensures upper_bound { result ≤ P.most }
 {
     if bad_input(input) {
         return show(out, from, 0, b"bad input\n");
     }
-    show_good(input, from, out)
+    P::show_good(input, from, out)
 }
 
-// Of all that the program prints of its input, the octets from `from` on, as many as `out` has room for, over the front of `out`; how many that
-// is. A caller that asks for part after part, each from where the one before ended, has it all once a part is shorter than the room: 84 octets for each
-// of 32,768 lines and more for the last are enough.
+// Of all that a program prints of its input, the octets from `from` on, as many as `out` has room for, over the front of `out`; how many that
+// is. A caller that asks for part after part, each from where the one before ended, has it all once a part is shorter than the room.
+pub fn print_part<P: Output>(input: &[u8], from: usize, out: &mut [u8; 131072]) -> usize
+    ensures value { result ≡ length (part 131072 from (P.text input.now)) }
+    ensures out_after { out.new ≡ overwrite out.old 0 (part 131072 from (P.text input.now)) }
+    ensures input_len_bound { length (P.text input.now) ≤ P.most }
+{
+    let total = show_all::<P>(input, from, out);
+    part_length(total, from)
+}
+
+// The part of the lines of readings: 84 octets for each of 32,768 lines and more for the last are enough.
 pub fn print_lines(input: &[u8], from: usize, out: &mut [u8; 131072]) -> usize
     ensures value { result ≡ length (part 131072 from (printed input.now)) }
     ensures out_after { out.new ≡ overwrite out.old 0 (part 131072 from (printed input.now)) }
     ensures input_len_bound { length (printed input.now) ≤ 2752680 }
 {
-    let total = show_all(input, from, out);
-    part_length(total, from)
+    print_part::<Readings>(input, from, out)
+}
+
+// A whole program: reads its input, and prints all that it prints of it, part by part: a part that does not fill the room is the last. One octet more
+// than the longest input is read, so that a longer one shows.
+pub fn run<P: Output>(reader: &mut impl Read, output: &impl Print) -> io::Result<()> {
+    let mut input = [0u8; 65537];
+    let mut out = [0u8; 131072];
+    let n = limited_input::read_full(reader, &mut input)?;
+    let mut from: usize = 0;
+    let mut k: usize = 131072;
+    while k == 131072 {
+        k = print_part::<P>(&input[..n], from, &mut out);
+        output.write_all(&out[..k])?;
+        from += k;
+    }
+    Ok(())
 }

@@ -1,13 +1,14 @@
 // The reading log (document 02, items 4 and 11): records of 16 octets in a lent buffer. Meaning: specs/.
 #![tactic(auto)]
 
-ghost use Rattle.std.specs.Prelude.{◌≡◌, ◌+◌, ◌*◌, ◌%◌, ◌≤◌, ◌<◌, ◌^◌, ◌++◌, length};
+ghost use Rattle.std.specs.Prelude.{◌≡◌, ◌+◌, ◌*◌, ◌%◌, ◌≤◌, ◌<◌, ◌^◌, ◌++◌, ◌≢◌, length, MatchResult};
 ghost use Rattle.line.specs.Limits.{record_size};
 ghost use Rattle.line.specs.Line.{overwrite};
-ghost use Rattle.line.specs.Octets.{low_first};
 ghost use Rattle.splice.specs.Written.{Put};
+ghost use Rattle.reading_log.specs.declared.LogRefusal.TheVariants.{BadLog};
 ghost use Rattle.reading_log.specs.Numbers.{log_refusal_number};
-ghost use Rattle.reading_log.specs.Log.{low_octets, octets_of_record, record_of, used_count, extent, compacted, roomy, logging, appending, record_read, used_records};
+ghost use Rattle.reading_log.specs.Log.{low_octets, octets_of_record, record_of, used_count, extent, compacted, roomy};
+ghost use Rattle.reading_log.specs.Log.{logging, appending, record_read, used_records};
 ghost use Rattle.reading_log.specs.Room.{deleting, numbered, deleting_all, compacting};
 ghost use Rattle.reading_log.specs.Readers.{next_used, next_step, reader_of, handing, hand_out};
 ghost use Rattle.reading_log.specs.Steps.{moved_log, moved_count};
@@ -18,7 +19,7 @@ use line::RECORD_SIZE;
 #[derive(Clone, Copy)]
 pub struct Record {
     pub place: u32,
-    // an outcome's number; 0 for `none`, `open` and a refused reading
+    // an outcome's number; 0 for `none`, `open` and a refused reading: no enum, since any octet may stand there in a lent log
     pub outcome: u8,
     // which address let the frame in (item 7), 0 where none is said
     pub way: u8,
@@ -28,38 +29,17 @@ pub struct Record {
 }
 
 // Refusals 11 to 13.
-#[derive(Clone, Copy)]
+#[derive(Clone, Copy, Debug, PartialEq, Eq)]
 pub enum LogRefusal {
     BadLog,
     LogFull,
     NotUsed,
 }
 
-// What a table of the log's refusals gives: the first that holds, or that the call goes on.
-#[derive(Clone, Copy)]
-pub enum Logged {
-    Fine,
-    Refused(LogRefusal),
-}
-
-// What is read of a log.
-#[derive(Clone, Copy)]
-pub enum LogRead {
-    Refused(LogRefusal),
-    Holds(Record),
-}
-
-// The number of a record, or a number of records.
-#[derive(Clone, Copy)]
-pub enum LogNumber {
-    Refused(LogRefusal),
-    Number(usize),
-}
-
 // What a reader hands out, and its record number after that.
 #[derive(Clone, Copy)]
 pub struct Step {
-    pub read: LogRead,
+    pub read: Result<Record, LogRefusal>,
     pub at: usize,
 }
 
@@ -76,61 +56,32 @@ pub fn refusal_number(r: LogRefusal) -> u8
 
 // ---- numbers, low octet first
 
-fn wide(x: u8) -> u64
-    ensures { (result ≡ x) × (result < 256) }
-{
-    x as u64
-}
-
 // A number as n octets over dst from `at` on; the place behind them.
 fn put_low(dst: &mut [u8], at: usize, n: usize, x: u64) -> usize
     requires { at + n ≤ length dst.old }
-    ensures { Put dst.old at (low_octets n x) result dst.new }
+    ensures next { result ≡ at + n }
+    ensures holds { Put dst.old at (low_octets n x) result dst.new }
 {
-    let mut j: usize = 0;
     let mut y = x;
-    while j < n {
+    for j in 0..n {
         dst[at + j] = (y % 256) as u8;
-        y = y / 256;
-        j += 1;
+        y /= 256;
     }
-    at + j
-}
-
-// The number that stands in n octets from `at` on.
-fn low_first(s: &[u8], at: usize, n: usize) -> u64
-    requires { (at + n ≤ length s.now) × (n ≤ 8) }
-    ensures { (result ≡ low_first s.now at n) × (result < 256 ^ n) }
-{
-    let mut k = n;
-    let mut x: u64 = 0;
-    while 0 < k {
-        k -= 1;
-        x = x * 256 + wide(s[at + k]);
-    }
-    x
+    at + n
 }
 
 // ---- one record in 16 octets
 
-// The first three fields over the log from `at` on; the place behind them.
-fn put_front(log: &mut [u8], at: usize, r: Record) -> usize
-    requires { at + 6 ≤ length log.old }
-    ensures { Put log.old at (low_octets 4 r.place ++ low_octets 1 r.outcome ++ low_octets 1 r.way) result log.new }
-{
-    let a = put_low(log, at, 4, r.place as u64);
-    let b = put_low(log, a, 1, r.outcome as u64);
-    put_low(log, b, 1, r.way as u64)
-}
-
-// A record over record k of the log, whatever stands there: five stores. For this repository's crates only, since it asks that the log has record k.
+// A record over record k of the log, whatever stands there: five numbers. For this repository's crates only, since it asks that the log has record k.
 pub fn write_record(log: &mut [u8], k: usize, r: Record)
     requires { record_size * k + record_size ≤ length log.old }
     ensures { log.new ≡ overwrite log.old (record_size * k) (octets_of_record r) }
 {
-    let a = put_front(log, RECORD_SIZE * k, r);
-    let b = put_low(log, a, 2, r.handed as u64);
-    put_low(log, b, 8, r.status);
+    let a = put_low(log, RECORD_SIZE * k, 4, u64::from(r.place));
+    let b = put_low(log, a, 1, u64::from(r.outcome));
+    let c = put_low(log, b, 1, u64::from(r.way));
+    let d = put_low(log, c, 2, u64::from(r.handed));
+    put_low(log, d, 8, r.status);
 }
 
 // The record that stands in 16 octets. For this repository's crates only, since it asks that there are 16.
@@ -139,48 +90,50 @@ pub fn record_of(s: &[u8]) -> Record
     ensures { result ≡ record_of s.now }
 {
     Record {
-        place: low_first(s, 0, 4) as u32,
-        outcome: low_first(s, 4, 1) as u8,
-        way: low_first(s, 5, 1) as u8,
-        handed: low_first(s, 6, 2) as u16,
-        status: low_first(s, 8, 8),
+        place: u32::from_le_bytes([s[0], s[1], s[2], s[3]]),
+        outcome: s[4],
+        way: s[5],
+        handed: u16::from_le_bytes([s[6], s[7]]),
+        status: u64::from_le_bytes([s[8], s[9], s[10], s[11], s[12], s[13], s[14], s[15]]),
     }
 }
 
 // ---- the log
 
+// Refusal 11, which every call tries first.
+fn checked(log: &[u8]) -> Result<(), LogRefusal>
+    ensures { MatchResult result (λ _. length log.now % record_size ≡ 0) (λ e. (e ≡ BadLog) × (length log.now % record_size ≢ 0)) }
+{
+    if log.len() % RECORD_SIZE != 0 {
+        return Err(LogRefusal::BadLog);
+    }
+    Ok(())
+}
+
 // How many records there are up to the last used one, that one included: the number of the slot behind it. The search begins at the end.
 pub fn extent_of(log: &[u8]) -> usize
     ensures { result ≡ extent log.now }
 {
-    let mut k = log.len() / RECORD_SIZE;
-    while 0 < k {
-        let last = k - 1;
+    for last in (0..log.len() / RECORD_SIZE).rev() {
         if log[RECORD_SIZE * last + 4] != 0 {
-            return k;
+            return last + 1;
         }
-        k = last;
     }
     0
 }
 
 // How many records are used.
-pub fn used_records(log: &[u8]) -> LogNumber
+pub fn used_records(log: &[u8]) -> Result<usize, LogRefusal>
     ensures { result ≡ used_records log.now }
 {
-    if log.len() % RECORD_SIZE != 0 {
-        return LogNumber::Refused(LogRefusal::BadLog);
-    }
-    let records = log.len() / RECORD_SIZE;
-    let mut i: usize = 0;
+    checked(log)?;
     let mut used: usize = 0;
-    while i < records {
+    for i in 0..log.len() / RECORD_SIZE {
         if log[RECORD_SIZE * i + 4] != 0 {
             used += 1;
         }
-        i += 1;
     }
-    LogNumber::Number(used)
+    Ok(used)
 }
 
 // ---- compaction
@@ -197,8 +150,7 @@ fn keep_record(log: &mut [u8], k: usize, j: usize) -> usize
     if j == k {
         return j + 1;
     }
-    let end = from + RECORD_SIZE;
-    let r = record_of(&log[from..end]);
+    let r = record_of(&log[from..from + RECORD_SIZE]);
     write_record(log, j, r);
     j + 1
 }
@@ -209,15 +161,11 @@ fn compact_front(log: &mut [u8]) -> usize
     ensures { (log.new ≡ compacted log.old) × (result ≡ used_count log.old) }
 {
     let records = log.len() / RECORD_SIZE;
-    let mut k: usize = 0;
     let mut j: usize = 0;
-    while k < records {
+    for k in 0..records {
         j = keep_record(log, k, j);
-        k += 1;
     }
-    let at = RECORD_SIZE * j;
-    let rest = log.len() - at;
-    splice::fill(log, at, rest, 0);
+    log[RECORD_SIZE * j..].fill(0);
     j
 }
 
@@ -234,99 +182,86 @@ pub fn room(log: &mut [u8], k: usize) -> usize
 }
 
 // Moves the records that remain to the front, and fills the rest with zero octets.
-pub fn compact(log: &mut [u8]) -> Logged
+pub fn compact(log: &mut [u8]) -> Result<(), LogRefusal>
     ensures { logging result log.new ≡ compacting log.old }
 {
-    if log.len() % RECORD_SIZE != 0 {
-        return Logged::Refused(LogRefusal::BadLog);
-    }
+    checked(log)?;
     compact_front(log);
-    Logged::Fine
+    Ok(())
 }
 
 // ---- appending and deleting
 
 // Appends a record behind the last used one; a record of outcome 0 is not appended.
-pub fn append(log: &mut [u8], r: Record) -> Logged
+pub fn append(log: &mut [u8], r: Record) -> Result<(), LogRefusal>
     ensures { logging result log.new ≡ appending log.old r }
 {
-    if log.len() % RECORD_SIZE != 0 {
-        return Logged::Refused(LogRefusal::BadLog);
-    }
+    checked(log)?;
     if r.outcome == 0 {
-        return Logged::Fine;
+        return Ok(());
     }
     let last = extent_of(log);
     let k = room(log, last);
     let count = log.len() / RECORD_SIZE;
     if k == count {
-        return Logged::Refused(LogRefusal::LogFull);
+        return Err(LogRefusal::LogFull);
     }
     write_record(log, k, r);
-    Logged::Fine
+    Ok(())
 }
 
 // Deletes a record: its outcome octet becomes 0.
-pub fn delete(log: &mut [u8], k: usize) -> Logged
+pub fn delete(log: &mut [u8], k: usize) -> Result<(), LogRefusal>
     ensures { logging result log.new ≡ deleting log.old k }
 {
-    if log.len() % RECORD_SIZE != 0 {
-        return Logged::Refused(LogRefusal::BadLog);
-    }
+    checked(log)?;
     if log.len() / RECORD_SIZE <= k {
-        return Logged::Refused(LogRefusal::NotUsed);
+        return Err(LogRefusal::NotUsed);
     }
     let at = RECORD_SIZE * k + 4;
     if log[at] == 0 {
-        return Logged::Refused(LogRefusal::NotUsed);
+        return Err(LogRefusal::NotUsed);
     }
     log[at] = 0;
-    Logged::Fine
+    Ok(())
 }
 
 // Deletes every record of an outcome; how many these were. Outcome 0 is that of no used record.
-pub fn delete_outcome(log: &mut [u8], outcome: u8) -> LogNumber
+pub fn delete_outcome(log: &mut [u8], outcome: u8) -> Result<usize, LogRefusal>
     ensures { numbered result log.new ≡ deleting_all log.old outcome }
 {
-    if log.len() % RECORD_SIZE != 0 {
-        return LogNumber::Refused(LogRefusal::BadLog);
-    }
+    checked(log)?;
     if outcome == 0 {
-        return LogNumber::Number(0);
+        return Ok(0);
     }
     let records = log.len() / RECORD_SIZE;
-    let mut i: usize = 0;
     let mut deleted: usize = 0;
-    while i < records {
+    for i in 0..records {
         let at = RECORD_SIZE * i + 4;
         if log[at] == outcome {
             log[at] = 0;
             deleted += 1;
         }
-        i += 1;
     }
-    LogNumber::Number(deleted)
+    Ok(deleted)
 }
 
 // ---- reading
 
 // The record of a stated number.
-pub fn read_record(log: &[u8], k: usize) -> LogRead
+pub fn read_record(log: &[u8], k: usize) -> Result<Record, LogRefusal>
     ensures { result ≡ record_read log.now k }
 {
-    if log.len() % RECORD_SIZE != 0 {
-        return LogRead::Refused(LogRefusal::BadLog);
-    }
+    checked(log)?;
     if log.len() / RECORD_SIZE <= k {
-        return LogRead::Refused(LogRefusal::NotUsed);
+        return Err(LogRefusal::NotUsed);
     }
     let a = RECORD_SIZE * k;
-    let b = a + RECORD_SIZE;
-    let s = &log[a..b];
+    let s = &log[a..a + RECORD_SIZE];
     if s[4] == 0 {
-        return LogRead::Refused(LogRefusal::NotUsed);
+        return Err(LogRefusal::NotUsed);
     }
-    LogRead::Holds(record_of(s))
+    Ok(record_of(s))
 }
 
 // ---- a reader
@@ -336,14 +271,12 @@ fn next_used(log: &[u8], at: usize) -> usize
     ensures { result ≡ next_used log.now at }
 {
     let records = log.len() / RECORD_SIZE;
-    let mut k = at;
-    while k < records {
+    for k in at..records {
         if log[RECORD_SIZE * k + 4] != 0 {
             return k;
         }
-        k += 1;
     }
-    k
+    at.max(records)
 }
 
 // The work of a reader: what it hands out from a record number on, deleted records skipped, and the number after that. Every caller with a slice and a
@@ -352,20 +285,16 @@ pub fn next_at(log: &[u8], at: usize) -> Step
     ensures { result ≡ next_step log.now at }
 {
     let k = next_used(log, at);
-    let read = read_record(log, k);
-    match read {
-        LogRead::Refused(x) => Step {
-            read: LogRead::Refused(x),
-            at,
-        },
-        LogRead::Holds(r) => Step {
-            read: LogRead::Holds(r),
+    match read_record(log, k) {
+        Ok(r) => Step {
+            read: Ok(r),
             at: k + 1,
         },
+        Err(x) => Step { read: Err(x), at },
     }
 }
 
-// A reader keeps the lent log and its place, a record number.
+// A reader keeps the lent log and its place, a record number: document 02, item 4, asks for one.
 #[derive(Drop)]
 pub struct Reader<'a> {
     pub log: &'a [u8],
@@ -380,7 +309,7 @@ pub fn reader_of<'a>(log: &'a [u8]) -> Reader<'a>
 }
 
 // Hands out the next record, and moves the reader's own place on; a refusal leaves it.
-pub fn next<'a>(r: &mut Reader<'a>) -> LogRead
+pub fn next<'a>(r: &mut Reader<'a>) -> Result<Record, LogRefusal>
     ensures { handing result r.new ≡ hand_out r.old }
 {
     let s = next_at(r.log, r.at);

@@ -6,21 +6,17 @@ ghost use Rattle.line.specs.Limits.{most_symbols, preamble_size, fcs_size};
 ghost use Rattle.line.specs.Line.{preamble};
 ghost use Rattle.line.specs.Octets.{low_first};
 ghost use Rattle.fcs.specs.Fcs.{fcs_of};
-ghost use Rattle.table.specs.Entries.{entries_of};
+ghost use Rattle.table.specs.Entries.{entries_of, address_at};
 ghost use Rattle.frame.specs.Frame.{covered};
 ghost use Rattle.outcome.specs.Outcomes.{frame_of, check_made};
-ghost use Rattle.reason.specs.Reasons.{right_ones, preamble_reason, six_of, long_reason, fcs_reason, length_reason, handed_reason, reason_for, explained};
+ghost use Rattle.reason.specs.Reasons.{right_ones, preamble_reason, long_reason, fcs_reason, length_reason, handed_reason, reason_for, explained};
 
-use line::{Found, LEAD_SIZE, LEAST_FRAME, PREAMBLE_SIZE, TAG_SIZE};
+use line::{LEAD_SIZE, LEAST_FRAME, PREAMBLE_SIZE, TAG_SIZE};
 use outcome::Judged;
-use station::{Checked, Outcome, Refusal, Settings};
-
-// Six octets of an address: an enum may not hold an array.
-#[derive(Clone, Copy)]
-pub struct Six(pub u8, pub u8, pub u8, pub u8, pub u8, pub u8);
+use station::{Address, Outcome, Refusal, Settings};
 
 // The reason of each outcome, with its evidence.
-#[derive(Clone, Copy)]
+#[derive(Clone, Copy, Debug, PartialEq, Eq)]
 pub enum Reason {
     // 1: place and octet of the ending symbol
     CutAt(usize, u8),
@@ -37,7 +33,7 @@ pub enum Reason {
     // 6: field and data length
     LengthBroken(u16, usize),
     // 7: the destination
-    NotForUs(Six),
+    NotForUs(Address),
     // 8 to 10: the opcode
     TookPause(u16),
     TookPfc(u16),
@@ -47,7 +43,7 @@ pub enum Reason {
 }
 
 // What the tool answers: `none` and `open` have no reason.
-#[derive(Clone, Copy)]
+#[derive(Clone, Copy, Debug, PartialEq, Eq)]
 pub enum Why {
     Refused(Refusal),
     Nothing,
@@ -55,7 +51,7 @@ pub enum Why {
     Because(Reason),
 }
 
-#[derive(Clone, Copy)]
+#[derive(Clone, Copy, Debug, PartialEq, Eq)]
 pub struct Explained {
     pub answer: Why,
     // the Start's place
@@ -72,17 +68,16 @@ fn right_ones(run: &[u8]) -> usize
     ensures { (result ≡ right_ones run.now preamble) × (result ≤ preamble_size) }
 {
     let right = [0x55u8, 0x55, 0x55, 0x55, 0x55, 0x55, 0xD5];
-    let mut k: usize = 0;
-    while k < PREAMBLE_SIZE {
+    for k in 0..PREAMBLE_SIZE {
         if run[k] != right[k] {
             return k;
         }
-        k += 1;
     }
-    k
+    PREAMBLE_SIZE
 }
 
 // Bad preamble: of a run whose first octet stands at place `at`.
+#[tactic(auto, unfolding(crate::specs::Reasons::preamble_reason))]
 fn of_preamble(at: usize, run: &[u8]) -> Reason
     requires { at ≤ 131072 }
     ensures { result ≡ preamble_reason at run.now }
@@ -94,18 +89,12 @@ fn of_preamble(at: usize, run: &[u8]) -> Reason
 }
 
 // Oversized: the limit grows by tag.
+#[tactic(auto, unfolding(crate::specs::Reasons::long_reason))]
 fn of_long(limit: u16, f: &[u8]) -> Reason
     ensures { result ≡ long_reason limit f.now }
 {
     let tags = fields::tag_count(f);
-    Reason::TooLong(f.len(), (limit as usize) + TAG_SIZE * (tags as usize))
-}
-
-// An octet as a number of 32 bits.
-fn wide32(x: u8) -> u32
-    ensures { (result ≡ x) × (result < 256) }
-{
-    x as u32
+    Reason::TooLong(f.len(), usize::from(limit) + TAG_SIZE * usize::from(tags))
 }
 
 // The four octets from `e` on as a number, low octet first; beyond the end they count as 0.
@@ -113,14 +102,16 @@ fn four_octets(f: &[u8], e: usize) -> u32
     requires { e ≤ length f.now }
     ensures { result ≡ low_first f.now e fcs_size }
 {
-    let a = wide32(fields::octet(f, e));
-    let b = wide32(fields::octet(f, e + 1));
-    let c = wide32(fields::octet(f, e + 2));
-    let d = wide32(fields::octet(f, e + 3));
-    a + b * 0x100 + c * 0x1_0000 + d * 0x100_0000
+    u32::from_le_bytes([
+        fields::octet(f, e),
+        fields::octet(f, e + 1),
+        fields::octet(f, e + 2),
+        fields::octet(f, e + 3),
+    ])
 }
 
 // Wrong FCS: both values, of a frame of which rule 5 made this check.
+#[tactic(auto, unfolding(crate::specs::Reasons::fcs_reason, crate::specs::Reasons::received))]
 fn of_fcs(f: &[u8], check: u32) -> Reason
     requires { check ≡ fcs_of (covered f.now) }
     ensures { result ≡ fcs_reason f.now }
@@ -130,6 +121,7 @@ fn of_fcs(f: &[u8], check: u32) -> Reason
 }
 
 // Wrong length: field and data length.
+#[tactic(auto, unfolding(crate::specs::Reasons::length_reason, frame::specs::Frame::frame_data, fields::specs::Places::layout_of))]
 fn of_length(f: &[u8]) -> Reason
     ensures { result ≡ length_reason f.now }
 {
@@ -138,21 +130,23 @@ fn of_length(f: &[u8]) -> Reason
     Reason::LengthBroken(l.field, data.len())
 }
 
-// The six octets of the destination.
-fn six_of(f: &[u8]) -> Six
-    ensures { result ≡ six_of f.now }
+// The address in the six octets of the destination.
+#[tactic(auto, unfolding(table::specs::Entries::address_at))]
+fn destination(f: &[u8]) -> Address
+    ensures { result ≡ address_at f.now 0 }
 {
-    Six(
+    Address([
         fields::octet(f, 0),
         fields::octet(f, 1),
         fields::octet(f, 2),
         fields::octet(f, 3),
         fields::octet(f, 4),
         fields::octet(f, 5),
-    )
+    ])
 }
 
 // Handed out: place and length of the data, of a frame that begins at place `at`.
+#[tactic(auto, unfolding(crate::proofs::Opened::of_handed))]
 fn of_handed(checking: bool, at: usize, f: &[u8]) -> Reason
     requires { at ≤ 131072 }
     ensures { result ≡ handed_reason checking at f.now }
@@ -164,20 +158,20 @@ fn of_handed(checking: bool, at: usize, f: &[u8]) -> Reason
 }
 
 // The reason of a Start at place `start`, whose run, ended by the control octet `by`, was judged so.
+#[tactic(auto, unfolding(crate::specs::Reasons::reason_for))]
 fn reason_of(s: Settings, start: usize, run: &[u8], by: u8, j: Judged) -> Reason
     requires { (start ≤ most_symbols) × (length run.now ≤ most_symbols) × (j.check ≡ check_made j.outcome (frame_of run.now)) }
     ensures { result ≡ reason_for s start run.now by j.outcome }
 {
-    let o = j.outcome;
     let f = outcome::frame_of(run);
-    match o {
+    match j.outcome {
         Outcome::Cut => Reason::CutAt(start + 1 + run.len(), by),
         Outcome::BadPreamble => of_preamble(start + 1, run),
         Outcome::Undersized => Reason::TooShort(f.len(), LEAST_FRAME),
         Outcome::Oversized => of_long(s.limit, f),
         Outcome::WrongFcs => of_fcs(f, j.check),
         Outcome::WrongLength => of_length(f),
-        Outcome::Filtered => Reason::NotForUs(six_of(f)),
+        Outcome::Filtered => Reason::NotForUs(destination(f)),
         Outcome::PauseTaken => Reason::TookPause(control::opcode(f)),
         Outcome::PfcTaken => Reason::TookPfc(control::opcode(f)),
         Outcome::ControlDropped => Reason::DroppedControl(control::opcode(f)),
@@ -198,15 +192,14 @@ pub fn explain(
 ) -> Explained
     ensures { result ≡ explained s job (entries_of table.now) octets.now marks.now place }
 {
-    let checked = receive::check_read(s, job, table, octets, marks, place);
-    if let Checked::Refused(x) = checked {
+    if let Err(x) = receive::check_read(s, job, table, octets, marks, place) {
         return Explained {
             answer: Why::Refused(x),
             start: place,
             next: place,
         };
     }
-    let Found::At(start) = line::find_start(octets, marks, place) else {
+    let Some(start) = line::find_start(octets, marks, place) else {
         return Explained {
             answer: Why::Nothing,
             start: octets.len(),
@@ -214,19 +207,19 @@ pub fn explain(
         };
     };
     let from = start + 1;
-    let Found::At(end) = line::find_control(octets, marks, from) else {
+    let Some(end) = line::find_control(octets, marks, from) else {
         return Explained {
             answer: Why::Open,
             start,
             next: start,
         };
     };
+    let run = &octets[from..end];
+    let by = octets[end];
     // one Start has no time to make tables
-    let none = [0u32; 1];
-    let j = outcome::judge(&none[..0], s, job, table, &octets[from..end], octets[end]);
-    let why = reason_of(s, start, &octets[from..end], octets[end], j);
+    let j = outcome::judge(None, s, job, table, run, by);
     Explained {
-        answer: Why::Because(why),
+        answer: Why::Because(reason_of(s, start, run, by, j)),
         start,
         next: end,
     }

@@ -1,22 +1,24 @@
 // Reading (document 01, "Reading one Start", "Refusals and their order"), of a job, by the address table that two jobs share (document 02, item 10).
 // Meaning: specs/.
+// The two buffers are two parameters: that they differ in length is refusal 2, so that no invariant joins them, and a struct would name them twice in each
+// clause. Settings, job and table likewise: each may be bad, which is refusals 1, 14 and 20.
 #![tactic(auto)]
 
 ghost use Rattle.std.specs.Prelude.{◌≡◌, ◌+◌, ◌≤◌, true, length};
 ghost use Rattle.line.specs.Limits.{most_symbols};
 ghost use Rattle.line.specs.Table.{first};
-ghost use Rattle.fcs.specs.Lent.{Lent};
 ghost use Rattle.table.specs.Entries.{entries_of};
-ghost use Rattle.station.specs.declared.Checked.TheVariants.{Fine};
 ghost use Rattle.receive.specs.Reading.{read_refusals, reading, part_of};
 ghost use Rattle.receive.specs.Steps.{part_at, sight_of, Inside, Seen, after_sight};
 ghost use Rattle.receive.specs.Walk.{walked};
 
+use fcs::Rows;
 use fields::Layout;
-use line::{Found, LEAD_SIZE};
-use station::{Checked, Outcome, Part, Refusal, Settings, State};
+use line::LEAD_SIZE;
+use station::{Outcome, Part, Refusal, Settings, State};
 
-// What a reading answers. The state holds arrays, which an enum may not: it stands beside the answer.
+// What a reading answers: the four cases that document 01 names side by side. `none` and `open` are no refusals, so a `Result` would hold an enum of three.
+// The state stands beside the answer, since a refusal gives it too.
 #[derive(Clone, Copy)]
 pub enum Answer {
     Refused(Refusal),
@@ -47,17 +49,19 @@ struct Sight {
     next: usize,
 }
 
-// What a walk over a whole capture answers; the state stands beside it.
-#[derive(Clone, Copy)]
-pub enum WalkAnswer {
-    Refused(Refusal),
-    // how many Starts were counted, and whether the walk ended `open`
-    Ended(usize, bool),
+// How a walk over a whole capture ended.
+#[derive(Clone, Copy, Debug, PartialEq, Eq)]
+pub struct Ended {
+    // how many Starts were counted
+    pub starts: usize,
+    // whether the walk ended `open`
+    pub is_open: bool,
 }
 
+// What such a walk answers, and the state after it.
 #[derive(Clone, Copy)]
 pub struct Walking {
-    pub answer: WalkAnswer,
+    pub answer: Result<Ended, Refusal>,
     pub state: State,
 }
 
@@ -101,40 +105,39 @@ pub fn check_read(
     octets: &[u8],
     marks: &[u8],
     place: usize,
-) -> Checked
+) -> Result<(), Refusal>
     ensures { result ≡ first (read_refusals s job (entries_of table.now) octets.now marks.now place) }
 {
     if station::bad_settings(s) {
-        return Checked::Refused(Refusal::BadSettings);
+        return Err(Refusal::BadSettings);
     }
     if table::bad_job(job) {
-        return Checked::Refused(Refusal::BadJob);
+        return Err(Refusal::BadJob);
     }
     if station::bad_buffers(octets, marks) {
-        return Checked::Refused(Refusal::BadBuffers);
+        return Err(Refusal::BadBuffers);
     }
     if station::bad_place(octets, place) {
-        return Checked::Refused(Refusal::BadPlace);
+        return Err(Refusal::BadPlace);
     }
     if table::bad_table(table) {
-        return Checked::Refused(Refusal::BadTable);
+        return Err(Refusal::BadTable);
     }
-    Checked::Fine
+    Ok(())
 }
 
 // What a reading sees: the first Start at a place or later, and its outcome. No state has a part in it.
 fn look(s: Settings, job: u8, table: &[u8; 128], octets: &[u8], marks: &[u8], place: usize) -> Sight
     ensures { Seen s job (entries_of table.now) octets.now marks.now place result }
 {
-    let checked = check_read(s, job, table, octets, marks, place);
-    if let Checked::Refused(x) = checked {
+    if let Err(x) = check_read(s, job, table, octets, marks, place) {
         return Sight {
             answer: Answer::Refused(x),
             start: place,
             next: place,
         };
     }
-    let Found::At(start) = line::find_start(octets, marks, place) else {
+    let Some(start) = line::find_start(octets, marks, place) else {
         return Sight {
             answer: Answer::Nothing,
             start: octets.len(),
@@ -142,7 +145,7 @@ fn look(s: Settings, job: u8, table: &[u8; 128], octets: &[u8], marks: &[u8], pl
         };
     };
     let from = start + 1;
-    let Found::At(end) = line::find_control(octets, marks, from) else {
+    let Some(end) = line::find_control(octets, marks, from) else {
         return Sight {
             answer: Answer::Open,
             start,
@@ -150,9 +153,7 @@ fn look(s: Settings, job: u8, table: &[u8; 128], octets: &[u8], marks: &[u8], pl
         };
     };
     // a single reading has no time to make tables
-    let none = [0u32; 1];
-    let judged = outcome::judge(&none[..0], s, job, table, &octets[from..end], octets[end]);
-    let o = judged.outcome;
+    let o = outcome::judge(None, s, job, table, &octets[from..end], octets[end]).outcome;
     // here and not in `look_run`: settings that are lent on from one place only are not taken apart, which is a sixth of a short reading
     let way = match o {
         Outcome::PauseTaken | Outcome::PfcTaken | Outcome::ControlDropped | Outcome::HandedOut =>
@@ -167,15 +168,14 @@ fn state_after(seen: Sight, octets: &[u8], state: State) -> State
     requires { Inside octets.now seen }
     ensures { result ≡ after_sight octets.now seen state }
 {
-    let answer = seen.answer;
     let mut counters = state.counters;
     let mut timers = state.timers;
-    if let Answer::Counted(o, _word, _part, _way) = answer {
+    if let Answer::Counted(o, ..) = seen.answer {
         station::count(o, &mut counters);
         if flow::sets_timers(o) {
             let from = seen.start + 1;
-            let end = seen.next;
-            let f = outcome::frame_of(&octets[from..end]);
+            let f = outcome::frame_of(&octets[from..seen.next]);
+            // a call's result is not laid in a local that is lent
             let set = flow::timers_after(o, f, timers);
             timers = set;
         }
@@ -200,13 +200,11 @@ pub fn read(
     ensures { result ≡ reading s job (entries_of table.now) state octets.now marks.now place }
 {
     let seen = look(s, job, table, octets, marks, place);
-    let answer = seen.answer;
-    let after = state_after(seen, octets, state);
     Reading {
-        answer,
+        answer: seen.answer,
         start: seen.start,
         next: seen.next,
-        state: after,
+        state: state_after(seen, octets, state),
     }
 }
 
@@ -229,8 +227,9 @@ pub fn client_data(octets: &[u8], part: Part) -> &[u8]
 // ---- the walk
 
 // The walk over a capture that is not refused, the FCS by tables if they are lent. Counters and timers stay where they are; most Starts set no timer.
+// A loop of its own, as in `logging::keep_on` and `sizes::add_walk`: what all three would share would be called for each Start, and not stand in the loop.
 fn walk_on(
-    t: &[u32],
+    tables: Option<Rows>,
     s: Settings,
     job: u8,
     table: &[u8; 128],
@@ -238,7 +237,7 @@ fn walk_on(
     octets: &[u8],
     marks: &[u8],
 ) -> Walking
-    requires { Lent t.now × (first (read_refusals s job (entries_of table.now) octets.now marks.now 0) ≡ Fine) }
+    requires { first (read_refusals s job (entries_of table.now) octets.now marks.now 0) ≡ Ok tt }
     ensures { result ≡ walked s job (entries_of table.now) state octets.now marks.now }
 {
     let mut counters = state.counters;
@@ -249,9 +248,12 @@ fn walk_on(
     let mut n: usize = 0;
     let mut at: usize = 0;
     loop {
-        let Found::At(start) = line::find_start(octets, marks, at) else {
+        let Some(start) = line::find_start(octets, marks, at) else {
             return Walking {
-                answer: WalkAnswer::Ended(n, false),
+                answer: Ok(Ended {
+                    starts: n,
+                    is_open: false,
+                }),
                 state: State {
                     counters,
                     timers,
@@ -260,9 +262,12 @@ fn walk_on(
             };
         };
         let from = start + 1;
-        let Found::At(end) = line::find_control(octets, marks, from) else {
+        let Some(end) = line::find_control(octets, marks, from) else {
             return Walking {
-                answer: WalkAnswer::Ended(n, true),
+                answer: Ok(Ended {
+                    starts: n,
+                    is_open: true,
+                }),
                 state: State {
                     counters,
                     timers,
@@ -272,11 +277,11 @@ fn walk_on(
         };
         // the frame most seen sets no timer; all else goes by the rules
         if outcome::is_plain(&want, limit, &octets[from..end], octets[end]) {
-            let judged = outcome::judge_plain(t, &octets[from..end]);
+            let judged = outcome::judge_plain(tables, &octets[from..end]);
             let o = judged.outcome;
             station::count(o, &mut counters);
         } else {
-            let judged = outcome::judge(t, s, job, table, &octets[from..end], octets[end]);
+            let judged = outcome::judge(tables, s, job, table, &octets[from..end], octets[end]);
             let o = judged.outcome;
             station::count(o, &mut counters);
             if flow::sets_timers(o) {
@@ -292,29 +297,24 @@ fn walk_on(
 
 // The place after a symbol.
 fn behind(place: usize) -> usize {
-    std::num::wrapping_add_usize(place, 1)
+    place.wrapping_add(1)
 }
 
 // Where the Start after the one at `start` stands, or the run that is left.
-fn next_start(octets: &[u8], marks: &[u8], start: usize) -> Found {
-    let Found::At(end) = line::find_control(octets, marks, behind(start)) else {
-        return Found::Nothing;
-    };
+fn next_start(octets: &[u8], marks: &[u8], start: usize) -> Option<usize> {
+    let end = line::find_control(octets, marks, behind(start))?;
     line::find_start(octets, marks, end)
 }
 
 // Whether three Starts stand there.
 fn three_starts(octets: &[u8], marks: &[u8]) -> bool {
-    let Found::At(first) = line::find_start(octets, marks, 0) else {
+    let Some(first) = line::find_start(octets, marks, 0) else {
         return false;
     };
-    let Found::At(second) = next_start(octets, marks, first) else {
+    let Some(second) = next_start(octets, marks, first) else {
         return false;
     };
-    match next_start(octets, marks, second) {
-        Found::At(_) => true,
-        Found::Nothing => false,
-    }
+    next_start(octets, marks, second).is_some()
 }
 
 // Whether the tables of the FCS pay from a place on: they do for some fifty short frames. From 24,576 symbols on three Starts in 1,536 tell of enough of
@@ -351,18 +351,16 @@ pub fn walk(
 ) -> Walking
     ensures { result ≡ walked s job (entries_of table.now) state octets.now marks.now }
 {
-    let checked = check_read(s, job, table, octets, marks, 0);
-    if let Checked::Refused(x) = checked {
+    if let Err(x) = check_read(s, job, table, octets, marks, 0) {
         return Walking {
-            answer: WalkAnswer::Refused(x),
+            answer: Err(x),
             state,
         };
     }
     if !tables_pay(octets, marks, 0) {
-        let none = [0u32; 1];
-        return walk_on(&none[..0], s, job, table, state, octets, marks);
+        return walk_on(None, s, job, table, state, octets, marks);
     }
     let mut t = [0u32; 4096];
     fcs::make_tables(&mut t);
-    walk_on(&t, s, job, table, state, octets, marks)
+    walk_on(Some(Rows { t: &t }), s, job, table, state, octets, marks)
 }

@@ -9,40 +9,28 @@ ghost use Rattle.writing.specs.declared.Classes.{Classes};
 ghost use Rattle.writing.specs.Frames.{client_body, pause_body, pfc_body};
 ghost use Rattle.writing.specs.Gaps.{gap_at, gap_on};
 ghost use Rattle.send.specs.Framings.{with_gap};
-ghost use Rattle.send.specs.Sending.{refused_at, wrote_up_to, state_sent, bad_class, bad_type, many_tags, long_data, held, client_checked, control_refusals, pause_checked, pfc_checked, idle_checked, send_call, client_sending, pause_sending, pfc_sending, idle_sending};
+ghost use Rattle.send.specs.Sending.{refused_at, wrote_up_to, state_sent, bad_class, bad_type, many_tags, long_data, held, client_checked, control_refusals};
+ghost use Rattle.send.specs.Sending.{pause_checked, pfc_checked, idle_checked, send_call, client_sending, pause_sending, pfc_sending, idle_sending};
 
 use line::{
     AROUND_BODY, AROUND_DATA, LEAST_BODY, LEAST_DATA, LEAST_TYPE, MOST_CLASS, MOST_LENGTH,
     MOST_TAGS, TAG_SIZE,
 };
-use station::{Checked, Port, Quanta, Refusal, Settings, State};
+use station::{Port, Quanta, Refusal, Settings, State};
 use writing::{Classes, Client, Form, Gap};
-
-// What a sending call answers; the place and the state stand beside it.
-#[derive(Clone, Copy)]
-pub enum SendAnswer {
-    Wrote,
-    Refused(Refusal),
-}
 
 #[derive(Clone, Copy)]
 pub struct Sending {
-    pub answer: SendAnswer,
+    pub answer: Result<(), Refusal>,
     // the place after what was written; of a refusal the place of the call
     pub place: usize,
     pub state: State,
 }
 
-// What the refusals of a frame come to: one of them, or the gap behind the frame, which is reckoned once.
-#[derive(Clone, Copy)]
-enum Framing {
-    Goes(Gap),
-    Refused(Refusal),
-}
-
 // ---- the refusals, lowest number first
 
 // Refusal 5.
+#[tactic(auto, unfolding(crate::specs::Sending::bad_class))]
 fn bad_class(c: Client) -> bool
     ensures { result ≡ bad_class c }
 {
@@ -50,25 +38,18 @@ fn bad_class(c: Client) -> bool
 }
 
 // Refusal 6.
+#[tactic(auto, unfolding(crate::specs::Sending::bad_type))]
 fn bad_type(form: Form) -> bool
     ensures { result ≡ bad_type form }
 {
-    let Form::ByType(t) = form else {
-        return false;
-    };
-    if t < LEAST_TYPE {
-        return true;
+    match form {
+        Form::ByLength => false,
+        Form::ByType(t) => t < LEAST_TYPE || matches!(t, 0x8100 | 0x8808 | 0x88A8),
     }
-    if t == 0x8100 {
-        return true;
-    }
-    if t == 0x8808 {
-        return true;
-    }
-    t == 0x88A8
 }
 
 // Refusal 10.
+#[tactic(auto, unfolding(crate::specs::Sending::many_tags))]
 fn many_tags(c: Client) -> bool
     ensures { result ≡ many_tags c }
 {
@@ -76,14 +57,15 @@ fn many_tags(c: Client) -> bool
 }
 
 // Refusal 7: the limit is M.
+#[tactic(auto, unfolding(crate::specs::Sending::long_data))]
 fn long_data(limit: u16, form: Form, d: &[u8]) -> bool
     requires { least_limit ≤ limit }
     ensures { result ≡ long_data limit form d.now }
 {
-    let Form::ByType(_) = form else {
-        return MOST_LENGTH < d.len();
-    };
-    ((limit - AROUND_DATA) as usize) < d.len()
+    match form {
+        Form::ByLength => MOST_LENGTH < d.len(),
+        Form::ByType(_) => usize::from(limit - AROUND_DATA) < d.len(),
+    }
 }
 
 // Refusal 8: `need` symbols do not fit from a place inside the buffers on. No sum, so that none is too large.
@@ -95,13 +77,12 @@ fn no_room(octets: &[u8], place: usize, need: usize) -> bool
 }
 
 // Refusal 9.
+#[tactic(auto, unfolding(crate::specs::Sending::held, flow::specs::Timers::timer))]
 fn held(state: State, class: u8) -> bool
     requires { class ≤ most_class }
     ensures { result ≡ held state class }
 {
-    let timers = state.timers;
-    let t = timers[class as usize];
-    0 < t.0
+    0 < state.timers[usize::from(class)].0
 }
 
 // How many octets of a client frame its FCS covers: addresses, tags, field, data with its padding.
@@ -109,11 +90,7 @@ fn client_size(count: u8, n: usize) -> usize
     requires { n ≤ 65535 }
     ensures { result ≡ 14 + tag_size * count + (n + (least_data - n)) }
 {
-    let tags = count as usize;
-    if n < LEAST_DATA {
-        return LEAST_BODY + TAG_SIZE * tags;
-    }
-    14 + TAG_SIZE * tags + n
+    14 + TAG_SIZE * usize::from(count) + n.max(LEAST_DATA)
 }
 
 // The gap behind a frame on a port, of which the FCS covers `size` octets, with the deficit count before it.
@@ -134,44 +111,43 @@ fn check_client(
     place: usize,
     client: Client,
     d: &[u8],
-) -> Framing
+) -> Result<Gap, Refusal>
     ensures { result ≡ with_gap (gap_on port state.deficit place (client_body s client d.now))
         (client_checked s state port octets.now marks.now place client d.now) }
 {
     if station::bad_settings(s) {
-        return Framing::Refused(Refusal::BadSettings);
+        return Err(Refusal::BadSettings);
     }
     if station::bad_buffers(octets, marks) {
-        return Framing::Refused(Refusal::BadBuffers);
+        return Err(Refusal::BadBuffers);
     }
     if station::bad_start(port, octets, place) {
-        return Framing::Refused(Refusal::BadPlace);
+        return Err(Refusal::BadPlace);
     }
     if station::high_deficit(port, state.deficit) {
-        return Framing::Refused(Refusal::HighDeficit);
+        return Err(Refusal::HighDeficit);
     }
     if bad_class(client) {
-        return Framing::Refused(Refusal::BadClass);
+        return Err(Refusal::BadClass);
     }
-    let form = client.form;
-    if bad_type(form) {
-        return Framing::Refused(Refusal::BadType);
+    if bad_type(client.form) {
+        return Err(Refusal::BadType);
     }
     if many_tags(client) {
-        return Framing::Refused(Refusal::ManyTags);
+        return Err(Refusal::ManyTags);
     }
-    if long_data(s.limit, form, d) {
-        return Framing::Refused(Refusal::LongData);
+    if long_data(s.limit, client.form, d) {
+        return Err(Refusal::LongData);
     }
     let size = client_size(client.count, d.len());
     let gap = gap_behind(port, state.deficit, place, size);
     if no_room(octets, place, AROUND_BODY + size + gap.size) {
-        return Framing::Refused(Refusal::NoRoom);
+        return Err(Refusal::NoRoom);
     }
     if held(state, client.class) {
-        return Framing::Refused(Refusal::Held);
+        return Err(Refusal::Held);
     }
-    Framing::Goes(gap)
+    Ok(gap)
 }
 
 // The refusals of sending a pause or PFC frame, in the flow mode asked for or in another.
@@ -183,31 +159,31 @@ fn check_control(
     marks: &[u8],
     place: usize,
     asked: bool,
-) -> Framing
+) -> Result<Gap, Refusal>
     ensures { (body : List ℕ) → length body ≡ least_body
         → result ≡ with_gap (gap_on port deficit place body)
         (first (control_refusals s port deficit octets.now marks.now place asked body)) }
 {
     if station::bad_settings(s) {
-        return Framing::Refused(Refusal::BadSettings);
+        return Err(Refusal::BadSettings);
     }
     if station::bad_buffers(octets, marks) {
-        return Framing::Refused(Refusal::BadBuffers);
+        return Err(Refusal::BadBuffers);
     }
     if station::bad_start(port, octets, place) {
-        return Framing::Refused(Refusal::BadPlace);
+        return Err(Refusal::BadPlace);
     }
     if station::high_deficit(port, deficit) {
-        return Framing::Refused(Refusal::HighDeficit);
+        return Err(Refusal::HighDeficit);
     }
     if !asked {
-        return Framing::Refused(Refusal::OtherFlow);
+        return Err(Refusal::OtherFlow);
     }
     let gap = gap_behind(port, deficit, place, LEAST_BODY);
     if no_room(octets, place, AROUND_BODY + LEAST_BODY + gap.size) {
-        return Framing::Refused(Refusal::NoRoom);
+        return Err(Refusal::NoRoom);
     }
-    Framing::Goes(gap)
+    Ok(gap)
 }
 
 // The refusals of sending a pause frame.
@@ -218,11 +194,10 @@ fn check_pause(
     octets: &[u8],
     marks: &[u8],
     place: usize,
-) -> Framing
+) -> Result<Gap, Refusal>
     ensures { (q : Quanta) → result ≡ with_gap (gap_on port deficit place (pause_body s q))
         (pause_checked s port deficit octets.now marks.now place q) }
 {
-    let mode = s.flow;
     check_control(
         s,
         port,
@@ -230,7 +205,7 @@ fn check_pause(
         octets,
         marks,
         place,
-        station::is_pause_mode(mode),
+        station::is_pause_mode(s.flow),
     )
 }
 
@@ -242,11 +217,10 @@ fn check_pfc(
     octets: &[u8],
     marks: &[u8],
     place: usize,
-) -> Framing
+) -> Result<Gap, Refusal>
     ensures { (k : Classes) → length k.quanta ≡ 8 → result ≡ with_gap (gap_on port deficit place (pfc_body s k))
         (pfc_checked s port deficit octets.now marks.now place k) }
 {
-    let mode = s.flow;
     check_control(
         s,
         port,
@@ -254,39 +228,37 @@ fn check_pfc(
         octets,
         marks,
         place,
-        station::is_pfc_mode(mode),
+        station::is_pfc_mode(s.flow),
     )
 }
 
 // The refusals of Idle fill.
-fn check_idle(octets: &[u8], marks: &[u8], place: usize, n: usize) -> Checked
+fn check_idle(octets: &[u8], marks: &[u8], place: usize, n: usize) -> Result<(), Refusal>
     ensures { result ≡ idle_checked octets.now marks.now place n }
 {
     if station::bad_buffers(octets, marks) {
-        return Checked::Refused(Refusal::BadBuffers);
+        return Err(Refusal::BadBuffers);
     }
     if station::bad_place(octets, place) {
-        return Checked::Refused(Refusal::BadPlace);
+        return Err(Refusal::BadPlace);
     }
     if no_room(octets, place, n) {
-        return Checked::Refused(Refusal::NoRoom);
+        return Err(Refusal::NoRoom);
     }
-    Checked::Fine
+    Ok(())
 }
 
 // ---- the four calls
 
 // The state after n symbols were written: each timer is lowered by them, and the deficit count is this one.
+#[tactic(auto, unfolding(crate::specs::Sending::state_sent))]
 fn state_sent(state: State, n: usize, deficit: u64) -> State
     ensures { result ≡ state_sent state n deficit }
 {
-    let counters = state.counters;
-    let times = state.timers;
-    let timers = flow::lower(n, times);
     State {
-        counters,
-        timers,
+        timers: flow::lower(n, state.timers),
         deficit,
+        ..state
     }
 }
 
@@ -295,7 +267,7 @@ fn refused(x: Refusal, place: usize, state: State) -> Sending
     ensures { result ≡ refused_at x place state }
 {
     Sending {
-        answer: SendAnswer::Refused(x),
+        answer: Err(x),
         place,
         state,
     }
@@ -306,14 +278,14 @@ fn wrote(state: State, place: usize, next: usize, deficit: u64) -> Sending
     requires { place ≤ next }
     ensures { result ≡ wrote_up_to next (state_sent state (next - place) deficit) }
 {
-    let after = state_sent(state, next - place, deficit);
     Sending {
-        answer: SendAnswer::Wrote,
+        answer: Ok(()),
         place: next,
-        state: after,
+        state: state_sent(state, next - place, deficit),
     }
 }
 
+// A closure that writes the frame would need clauses of its own for both lent buffers: three calls with a body of three lines are plainer.
 // A client frame on a port, into the line buffers from `place` on.
 pub fn send_client(
     s: Settings,
@@ -328,10 +300,9 @@ pub fn send_client(
     ensures { send_call result octets.new marks.new
         ≡ client_sending s state port octets.old marks.old place client «data».now }
 {
-    let checked = check_client(s, state, port, octets, marks, place, client, data);
-    match checked {
-        Framing::Refused(x) => refused(x, place, state),
-        Framing::Goes(gap) => {
+    match check_client(s, state, port, octets, marks, place, client, data) {
+        Err(x) => refused(x, place, state),
+        Ok(gap) => {
             let next = writing::client_at(octets, marks, place, s, client, data, gap.size - 1);
             wrote(state, place, next, gap.count)
         }
@@ -351,10 +322,9 @@ pub fn send_pause(
     ensures { send_call result octets.new marks.new
         ≡ pause_sending s state port octets.old marks.old place quanta }
 {
-    let checked = check_pause(s, port, state.deficit, octets, marks, place);
-    match checked {
-        Framing::Refused(x) => refused(x, place, state),
-        Framing::Goes(gap) => {
+    match check_pause(s, port, state.deficit, octets, marks, place) {
+        Err(x) => refused(x, place, state),
+        Ok(gap) => {
             let next = writing::pause_at(octets, marks, place, s, quanta, gap.size - 1);
             wrote(state, place, next, gap.count)
         }
@@ -374,10 +344,9 @@ pub fn send_pfc(
     ensures { send_call result octets.new marks.new
         ≡ pfc_sending s state port octets.old marks.old place classes }
 {
-    let checked = check_pfc(s, port, state.deficit, octets, marks, place);
-    match checked {
-        Framing::Refused(x) => refused(x, place, state),
-        Framing::Goes(gap) => {
+    match check_pfc(s, port, state.deficit, octets, marks, place) {
+        Err(x) => refused(x, place, state),
+        Ok(gap) => {
             let next = writing::pfc_at(octets, marks, place, s, classes, gap.size - 1);
             wrote(state, place, next, gap.count)
         }
@@ -395,8 +364,7 @@ pub fn fill_idle(
     ensures { send_call result octets.new marks.new
         ≡ idle_sending state octets.old marks.old place n }
 {
-    let checked = check_idle(octets, marks, place, n);
-    if let Checked::Refused(x) = checked {
+    if let Err(x) = check_idle(octets, marks, place, n) {
         return refused(x, place, state);
     }
     let next = writing::idle_at(octets, marks, place, n);

@@ -2,11 +2,10 @@
 #![tactic(auto)]
 
 ghost use Rattle.std.specs.Prelude.{◌≡◌, false, ◌+◌, ◌≤◌, ◌<◌, length};
-ghost use Rattle.line.specs.Limits.{most_records};
 ghost use Rattle.line.specs.Line.{overwrite};
 ghost use Rattle.splice.specs.Written.{Put};
 ghost use Rattle.printing.specs.Lines.{bad_input};
-ghost use Rattle.size_lines.specs.Bars.{greater, largest, unit, marks, band_line, unit_line, low_lines, high_lines, table_lines, printed_sizes};
+ghost use Rattle.size_lines.specs.Bars.{largest, unit, marks, band_line, unit_line, low_lines, high_lines, table_lines, printed_sizes};
 
 use line::MOST_RECORDS;
 use printing::{put_followed, put_octet};
@@ -15,21 +14,13 @@ use splice::{fill, put};
 
 // ---- bars
 
-fn greater_of(a: u64, b: u64) -> u64
-    ensures { result ≡ greater a b }
-{
-    if a < b { b } else { a }
-}
-
-// The largest count, from the last one on.
+// The largest count.
 fn largest_of(counts: [u64; 7]) -> u64
     ensures { result ≡ largest counts }
 {
     let mut most: u64 = 0;
-    let mut k: usize = 7;
-    while 0 < k {
-        k -= 1;
-        most = greater_of(counts[k], most);
+    for &n in &counts {
+        most = most.max(n);
     }
     most
 }
@@ -42,7 +33,7 @@ fn unit_of(counts: [u64; 7]) -> u64
     most / 40 + 1
 }
 
-// How many marks a band has.
+// How many marks a band has: the rows of `marks` of specs/, in their order.
 fn marks_of(n: u64, u: u64) -> usize
     requires { 0 < u }
     ensures { (result ≡ marks n u) × (result ≤ 40) }
@@ -125,13 +116,6 @@ fn put_table(out: &mut [u8], t: SizeTable) -> usize
 
 // ---- the whole output
 
-// Room for the longest capture.
-fn room() -> [u8; MOST_RECORDS]
-    ensures { length result ≡ most_records }
-{
-    [0u8; MOST_RECORDS]
-}
-
 // The output of a whole input of at most 32,768 records.
 fn print_good(input: &[u8], out: &mut [u8]) -> usize
     requires { (bad_input input.now ≡ false) × (768 ≤ length out.old) }
@@ -139,8 +123,8 @@ fn print_good(input: &[u8], out: &mut [u8]) -> usize
     ensures upper_bound { result ≤ length out.old }
 {
     let n = input.len() / 2;
-    let mut o = room();
-    let mut m = room();
+    let mut o = [0u8; MOST_RECORDS];
+    let mut m = [0u8; MOST_RECORDS];
     printing::split(input, &mut o, &mut m);
     let none = table::empty();
     let added = sizes::add_capture(

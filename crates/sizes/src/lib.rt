@@ -3,16 +3,14 @@
 
 ghost use Rattle.std.specs.Prelude.{◌≡◌, ◌<◌};
 ghost use Rattle.line.specs.Table.{first};
-ghost use Rattle.fcs.specs.Lent.{Lent};
-ghost use Rattle.station.specs.declared.Checked.TheVariants.{Fine};
 ghost use Rattle.station.specs.Station.{fresh};
 ghost use Rattle.table.specs.Entries.{entries_of};
 ghost use Rattle.receive.specs.Reading.{read_refusals};
 ghost use Rattle.receive.specs.Walk.{walk};
 ghost use Rattle.sizes.specs.Sizes.{band, raised, with_frame, sized, with_frames, frame_lengths, fresh_sizes, adding, together, add_tables};
 
-use line::Found;
-use station::{Checked, Outcome, Settings};
+use fcs::Rows;
+use station::{Outcome, Refusal, Settings};
 
 // Frames and octets of each band, from the shortest frames up.
 #[derive(Clone, Copy)]
@@ -24,7 +22,7 @@ pub struct SizeTable {
 // What adding a capture gives: its refusal, if any, and the table.
 #[derive(Clone, Copy)]
 pub struct Added {
-    pub answer: Checked,
+    pub answer: Result<(), Refusal>,
     pub sizes: SizeTable,
 }
 
@@ -66,12 +64,12 @@ fn band_of(n: usize) -> usize
 }
 
 // A count rises by n, and rolls over.
+#[tactic(auto, unfolding(crate::specs::Sizes::raised))]
 fn raise(counts: &mut [u64; 7], i: usize, n: u64)
     requires { i < 7 }
     ensures { counts.new ≡ raised counts.old i n }
 {
-    let before = counts[i];
-    counts[i] = std::num::wrapping_add_u64(before, n);
+    counts[i] = counts[i].wrapping_add(n);
 }
 
 // One frame more, of n octets. The counts stay where they are: a table copied for each frame would be a tenth of a walk.
@@ -97,22 +95,20 @@ pub fn add_frame(t: SizeTable, n: usize) -> SizeTable
 // ---- a capture
 
 // Whether frames of an outcome are added.
+#[tactic(auto, using(crate::proofs::Laws::sized_none), unfolding(crate::specs::Sizes::sized))]
 fn is_sized(o: Outcome) -> bool
     ensures { result ≡ sized o }
 {
-    match o {
-        Outcome::PauseTaken => true,
-        Outcome::PfcTaken => true,
-        Outcome::ControlDropped => true,
-        Outcome::HandedOut => true,
-        _ => false,
-    }
+    matches!(
+        o,
+        Outcome::PauseTaken | Outcome::PfcTaken | Outcome::ControlDropped | Outcome::HandedOut
+    )
 }
 
 // The table with the frames of a capture that is not refused, the FCS by tables if they are lent. It walks as `receive::walk` does, without counters
-// and timers.
+// and timers; a loop of its own, as is said there.
 fn add_walk(
-    lent: &[u32],
+    tables: Option<Rows>,
     t: SizeTable,
     s: Settings,
     job: u8,
@@ -120,7 +116,7 @@ fn add_walk(
     octets: &[u8],
     marks: &[u8],
 ) -> SizeTable
-    requires { Lent lent.now × (first (read_refusals s job (entries_of table.now) octets.now marks.now 0) ≡ Fine) }
+    requires { first (read_refusals s job (entries_of table.now) octets.now marks.now 0) ≡ Ok tt }
     ensures { result ≡ with_frames t (frame_lengths (walk s job (entries_of table.now) fresh octets.now marks.now)) }
 {
     let mut frames = t.frames;
@@ -129,14 +125,14 @@ fn add_walk(
     let limit = s.limit;
     let mut at: usize = 0;
     loop {
-        let Found::At(start) = line::find_start(octets, marks, at) else {
+        let Some(start) = line::find_start(octets, marks, at) else {
             return SizeTable {
                 frames,
                 octets: lengths,
             };
         };
         let from = start + 1;
-        let Found::At(end) = line::find_control(octets, marks, from) else {
+        let Some(end) = line::find_control(octets, marks, from) else {
             return SizeTable {
                 frames,
                 octets: lengths,
@@ -144,9 +140,9 @@ fn add_walk(
         };
         // the frame most seen by the quick way, as in `receive::walk`
         let judged = if outcome::is_plain(&want, limit, &octets[from..end], octets[end]) {
-            outcome::judge_plain(lent, &octets[from..end])
+            outcome::judge_plain(tables, &octets[from..end])
         } else {
-            outcome::judge(lent, s, job, table, &octets[from..end], octets[end])
+            outcome::judge(tables, s, job, table, &octets[from..end], octets[end])
         };
         let o = judged.outcome;
         if is_sized(o) {
@@ -169,27 +165,24 @@ pub fn add_capture(
 ) -> Added
     ensures { result ≡ adding t s job (entries_of table.now) octets.now marks.now }
 {
-    let checked = receive::check_read(s, job, table, octets, marks, 0);
-    if let Checked::Refused(x) = checked {
+    if let Err(x) = receive::check_read(s, job, table, octets, marks, 0) {
         return Added {
-            answer: Checked::Refused(x),
+            answer: Err(x),
             sizes: t,
         };
     }
     if !receive::tables_pay(octets, marks, 0) {
-        let none = [0u32; 1];
-        let short = add_walk(&none[..0], t, s, job, table, octets, marks);
         return Added {
-            answer: Checked::Fine,
-            sizes: short,
+            answer: Ok(()),
+            sizes: add_walk(None, t, s, job, table, octets, marks),
         };
     }
     let mut lent = [0u32; 4096];
     fcs::make_tables(&mut lent);
-    let long = add_walk(&lent, t, s, job, table, octets, marks);
+    let rows = Rows { t: &lent };
     Added {
-        answer: Checked::Fine,
-        sizes: long,
+        answer: Ok(()),
+        sizes: add_walk(Some(rows), t, s, job, table, octets, marks),
     }
 }
 
@@ -199,10 +192,8 @@ pub fn add_capture(
 fn add_counts(mut a: [u64; 7], b: [u64; 7]) -> [u64; 7]
     ensures { result ≡ together a b }
 {
-    let mut k: usize = 0;
-    while k < 7 {
+    for k in 0..7 {
         raise(&mut a, k, b[k]);
-        k += 1;
     }
     a
 }
@@ -211,11 +202,8 @@ fn add_counts(mut a: [u64; 7], b: [u64; 7]) -> [u64; 7]
 pub fn add_tables(t: SizeTable, u: SizeTable) -> SizeTable
     ensures { result ≡ add_tables t u }
 {
-    let f = t.frames;
-    let o = t.octets;
-    let g = u.frames;
-    let p = u.octets;
-    let frames = add_counts(f, g);
-    let octets = add_counts(o, p);
-    SizeTable { frames, octets }
+    SizeTable {
+        frames: add_counts(t.frames, u.frames),
+        octets: add_counts(t.octets, u.octets),
+    }
 }

@@ -51,10 +51,11 @@ fn begin(w: &mut [u8], reg: u32)
     requires { (length w.old ≡ 1560) × ((j : ℕ) → j < 300 → get_or w.old j 0 ≡ 0) }
     ensures { carried_on (take 300 w.new) ≡ reg }
 {
-    w[0] = (reg % 256) as u8;
-    w[1] = (reg / 0x100 % 256) as u8;
-    w[2] = (reg / 0x1_0000 % 256) as u8;
-    w[3] = (reg / 0x100_0000 % 256) as u8;
+    let [a, b, c, d] = reg.to_le_bytes();
+    w[0] = a;
+    w[1] = b;
+    w[2] = c;
+    w[3] = d;
 }
 
 // Takes off the n octets of `s` at `at`. What came out before them stands in the first 300 places, and what comes out of them is written behind it.
@@ -62,10 +63,8 @@ fn reduce(w: &mut [u8], s: &[u8], at: usize, n: usize)
     requires { (length w.old ≡ 1560) × (n ≤ 960) × (at + n + 300 ≤ length s.now) }
     ensures { Cut n at s.now w.old w.new }
 {
-    let mut i = 0;
-    while i < n {
+    for i in 0..n {
         w[i + 300] = out_of(w, s, at, i);
-        i += 1;
     }
 }
 
@@ -75,11 +74,9 @@ fn move_down(w: &mut [u8])
     requires { length w.old ≡ 1560 }
     ensures { Moved 300 w.old w.new }
 {
-    let mut i = 0;
-    while i < 300 {
+    for i in 0..300 {
         w[i] = w[i + 960];
         w[i + 960] = 0;
-        i += 1;
     }
 }
 
@@ -88,11 +85,7 @@ fn clear(w: &mut [u8], at: usize)
     requires { at + 300 ≤ length w.old }
     ensures { Cleared 300 at w.old w.new }
 {
-    let mut i = 0;
-    while i < 300 {
-        w[at + i] = 0;
-        i += 1;
-    }
+    w[at..at + 300].fill(0);
 }
 
 // Writes the last 300 octets of `s`, xored with what is carried on to them, to the front. They stand behind the n octets at `at`.
@@ -100,10 +93,8 @@ fn finish(w: &mut [u8], s: &[u8], at: usize, n: usize)
     requires { (length w.old ≡ 1560) × (n ≤ 960) × (at + n + 300 ≤ length s.now) }
     ensures { Ended 300 at n s.now w.old w.new }
 {
-    let mut i = 0;
-    while i < 300 {
+    for i in 0..300 {
         w[i] = out_of(w, s, at, n + i);
-        i += 1;
     }
 }
 
@@ -113,6 +104,7 @@ pub fn shorten(w: &mut [u8], reg: u32, s: &[u8])
     ensures { crc_over 0 (take 300 w.new) ≡ crc_over reg s.now }
 {
     begin(w, reg);
+    // A stride and no `chunks_exact`, which could leave fewer than the 300 octets at the end.
     let mut at = 0;
     while 1260 < s.len() - at {
         reduce(w, s, at, 960);

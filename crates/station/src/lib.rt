@@ -9,18 +9,18 @@ ghost use Rattle.station.specs.Station.{bad_settings, bad_buffers, bad_place, ba
 use line::{LANES, LEAST_LIMIT, MOST_DEFICIT, MOST_LIMIT, MOST_SYMBOLS};
 
 // Six octets.
-#[derive(Clone, Copy)]
+#[derive(Clone, Copy, Debug, PartialEq, Eq)]
 pub struct Address(pub [u8; 6]);
 
 // "Flow mode is none, `pause` or `PFC`."
-#[derive(Clone, Copy)]
+#[derive(Clone, Copy, Debug, PartialEq, Eq)]
 pub enum Flow {
     Off,
     Pause,
     Pfc,
 }
 
-#[derive(Clone, Copy)]
+#[derive(Clone, Copy, Debug, PartialEq, Eq)]
 pub struct Settings {
     pub own: Address,
     pub broadcast: bool,
@@ -35,20 +35,20 @@ pub struct Settings {
 }
 
 // A count of quanta never stands where a count of slots does: two types, and one conversion (flow).
-#[derive(Clone, Copy)]
+#[derive(Clone, Copy, Debug, PartialEq, Eq)]
 pub struct Quanta(pub u16);
 
-#[derive(Clone, Copy)]
+#[derive(Clone, Copy, Debug, PartialEq, Eq)]
 pub struct Slots(pub u32);
 
 // The port that a frame is sent on: a plain one, or the four-lane port of document 02, item 5, which "accepts Start only at places divisible by four".
-#[derive(Clone, Copy)]
+#[derive(Clone, Copy, Debug, PartialEq, Eq)]
 pub enum Port {
     Plain,
     FourLane,
 }
 
-#[derive(Clone, Copy)]
+#[derive(Clone, Copy, Debug, PartialEq, Eq)]
 pub struct State {
     // in the order of the outcomes
     pub counters: [u64; 11],
@@ -59,7 +59,7 @@ pub struct State {
 }
 
 // Outcomes 1 to 11, in their order.
-#[derive(Clone, Copy)]
+#[derive(Clone, Copy, Debug, PartialEq, Eq)]
 pub enum Outcome {
     Cut,
     BadPreamble,
@@ -75,7 +75,7 @@ pub enum Outcome {
 }
 
 // Refusals by number, 1 to 10 and 14 to 22; their place among the tests is the affair of each call's table.
-#[derive(Clone, Copy)]
+#[derive(Clone, Copy, Debug, PartialEq, Eq)]
 pub enum Refusal {
     BadSettings,
     BadBuffers,
@@ -98,15 +98,8 @@ pub enum Refusal {
     HighTotal,
 }
 
-// What a table of refusals gives: the first refusal that holds, or that the call goes on.
-#[derive(Clone, Copy)]
-pub enum Checked {
-    Fine,
-    Refused(Refusal),
-}
-
 // A part of the captured octets: from place `at` on, `len` of them.
-#[derive(Clone, Copy)]
+#[derive(Clone, Copy, Debug, PartialEq, Eq)]
 pub struct Part {
     pub at: usize,
     pub len: usize,
@@ -139,7 +132,7 @@ pub fn fresh_state() -> State
     }
 }
 
-// Document 01's number of an outcome.
+// Document 01's number of an outcome. A function of that name and no `From`, which would not say which number of an outcome it is.
 pub fn outcome_number(o: Outcome) -> u8
     ensures { result ≡ outcome_number o }
 {
@@ -158,7 +151,7 @@ pub fn outcome_number(o: Outcome) -> u8
     }
 }
 
-// Document 01's number of a refusal.
+// Document 01's number of a refusal, likewise.
 pub fn refusal_number(r: Refusal) -> u8
     ensures { result ≡ refusal_number r }
 {
@@ -192,7 +185,7 @@ pub fn count(o: Outcome, counters: &mut [u64; 11])
 {
     let i = (outcome_number(o) - 1) as usize;
     let n = counters[i];
-    counters[i] = std::num::wrapping_add_u64(n, 1);
+    counters[i] = n.wrapping_add(1);
 }
 
 // The 32-bit values that the management screen shows: of each counter the remainder.
@@ -200,10 +193,8 @@ pub fn screen(counters: [u64; 11]) -> [u32; 11]
     ensures { result ≡ screen_of counters }
 {
     let mut shown = [0u32; 11];
-    let mut k: usize = 0;
-    while k < 11 {
+    for k in 0..11 {
         shown[k] = (counters[k] % 4294967296) as u32;
-        k += 1;
     }
     shown
 }
@@ -252,20 +243,12 @@ pub fn high_deficit(port: Port, deficit: u64) -> bool
 pub fn is_pause_mode(flow: Flow) -> bool
     ensures { result ≡ is_pause_mode flow }
 {
-    match flow {
-        Flow::Off => false,
-        Flow::Pause => true,
-        Flow::Pfc => false,
-    }
+    flow == Flow::Pause
 }
 
 // Whether the flow mode is `PFC`.
 pub fn is_pfc_mode(flow: Flow) -> bool
     ensures { result ≡ is_pfc_mode flow }
 {
-    match flow {
-        Flow::Off => false,
-        Flow::Pause => false,
-        Flow::Pfc => true,
-    }
+    flow == Flow::Pfc
 }

@@ -6,23 +6,48 @@
 
 ghost use Rattle.std.specs.Prelude.{◌≡◌, true, false, ℕ, ◌≤◌, ◌<◌, ◌+◌, ◌*◌, length, get_or, drop};
 ghost use Rattle.fields.specs.Fields.{destination};
-ghost use Rattle.table.specs.Entries.{holder_by, address_at, entry_at, entries_of, is_held, is_free, free_entry, own_at, own_entries, held, names, first_mine, is_found};
+ghost use Rattle.table.specs.Entries.{holder_by, address_at, entry_at, entries_of, is_held, free_entry, own_at, own_entries, held, names, first_mine};
 ghost use Rattle.line.specs.Limits.{table_entries};
 ghost use Rattle.line.specs.Table.{first};
-ghost use Rattle.table.specs.Calls.{empty_table, freed, taken, holder_octet, put_entry, add_refusals, remove_refusals, change, put_at, changed, added, removed};
+ghost use Rattle.table.specs.Calls.{empty_table, freed, taken, holder_octet, put_entry, add_refusals, remove_refusals, change, put_at, added, removed};
 ghost use Rattle.table.specs.Tests.{bad_job, again, twice, overfull, bad_table};
-ghost use Rattle.table.specs.Steps.{one_if, Met};
+ghost use Rattle.table.specs.Steps.{Met};
 ghost use Rattle.table.specs.Way.{accepts, otherwise_way, entry_way, way};
 
-use line::{Found, MOST_HELD, TABLE_ENTRIES};
-use station::{Address, Checked, Refusal, Settings};
+use line::{MOST_HELD, TABLE_ENTRIES};
+use station::{Address, Refusal, Settings};
 
 // Who holds an entry.
-#[derive(Clone, Copy)]
+#[derive(Clone, Copy, Debug, PartialEq, Eq)]
 pub enum Holder {
     Nobody,
     JobZero,
     JobOne,
+}
+
+// By the entry's first octet.
+impl From<u8> for Holder {
+    ghost from_gives = { λ octet h. h ≡ holder_by octet };
+
+    fn from(octet: u8) -> Holder {
+        match octet {
+            1 => Holder::JobZero,
+            2 => Holder::JobOne,
+            _ => Holder::Nobody,
+        }
+    }
+}
+
+impl From<Holder> for u8 {
+    ghost from_gives = { λ h octet. octet ≡ holder_octet h };
+
+    fn from(holder: Holder) -> u8 {
+        match holder {
+            Holder::Nobody => 0,
+            Holder::JobZero => 1,
+            Holder::JobOne => 2,
+        }
+    }
 }
 
 #[derive(Clone, Copy)]
@@ -31,26 +56,7 @@ pub struct Entry {
     pub address: Address,
 }
 
-// What a table call answers: the entry that was taken or freed, or the refusal.
-#[derive(Clone, Copy)]
-pub enum Placed {
-    Refused(Refusal),
-    At(usize),
-}
-
 // ---- entries
-
-fn holder_by(octet: u8) -> Holder
-    ensures { result ≡ holder_by octet }
-{
-    if octet == 1 {
-        return Holder::JobZero;
-    }
-    if octet == 2 {
-        return Holder::JobOne;
-    }
-    Holder::Nobody
-}
 
 // Whether a job holds entry k, by the entry's first octet.
 fn holds_at(job: u8, t: &[u8; 128], k: usize) -> bool
@@ -86,29 +92,17 @@ fn names_at(job: u8, t: &[u8; 128], k: usize, f: &[u8]) -> bool
 }
 
 // The first entry at `from` or later that lists a frame's destination for a job.
-fn find_from(job: u8, t: &[u8; 128], from: usize, f: &[u8]) -> Found
+fn find_from(job: u8, t: &[u8; 128], from: usize, f: &[u8]) -> Option<usize>
     requires { from ≤ table_entries }
     ensures { (result ≡ first_mine (destination f.now) from (drop from (own_entries job t.now)))
-        × ((i : ℕ) → result ≡ Found.At i → i < table_entries) }
+        × ((i : ℕ) → result ≡ Some i → i < table_entries) }
 {
-    let mut k = from;
-    while k < TABLE_ENTRIES {
+    for k in from..TABLE_ENTRIES {
         if names_at(job, t, k, f) {
-            return Found::At(k);
+            return Some(k);
         }
-        k += 1;
     }
-    Found::Nothing
-}
-
-// Whether a search found an entry.
-fn is_found(found: Found) -> bool
-    ensures { result ≡ is_found found }
-{
-    match found {
-        Found::At(_k) => true,
-        Found::Nothing => false,
-    }
+    None
 }
 
 // ---- the address rule
@@ -123,11 +117,10 @@ pub fn accepts(s: Settings, job: u8, t: &[u8; 128], f: &[u8]) -> bool
     if address::is_broadcast(f) {
         return s.broadcast;
     }
-    let own = s.own;
-    if address::to(f, own) {
+    if address::to(f, s.own) {
         return true;
     }
-    is_found(find_from(job, t, 0, f))
+    find_from(job, t, 0, f).is_some()
 }
 
 // What is said where no address matches: 7 for promiscuous only, else 0.
@@ -137,12 +130,12 @@ fn otherwise_way(promiscuous: bool) -> u8
     if promiscuous { 7 } else { 0 }
 }
 
-// 16 and the entry.
-fn entry_way(found: Found, promiscuous: bool) -> u8
-    requires { (i : ℕ) → found ≡ Found.At i → i < table_entries }
+// 16 and the entry. An entry fits an octet: `u8::try_from` would bring a case that cannot come.
+fn entry_way(found: Option<usize>, promiscuous: bool) -> u8
+    requires { (i : ℕ) → found ≡ Some i → i < table_entries }
     ensures { result ≡ entry_way found promiscuous }
 {
-    let Found::At(k) = found else {
+    let Some(k) = found else {
         return otherwise_way(promiscuous);
     };
     16 + (k as u8)
@@ -158,8 +151,7 @@ pub fn way(s: Settings, job: u8, t: &[u8; 128], f: &[u8]) -> u8
         }
         return otherwise_way(s.promiscuous);
     }
-    let own = s.own;
-    if address::to(f, own) {
+    if address::to(f, s.own) {
         return 1;
     }
     let found = find_from(job, t, 0, f);
@@ -175,21 +167,13 @@ pub fn bad_job(job: u8) -> bool
     1 < job
 }
 
-fn one_if(b: bool) -> usize
-    ensures { (result ≡ one_if b) × (result ≤ 1) }
-{
-    if b { 1 } else { 0 }
-}
-
 // How many entries a job holds.
 pub fn holds(job: u8, t: &[u8; 128]) -> usize
     ensures { result ≡ held (own_entries job t.now) }
 {
     let mut n: usize = 0;
-    let mut k: usize = 0;
-    while k < TABLE_ENTRIES {
-        n += one_if(holds_at(job, t, k));
-        k += 1;
+    for k in 0..TABLE_ENTRIES {
+        n += usize::from(holds_at(job, t, k));
     }
     n
 }
@@ -203,8 +187,7 @@ fn again(job: u8, t: &[u8; 128], k: usize) -> bool
         return false;
     }
     let a = address_at(t, 8 * k + 1);
-    let octets = a.0;
-    is_found(find_from(job, t, k + 1, &octets))
+    find_from(job, t, k + 1, &a.0).is_some()
 }
 
 // The last octet of an entry's address.
@@ -223,7 +206,7 @@ fn met(job: u8, t: &[u8; 128], k: usize, seen: &mut [u8; 256]) -> bool
     if !holds_at(job, t, k) {
         return false;
     }
-    let last = last_octet(t, k) as usize;
+    let last = usize::from(last_octet(t, k));
     if seen[last] != 0 {
         return true;
     }
@@ -236,9 +219,7 @@ fn ends_differ(job: u8, t: &[u8; 128]) -> bool
     ensures { result ≡ true → twice (own_entries job t.now) ≡ false }
 {
     let mut seen = [0u8; 256];
-    let mut k: usize = TABLE_ENTRIES;
-    while 0 < k {
-        k -= 1;
+    for k in (0..TABLE_ENTRIES).rev() {
         if met(job, t, k, &mut seen) {
             return false;
         }
@@ -253,12 +234,10 @@ fn has_twice(job: u8, t: &[u8; 128]) -> bool
     if ends_differ(job, t) {
         return false;
     }
-    let mut k: usize = 0;
-    while k < TABLE_ENTRIES {
+    for k in 0..TABLE_ENTRIES {
         if again(job, t, k) {
             return true;
         }
-        k += 1;
     }
     false
 }
@@ -278,12 +257,8 @@ fn is_blank(t: &[u8; 128]) -> bool
     ensures { result ≡ true → (k : ℕ) → k < 128 → get_or t.now k 0 ≡ 0 }
 {
     let mut blank = true;
-    let mut k: usize = 0;
-    while k < 128 {
-        if t[k] != 0 {
-            blank = false;
-        }
-        k += 1;
+    for x in t {
+        blank &= *x == 0;
     }
     blank
 }
@@ -320,118 +295,88 @@ pub fn entry_of(t: &[u8; 128], k: usize) -> Entry
             address: Address([0u8; 6]),
         };
     }
-    let holder = holder_by(t[8 * k]);
+    let holder = Holder::from(t[8 * k]);
     let address = address_at(t, 8 * k + 1);
     Entry { holder, address }
 }
 
-fn is_free(holder: Holder) -> bool
-    ensures { result ≡ is_free holder }
-{
-    match holder {
-        Holder::Nobody => true,
-        Holder::JobZero => false,
-        Holder::JobOne => false,
-    }
-}
-
 // The lowest free entry.
-fn free_entry(t: &[u8; 128]) -> Found
-    ensures { (result ≡ free_entry (entries_of t.now)) × ((i : ℕ) → result ≡ Found.At i → i < table_entries) }
+fn free_entry(t: &[u8; 128]) -> Option<usize>
+    ensures { (result ≡ free_entry (entries_of t.now)) × ((i : ℕ) → result ≡ Some i → i < table_entries) }
 {
-    let mut k: usize = 0;
-    while k < TABLE_ENTRIES {
-        let holder = holder_by(t[8 * k]);
-        if is_free(holder) {
-            return Found::At(k);
+    for k in 0..TABLE_ENTRIES {
+        if Holder::from(t[8 * k]) == Holder::Nobody {
+            return Some(k);
         }
-        k += 1;
     }
-    Found::Nothing
+    None
 }
 
 // The entry by which a job lists an address.
-fn find_address(job: u8, t: &[u8; 128], a: Address) -> Found
-    ensures { (result ≡ first_mine a.0 0 (own_entries job t.now)) × ((i : ℕ) → result ≡ Found.At i → i < table_entries) }
+fn find_address(job: u8, t: &[u8; 128], a: Address) -> Option<usize>
+    ensures { (result ≡ first_mine a.0 0 (own_entries job t.now)) × ((i : ℕ) → result ≡ Some i → i < table_entries) }
 {
-    let octets = a.0;
-    find_from(job, t, 0, &octets)
+    find_from(job, t, 0, &a.0)
 }
 
 // The refusals of an addition, in their order; `free` is the lowest free entry.
-fn check_add(job: u8, t: &[u8; 128], a: Address, free: Found) -> Checked
+fn check_add(job: u8, t: &[u8; 128], a: Address, free: Option<usize>) -> Result<(), Refusal>
     ensures { free ≡ free_entry (entries_of t.now) → result ≡ first (add_refusals job (entries_of t.now) a) }
 {
     if bad_job(job) {
-        return Checked::Refused(Refusal::BadJob);
+        return Err(Refusal::BadJob);
     }
     if bad_table(t) {
-        return Checked::Refused(Refusal::BadTable);
+        return Err(Refusal::BadTable);
     }
-    if is_found(find_address(job, t, a)) {
-        return Checked::Refused(Refusal::AlreadyListed);
+    if find_address(job, t, a).is_some() {
+        return Err(Refusal::AlreadyListed);
     }
     if MOST_HELD <= holds(job, t) {
-        return Checked::Refused(Refusal::HoldsTwelve);
+        return Err(Refusal::HoldsTwelve);
     }
-    if !is_found(free) {
-        return Checked::Refused(Refusal::AllInUse);
+    if free.is_none() {
+        return Err(Refusal::AllInUse);
     }
-    Checked::Fine
+    Ok(())
 }
 
 // The refusals of a removal, in their order; `found` is the entry by which the job lists the address.
-fn check_remove(job: u8, t: &[u8; 128], a: Address, found: Found) -> Checked
+fn check_remove(job: u8, t: &[u8; 128], a: Address, found: Option<usize>) -> Result<(), Refusal>
     ensures { found ≡ first_mine a.0 0 (own_entries job t.now) → result ≡ first (remove_refusals job (entries_of t.now) a) }
 {
     if bad_job(job) {
-        return Checked::Refused(Refusal::BadJob);
+        return Err(Refusal::BadJob);
     }
     if bad_table(t) {
-        return Checked::Refused(Refusal::BadTable);
+        return Err(Refusal::BadTable);
     }
-    if !is_found(found) {
-        return Checked::Refused(Refusal::NotListed);
+    if found.is_none() {
+        return Err(Refusal::NotListed);
     }
-    Checked::Fine
+    Ok(())
 }
 
 // An entry that a job takes.
 fn taken_by(job: u8, address: Address) -> Entry
     ensures { result ≡ taken job address }
 {
-    if job == 0 {
-        return Entry {
-            holder: Holder::JobZero,
-            address,
-        };
-    }
-    Entry {
-        holder: Holder::JobOne,
-        address,
-    }
+    let holder = if job == 0 {
+        Holder::JobZero
+    } else {
+        Holder::JobOne
+    };
+    Entry { holder, address }
 }
 
-fn holder_octet(holder: Holder) -> u8
-    ensures { result ≡ holder_octet holder }
-{
-    match holder {
-        Holder::Nobody => 0,
-        Holder::JobZero => 1,
-        Holder::JobOne => 2,
-    }
-}
-
-// Eight octets: an entry in its place.
+// Eight octets: an entry in its place. One by one: a slice's `copy_from_slice` would call `memcpy`.
 fn put_entry(t: &mut [u8; 128], k: usize, e: Entry)
     requires { k < table_entries }
     ensures { t.new ≡ put_entry t.old k e }
 {
-    let holder = e.holder;
-    let a = e.address;
-    let octets = a.0;
+    let octets = e.address.0;
     let at = 8 * k;
-    t[at] = holder_octet(holder);
+    t[at] = u8::from(e.holder);
     t[at + 1] = octets[0];
     t[at + 2] = octets[1];
     t[at + 3] = octets[2];
@@ -442,47 +387,33 @@ fn put_entry(t: &mut [u8; 128], k: usize, e: Entry)
 }
 
 // An entry in the place that was found.
-fn put_at(found: Found, t: &mut [u8; 128], e: Entry) -> Placed
-    requires { (i : ℕ) → found ≡ Found.At i → i < table_entries }
+fn put_at(found: Option<usize>, t: &mut [u8; 128], e: Entry) -> Result<usize, Refusal>
+    requires { (i : ℕ) → found ≡ Some i → i < table_entries }
     ensures { change result t.new ≡ put_at found t.old e }
 {
-    let Found::At(k) = found else {
-        return Placed::Refused(Refusal::AllInUse);
-    };
+    let k = found.ok_or(Refusal::AllInUse)?;
     put_entry(t, k, e);
-    Placed::At(k)
-}
-
-// Refused, or an entry in the place that was found.
-fn changed(checked: Checked, found: Found, t: &mut [u8; 128], e: Entry) -> Placed
-    requires { (i : ℕ) → found ≡ Found.At i → i < table_entries }
-    ensures { change result t.new ≡ changed checked found t.old e }
-{
-    if let Checked::Refused(x) = checked {
-        return Placed::Refused(x);
-    }
-    put_at(found, t, e)
+    Ok(k)
 }
 
 // An addition takes the lowest free entry.
-pub fn add(job: u8, t: &mut [u8; 128], a: Address) -> Placed
+pub fn add(job: u8, t: &mut [u8; 128], a: Address) -> Result<usize, Refusal>
     ensures { change result t.new ≡ added job t.old a }
 {
     let free = free_entry(t);
-    let checked = check_add(job, t, a, free);
-    let e = taken_by(job, a);
-    changed(checked, free, t, e)
+    check_add(job, t, a, free)?;
+    put_at(free, t, taken_by(job, a))
 }
 
 // A removal frees the entry by which the job lists the address.
-pub fn remove(job: u8, t: &mut [u8; 128], a: Address) -> Placed
+pub fn remove(job: u8, t: &mut [u8; 128], a: Address) -> Result<usize, Refusal>
     ensures { change result t.new ≡ removed job t.old a }
 {
     let found = find_address(job, t, a);
-    let checked = check_remove(job, t, a, found);
+    check_remove(job, t, a, found)?;
     let e = Entry {
         holder: Holder::Nobody,
         address: Address([0u8; 6]),
     };
-    changed(checked, found, t, e)
+    put_at(found, t, e)
 }

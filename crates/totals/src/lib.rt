@@ -6,17 +6,11 @@ ghost use Rattle.line.specs.Limits.{most_symbols, block_size};
 ghost use Rattle.line.specs.Line.{capture, is_start};
 ghost use Rattle.line.specs.Table.{first};
 ghost use Rattle.station.specs.Station.{total};
-ghost use Rattle.totals.specs.Totals.{blocks, starts_in, block_total, recounted, wrong_totals, high_total, before_refusals, fill_refusals, before_place, filling, filled};
+ghost use Rattle.totals.specs.Totals.{blocks, starts_in, block_total, recounted, wrong_totals, high_total, before_refusals, fill_refusals, before_place};
+ghost use Rattle.totals.specs.Totals.{filling, filled};
 
 use line::{BLOCK_SIZE, MOST_TOTAL};
-use station::{Checked, Refusal};
-
-// The answer to how many Starts lie before a place.
-#[derive(Clone, Copy)]
-pub enum Count {
-    Starts(usize),
-    Refused(Refusal),
-}
+use station::Refusal;
 
 // ---- counting
 
@@ -24,13 +18,7 @@ pub enum Count {
 fn one(octet: u8, mark: u8) -> u8
     ensures { result ≡ cond (is_start (record { octet = octet; mark = mark })) 1 0 }
 {
-    if mark == 0 {
-        return 0;
-    }
-    if octet == 0xFB {
-        return 1;
-    }
-    0
+    u8::from(mark != 0 && octet == 0xFB)
 }
 
 // The Starts from one place up to another, half a block on at most: their number fits an octet, so that it is vector code of 16 lanes.
@@ -39,10 +27,8 @@ fn starts_in_half(octets: &[u8], marks: &[u8], from: usize, to: usize) -> u8
     ensures { result ≡ starts_in (capture octets.now marks.now) from to }
 {
     let mut n: u8 = 0;
-    let mut i = from;
-    while i < to {
+    for i in from..to {
         n += one(octets[i], marks[i]);
-        i += 1;
     }
     n
 }
@@ -53,11 +39,11 @@ fn starts_in(octets: &[u8], marks: &[u8], from: usize, to: usize) -> u16
     ensures { result ≡ starts_in (capture octets.now marks.now) from to }
 {
     if to - from < 128 {
-        return starts_in_half(octets, marks, from, to) as u16;
+        return u16::from(starts_in_half(octets, marks, from, to));
     }
     let front = starts_in_half(octets, marks, from, from + 128);
     let rest = starts_in_half(octets, marks, from + 128, to);
-    front as u16 + rest as u16
+    u16::from(front) + u16::from(rest)
 }
 
 // The total of block k: its last place is 256 on, or the capture's end.
@@ -67,10 +53,7 @@ fn block_total(octets: &[u8], marks: &[u8], k: usize) -> u16
 {
     let from = BLOCK_SIZE * k;
     let left = octets.len() - from;
-    if left < BLOCK_SIZE {
-        return starts_in(octets, marks, from, from + left);
-    }
-    starts_in(octets, marks, from, from + BLOCK_SIZE)
+    starts_in(octets, marks, from, from + left.min(BLOCK_SIZE))
 }
 
 // Counts the blocks anew that hold places from `from` up to `to`, and touches no other total. Public for this repository's crates only, since it
@@ -80,11 +63,8 @@ pub fn recount(octets: &[u8], marks: &[u8], totals: &mut [u16], from: usize, to:
     ensures { totals.new ≡ recounted (capture octets.now marks.now) from to totals.old }
 {
     if from < to {
-        let end = (to - 1) / BLOCK_SIZE + 1;
-        let mut k = from / BLOCK_SIZE;
-        while k < end {
+        for k in from / BLOCK_SIZE..to.div_ceil(BLOCK_SIZE) {
             totals[k] = block_total(octets, marks, k);
-            k += 1;
         }
     }
 }
@@ -96,52 +76,55 @@ pub fn wrong_totals(octets: &[u8], totals: &[u16]) -> bool
     requires { length octets.now ≤ most_symbols }
     ensures { result ≡ wrong_totals octets.now totals.now }
 {
-    totals.len() != (octets.len() + (BLOCK_SIZE - 1)) / BLOCK_SIZE
+    totals.len() != octets.len().div_ceil(BLOCK_SIZE)
 }
 
 // Refusal 22. No way out of the loop, so that it is vector code.
 pub fn high_total(totals: &[u16]) -> bool
     ensures { result ≡ high_total totals.now }
 {
-    let mut high: bool = false;
-    let mut i: usize = 0;
-    while i < totals.len() {
-        high = high | (MOST_TOTAL < totals[i]);
-        i += 1;
+    let mut high = false;
+    for n in totals {
+        high |= MOST_TOTAL < *n;
     }
     high
 }
 
 // The refusals of the question.
-pub fn check_before(octets: &[u8], marks: &[u8], totals: &[u16], place: usize) -> Checked
+pub fn check_before(
+    octets: &[u8],
+    marks: &[u8],
+    totals: &[u16],
+    place: usize,
+) -> Result<(), Refusal>
     ensures { result ≡ first (before_refusals octets.now marks.now place totals.now) }
 {
     if station::bad_buffers(octets, marks) {
-        return Checked::Refused(Refusal::BadBuffers);
+        return Err(Refusal::BadBuffers);
     }
     if station::bad_place(octets, place) {
-        return Checked::Refused(Refusal::BadPlace);
+        return Err(Refusal::BadPlace);
     }
     if wrong_totals(octets, totals) {
-        return Checked::Refused(Refusal::WrongTotals);
+        return Err(Refusal::WrongTotals);
     }
     if high_total(totals) {
-        return Checked::Refused(Refusal::HighTotal);
+        return Err(Refusal::HighTotal);
     }
-    Checked::Fine
+    Ok(())
 }
 
 // The refusals of filling.
-fn check_fill(octets: &[u8], marks: &[u8], totals: &[u16]) -> Checked
+fn check_fill(octets: &[u8], marks: &[u8], totals: &[u16]) -> Result<(), Refusal>
     ensures { result ≡ first (fill_refusals octets.now marks.now totals.now) }
 {
     if station::bad_buffers(octets, marks) {
-        return Checked::Refused(Refusal::BadBuffers);
+        return Err(Refusal::BadBuffers);
     }
     if wrong_totals(octets, totals) {
-        return Checked::Refused(Refusal::WrongTotals);
+        return Err(Refusal::WrongTotals);
     }
-    Checked::Fine
+    Ok(())
 }
 
 // ---- the calls
@@ -152,36 +135,33 @@ fn sum_of(totals: &[u16], n: usize) -> usize
     ensures { (result ≡ total (take n totals.now)) × (result ≤ most_symbols) }
 {
     let mut sum: usize = 0;
-    let mut i: usize = 0;
-    while i < n {
-        sum += totals[i] as usize;
-        i += 1;
+    for i in 0..n {
+        sum += usize::from(totals[i]);
     }
     sum
 }
 
 // How many Starts lie before a place: whole blocks by their totals, and a look into the last.
-pub fn starts_before(octets: &[u8], marks: &[u8], totals: &[u16], place: usize) -> Count
+pub fn starts_before(
+    octets: &[u8],
+    marks: &[u8],
+    totals: &[u16],
+    place: usize,
+) -> Result<usize, Refusal>
     ensures { result ≡ before_place octets.now marks.now place totals.now }
 {
-    let checked = check_before(octets, marks, totals, place);
-    if let Checked::Refused(x) = checked {
-        return Count::Refused(x);
-    }
+    check_before(octets, marks, totals, place)?;
     let whole = place / BLOCK_SIZE;
     let sum = sum_of(totals, whole);
     let last = starts_in(octets, marks, BLOCK_SIZE * whole, place);
-    Count::Starts(sum + last as usize)
+    Ok(sum + usize::from(last))
 }
 
 // Fills all totals of a capture.
-pub fn fill_totals(octets: &[u8], marks: &[u8], totals: &mut [u16]) -> Checked
+pub fn fill_totals(octets: &[u8], marks: &[u8], totals: &mut [u16]) -> Result<(), Refusal>
     ensures { filling result totals.new ≡ filled octets.now marks.now totals.old }
 {
-    let checked = check_fill(octets, marks, totals);
-    if let Checked::Refused(x) = checked {
-        return Checked::Refused(x);
-    }
+    check_fill(octets, marks, totals)?;
     recount(octets, marks, totals, 0, octets.len());
-    Checked::Fine
+    Ok(())
 }

@@ -1,22 +1,22 @@
 // What the crew's program `why` prints (document 02, item 8): for each counted Start a line that says why it has its outcome. Meaning: specs/.
 #![tactic(auto)]
 
-ghost use Rattle.std.specs.Prelude.{◌≡◌, false, ◌+◌, ◌*◌, ◌<◌, ◌≤◌, length};
-ghost use Rattle.line.specs.Limits.{most_records};
+ghost use Rattle.std.specs.Prelude.{◌≡◌, ◌+◌, ◌*◌, ◌<◌, ◌≤◌, length};
+ghost use Rattle.std.proofs.Math.Dec.{lit≤};
 ghost use Rattle.line.specs.Line.{overwrite};
 ghost use Rattle.splice.specs.Written.{Put};
-ghost use Rattle.printing.specs.Lines.{bad_input};
 ghost use Rattle.printing.specs.Parts.{part};
 ghost use Rattle.printing.specs.Shown.{Shown};
 ghost use Rattle.reason.specs.declared.Reason.TheVariants.{CutAt, ShortRun, WrongOctet, FcsDiffers, LengthBroken, NotForUs, Handed};
 ghost use Rattle.why_lines.specs.Hex.{hex_digit, hex_octet, hex16, hex32};
 ghost use Rattle.why_lines.specs.Ended.{open_number};
-ghost use Rattle.why_lines.specs.Whys.{with_number, with_hex16, with_hex32, hex_then, three_octets, end_name, sizes, opcode_text, reason_text, why_line, capture_whys, printed_whys};
+ghost use Rattle.why_lines.specs.Whys.{with_number, with_hex16, with_hex32, hex_then, three_octets, end_name, sizes, opcode_text, reason_text, why_line};
+ghost use Rattle.why_lines.specs.Whys.{capture_whys, printed_whys, printed_whys_bad};
 
-use line::MOST_RECORDS;
-use printing::{put_decimal, put_followed, put_octet, show, show_last};
-use reason::{Reason, Six, Why};
+use printing::{CaptureLines, Output, put_decimal, put_followed, put_octet, show, show_last};
+use reason::{Reason, Why};
 use splice::put;
+use station::Address;
 
 // ---- hexadecimal digits, of a fixed width
 
@@ -39,7 +39,7 @@ fn put_hex(out: &mut [u8], at: usize, v: u8) -> usize
     put_octet(out, a, low)
 }
 
-// Those of 16 bits.
+// Those of 16 bits: halves by `/` and `%`, as `hex16` and `hex32` of specs/ have them.
 fn put_hex16(out: &mut [u8], at: usize, n: u16) -> usize
     requires { at + 4 ≤ length out.old }
     ensures put { Put out.old at (hex16 n) result out.new }
@@ -61,7 +61,7 @@ fn put_hex32(out: &mut [u8], at: usize, n: u32) -> usize
 
 // ---- words and what stands behind them
 
-// Words and a number: 20 digits at most.
+// Words and a number: 20 digits at most. `as` from `usize`: std has no `From` of it.
 fn put_number(out: &mut [u8], at: usize, words: &[u8], n: usize) -> usize
     requires { at + length words.now + 20 ≤ length out.old }
     ensures put { Put out.old at (with_number words.now n) result out.new }
@@ -192,14 +192,15 @@ fn put_length(out: &mut [u8], at: usize, field: u16, n: usize) -> usize
     put_octet(out, j, 10)
 }
 
-fn put_destination(out: &mut [u8], at: usize, d: Six) -> usize
+fn put_destination(out: &mut [u8], at: usize, d: Address) -> usize
     requires { at + 75 ≤ length out.old }
     ensures put { Put out.old at (reason_text (NotForUs d)) result out.new }
     ensures upper_bound { result ≤ at + 75 }
 {
     let i = put(out, at, b"filtered: to ");
-    let j = put_three(out, i, d.0, d.1, d.2, 45);
-    put_three(out, j, d.3, d.4, d.5, 10)
+    let o = d.0;
+    let j = put_three(out, i, o[0], o[1], o[2], 45);
+    put_three(out, j, o[3], o[4], o[5], 10)
 }
 
 // An opcode.
@@ -222,6 +223,7 @@ fn put_handed(out: &mut [u8], at: usize, p: usize, n: usize) -> usize
     put_octet(out, j, 10)
 }
 
+#[tactic(auto, unfolding(crate::specs::Whys::reason_text))]
 fn put_reason(out: &mut [u8], at: usize, r: Reason) -> usize
     requires { at + 75 ≤ length out.old }
     ensures put { Put out.old at (reason_text r) result out.new }
@@ -270,12 +272,7 @@ fn show_why(out: &mut [u8], from: usize, at: usize, start: usize, r: Reason) -> 
 fn open_number(a: Why) -> u64
     ensures { result ≡ open_number a }
 {
-    match a {
-        Why::Refused(_) => 0,
-        Why::Nothing => 0,
-        Why::Open => 1,
-        Why::Because(_) => 0,
-    }
+    u64::from(matches!(a, Why::Open))
 }
 
 // All lines: a Start after the other, each searched from the next place of the one before.
@@ -287,55 +284,47 @@ fn show_whys(octets: &[u8], marks: &[u8], from: usize, out: &mut [u8]) -> usize
     let s = printing::settings();
     let none = table::empty();
     let mut place: usize = 0;
-    let mut n: u64 = 0;
     let mut at: usize = 0;
-    let mut left = octets.len() + 1;
-    while 0 < left {
+    for n in 0..octets.len() + 1 {
         let e = reason::explain(s, 0, &none, octets, marks, place);
         let a = e.answer;
         let Why::Because(r) = a else {
             let opened = open_number(a);
-            return show_last(out, from, at, n, opened);
+            return show_last(out, from, at, n as u64, opened);
         };
         at = show_why(out, from, at, e.start, r);
-        n += 1;
         place = e.next;
-        left -= 1;
     }
-    show_last(out, from, at, n, 0)
+    show_last(out, from, at, octets.len() as u64 + 1, 0)
 }
 
 // ---- the whole output
 
-// Room for the longest capture.
-fn room() -> [u8; MOST_RECORDS]
-    ensures { length result ≡ most_records }
-{
-    [0u8; MOST_RECORDS]
-}
+// Why each Start has its outcome.
+pub struct Whys;
 
-// A part of the output of a whole input of at most 32,768 records, and how long that output is.
-fn show_good(input: &[u8], from: usize, out: &mut [u8]) -> usize
-    requires { bad_input input.now ≡ false }
-    ensures shown { Shown from out.old 0 (printed_whys input.now) result out.new }
-    ensures upper_bound { result ≤ 3145920 }
-{
-    let n = input.len() / 2;
-    let mut o = room();
-    let mut m = room();
-    printing::split(input, &mut o, &mut m);
-    show_whys(&o[..n], &m[..n], from, out)
-}
+impl CaptureLines for Whys {
+    ghost lines = { capture_whys };
 
-// A part of the output of any input, and how long that output is.
-fn show_all(input: &[u8], from: usize, out: &mut [u8]) -> usize
-    ensures shown { Shown from out.old 0 (printed_whys input.now) result out.new }
-    ensures upper_bound { result ≤ 3145920 }
-{
-    if printing::bad_input(input) {
-        return show(out, from, 0, b"bad input\n");
+    ghost most_octets = { 3145920 };
+
+    fn show_lines(octets: &[u8], marks: &[u8], from: usize, out: &mut [u8]) -> usize {
+        show_whys(octets, marks, from, out)
     }
-    show_good(input, from, out)
+}
+
+impl Output for Whys {
+    ghost text = { printed_whys };
+
+    ghost most = { 3145920 };
+
+    ghost told_bad = { printed_whys_bad };
+
+    ghost bounded = { (lit≤ tt, lit≤ tt) };
+
+    fn show_good(input: &[u8], from: usize, out: &mut [u8]) -> usize {
+        printing::show_records::<Whys>(input, from, out)
+    }
 }
 
 // Of all that the program prints of its input, the octets from `from` on, as many as `out` has room for, over the front of `out`; how many that
@@ -345,6 +334,5 @@ pub fn print_whys(input: &[u8], from: usize, out: &mut [u8; 131072]) -> usize
     ensures out_after { out.new ≡ overwrite out.old 0 (part 131072 from (printed_whys input.now)) }
     ensures input_len_bound { length (printed_whys input.now) ≤ 3145920 }
 {
-    let total = show_all(input, from, out);
-    printing::part_length(total, from)
+    printing::print_part::<Whys>(input, from, out)
 }

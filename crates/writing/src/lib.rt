@@ -6,30 +6,43 @@ ghost use Rattle.std.specs.Prelude.{◌≡◌, cond, ◌++◌, ◌+◌, ◌-◌,
 ghost use Rattle.line.specs.Limits.{lead_size, tag_size, least_data, most_tags};
 ghost use Rattle.line.specs.Octets.{high_first};
 ghost use Rattle.splice.specs.Written.{Put};
-ghost use Rattle.writing.specs.Frames.{kind_field, tag_octets, field_sent, padded, client_body, pause_body, class_quanta, pfc_body, client_symbols, pause_symbols, pfc_symbols, idle_symbols};
+ghost use Rattle.writing.specs.Frames.{kind_field, tag_octets, field_sent, padded, client_body, pause_body, class_quanta, pfc_body, client_symbols};
+ghost use Rattle.writing.specs.Frames.{pause_symbols, pfc_symbols, idle_symbols};
 ghost use Rattle.writing.specs.Gaps.{gap_at};
 ghost use Rattle.writing.specs.Pieces.{lead, head_of, control_of, gap_octets, end_of, frame_marks, Laid};
 
-use line::{FULL_GAP, LANES, LEAD_SIZE, LEAST_DATA, MOST_DEFICIT, PLAIN_IDLES, TAG_SIZE};
+use line::{FULL_GAP, LANES, LEAD_SIZE, LEAST_DATA, MOST_DEFICIT, PLAIN_IDLES};
 use splice::{fill, put};
 use station::{Address, Port, Quanta, Settings};
 
 // The kinds of tag: 0x8100, and 0x88A8 of a provider.
-#[derive(Clone, Copy)]
+#[derive(Clone, Copy, Debug, PartialEq, Eq)]
 pub enum Kind {
     Customer,
     Service,
 }
 
+// The field that stands for a kind of tag.
+impl From<Kind> for u16 {
+    ghost from_gives = { λ kind n. n ≡ kind_field kind };
+
+    fn from(kind: Kind) -> u16 {
+        match kind {
+            Kind::Customer => 0x8100,
+            Kind::Service => 0x88A8,
+        }
+    }
+}
+
 // A tag: its kind and its tag control.
-#[derive(Clone, Copy)]
+#[derive(Clone, Copy, Debug, PartialEq, Eq)]
 pub struct Tag {
     pub kind: Kind,
     pub control: u16,
 }
 
 // The field: the data's length, or a type.
-#[derive(Clone, Copy)]
+#[derive(Clone, Copy, Debug, PartialEq, Eq)]
 pub enum Form {
     ByLength,
     ByType(u16),
@@ -41,14 +54,14 @@ pub struct Client {
     pub dest: Address,
     // the outermost tag first
     pub tags: [Tag; 8],
-    // how many of them count, from the front (above 8: refusal 10)
+    // how many of them count, from the front; a number beside the array, since refusal 10 is of one above 8
     pub count: u8,
     pub form: Form,
     pub class: u8,
 }
 
 // A gap: how many symbols it is, Terminate included, and the deficit count after it.
-#[derive(Clone, Copy)]
+#[derive(Clone, Copy, Debug, PartialEq, Eq)]
 pub struct Gap {
     pub size: usize,
     pub count: u64,
@@ -71,11 +84,9 @@ fn put_head(octets: &mut [u8], dest: Address, own: Address) -> usize
     requires { 20 ≤ length octets.old }
     ensures { Put octets.old 0 (head_of dest.0 own) result octets.new }
 {
-    let to = dest.0;
-    let from = own.0;
     let a = put(octets, 0, &LEAD);
-    let b = put(octets, a, &to);
-    put(octets, b, &from)
+    let b = put(octets, a, &dest.0);
+    put(octets, b, &own.0)
 }
 
 // A number in two octets, high octet first.
@@ -83,19 +94,7 @@ fn put_number(octets: &mut [u8], at: usize, n: u16) -> usize
     requires { at + 2 ≤ length octets.old }
     ensures { Put octets.old at (high_first n) result octets.new }
 {
-    let high = (n / 256 % 256) as u8;
-    let low = (n % 256) as u8;
-    put(octets, at, &[high, low])
-}
-
-// The field that stands for a kind of tag.
-fn kind_field(kind: Kind) -> u16
-    ensures { result ≡ kind_field kind }
-{
-    match kind {
-        Kind::Customer => 0x8100,
-        Kind::Service => 0x88A8,
-    }
+    put(octets, at, &n.to_be_bytes())
 }
 
 // A tag: its kind and its tag control.
@@ -103,24 +102,20 @@ fn put_tag(octets: &mut [u8], at: usize, tag: Tag) -> usize
     requires { at + tag_size ≤ length octets.old }
     ensures { Put octets.old at (high_first (kind_field tag.kind) ++ high_first tag.control) result octets.new }
 {
-    let kind = tag.kind;
-    let a = put_number(octets, at, kind_field(kind));
+    let a = put_number(octets, at, u16::from(tag.kind));
     put_number(octets, a, tag.control)
 }
 
-// The first `count` of the tags.
-fn put_tags(octets: &mut [u8], at: usize, tags: [Tag; 8], count: u8) -> usize
-    requires { (count ≤ most_tags) × (at + tag_size * count ≤ length octets.old) }
-    ensures { Put octets.old at (tag_octets (take count tags)) result octets.new }
+// A run of tags.
+fn put_tags(octets: &mut [u8], at: usize, tags: &[Tag]) -> usize
+    requires { at + tag_size * length tags.now ≤ length octets.old }
+    ensures { Put octets.old at (tag_octets tags.now) result octets.new }
 {
-    let n = count as usize;
-    let mut k: usize = 0;
-    while k < n {
-        let tag = tags[k];
-        put_tag(octets, at + TAG_SIZE * k, tag);
-        k += 1;
+    let mut next = at;
+    for tag in tags {
+        next = put_tag(octets, next, *tag);
     }
-    at + TAG_SIZE * k
+    next
 }
 
 // The tags of a client frame. Most frames have none: then the array is not looked at.
@@ -131,8 +126,9 @@ fn put_own_tags(octets: &mut [u8], at: usize, client: Client) -> usize
     if client.count == 0 {
         return at;
     }
+    // a copy of the array: a part of the client's own would lay it in memory for a frame with no tags too
     let tags = client.tags;
-    put_tags(octets, at, tags, client.count)
+    put_tags(octets, at, &tags[..usize::from(client.count)])
 }
 
 // The field.
@@ -146,21 +142,13 @@ fn field_sent(form: Form, d: &[u8]) -> u16
     }
 }
 
-// How many zeros pad n octets of data.
-fn padding(n: usize) -> usize
-    ensures { result ≡ least_data - n }
-{
-    if n < LEAST_DATA { LEAST_DATA - n } else { 0 }
-}
-
 // The data, padded.
 fn put_data(octets: &mut [u8], at: usize, d: &[u8]) -> usize
     requires { at + length (padded d.now) ≤ length octets.old }
     ensures { Put octets.old at (padded d.now) result octets.new }
 {
-    let zeros = padding(d.len());
     let a = put(octets, at, d);
-    fill(octets, a, zeros, 0)
+    fill(octets, a, LEAST_DATA.saturating_sub(d.len()), 0)
 }
 
 // A client frame up to its FCS.
@@ -168,11 +156,9 @@ fn put_client(octets: &mut [u8], s: Settings, client: Client, d: &[u8]) -> usize
     requires { (lead_size + length (client_body s client d.now) ≤ length octets.old) × (length d.now < 65536) × (client.count ≤ most_tags) }
     ensures { Put octets.old 0 (lead ++ client_body s client d.now) result octets.new }
 {
-    let form = client.form;
-    let field = field_sent(form, d);
     let a = put_head(octets, client.dest, s.own);
     let b = put_own_tags(octets, a, client);
-    let c = put_number(octets, b, field);
+    let c = put_number(octets, b, field_sent(client.form, d));
     put_data(octets, c, d)
 }
 
@@ -210,14 +196,12 @@ fn put_quanta(octets: &mut [u8], at: usize, named: u8, quanta: [Quanta; 8]) -> u
     ensures { Put octets.old at (class_quanta named quanta) result octets.new }
 {
     let mut left = named;
-    let mut k: usize = 0;
-    while k < 8 {
-        let q = quanta[k];
-        put_number(octets, at + 2 * k, quanta_sent(left, q));
-        left = left / 2;
-        k += 1;
+    let mut next = at;
+    for q in &quanta {
+        next = put_number(octets, next, quanta_sent(left, *q));
+        left /= 2;
     }
-    at + 2 * k
+    next
 }
 
 // A PFC frame up to its FCS.
@@ -225,11 +209,9 @@ fn put_pfc(octets: &mut [u8], s: Settings, classes: Classes) -> usize
     requires { 68 ≤ length octets.old }
     ensures { Put octets.old 0 (lead ++ pfc_body s classes) result octets.new }
 {
-    let named = classes.named;
-    let quanta = classes.quanta;
     let a = put_control(octets, s.own, 0x0101);
-    let b = put(octets, a, &[0, named]);
-    let c = put_quanta(octets, b, named, quanta);
+    let b = put(octets, a, &[0, classes.named]);
+    let c = put_quanta(octets, b, classes.named, classes.quanta);
     fill(octets, c, 26, 0)
 }
 
@@ -292,8 +274,6 @@ fn put_marks(marks: &mut [u8], n: usize, idles: usize) -> usize
     fill(marks, b, idles + 1, 1)
 }
 
-// ---- frames and Idles, written from the start of two lent parts
-
 // A frame that is written up to its FCS at `at`: its marks, and then, as the octets are in memory by now, its end.
 fn finish(octets: &mut [u8], marks: &mut [u8], at: usize, idles: usize) -> usize
     requires { (lead_size ≤ at) × (at + (idles + 5) ≤ length octets.old) × (at + (idles + 5) ≤ length marks.old) }
@@ -304,55 +284,8 @@ fn finish(octets: &mut [u8], marks: &mut [u8], at: usize, idles: usize) -> usize
     put_end(octets, at, idles)
 }
 
-fn write_client(
-    octets: &mut [u8],
-    marks: &mut [u8],
-    s: Settings,
-    client: Client,
-    d: &[u8],
-    idles: usize,
-) -> usize
-    requires { (length (client_symbols idles s client d.now) ≤ length octets.old)
-        × (length (client_symbols idles s client d.now) ≤ length marks.old) × (length d.now < 65536) × (client.count ≤ most_tags) }
-    ensures { Laid octets.old marks.old 0 (client_symbols idles s client d.now) result
-        octets.new marks.new }
-{
-    let a = put_client(octets, s, client, d);
-    finish(octets, marks, a, idles)
-}
-
-fn write_pause(octets: &mut [u8], marks: &mut [u8], s: Settings, q: Quanta, idles: usize) -> usize
-    requires { (length (pause_symbols idles s q) ≤ length octets.old) × (length (pause_symbols idles s q) ≤ length marks.old) }
-    ensures { Laid octets.old marks.old 0 (pause_symbols idles s q) result octets.new marks.new }
-{
-    let a = put_pause(octets, s, q);
-    finish(octets, marks, a, idles)
-}
-
-fn write_pfc(
-    octets: &mut [u8],
-    marks: &mut [u8],
-    s: Settings,
-    classes: Classes,
-    idles: usize,
-) -> usize
-    requires { (length (pfc_symbols idles s classes) ≤ length octets.old) × (length (pfc_symbols idles s classes) ≤ length marks.old) }
-    ensures { Laid octets.old marks.old 0 (pfc_symbols idles s classes) result octets.new marks.new }
-{
-    let a = put_pfc(octets, s, classes);
-    finish(octets, marks, a, idles)
-}
-
-fn write_idle(octets: &mut [u8], marks: &mut [u8], n: usize) -> usize
-    requires { (n ≤ length octets.old) × (n ≤ length marks.old) }
-    ensures { Laid octets.old marks.old 0 (idle_symbols n) result octets.new marks.new }
-{
-    fill(octets, 0, n, 0x07);
-    fill(marks, 0, n, 1)
-}
-
-// ---- the same from a place on: the part of each buffer from there is lent on. Public for this repository's crates only, since each asks for
-// the room that it writes to
+// ---- frames and Idles from a place on: a frame's writers are lent the part of each buffer from there. Public for this repository's crates
+// only, since each asks for the room that it writes to
 
 pub fn client_at(
     octets: &mut [u8],
@@ -368,15 +301,9 @@ pub fn client_at(
     ensures { Laid octets.old marks.old place (client_symbols idles s client d.now) result
         octets.new marks.new }
 {
-    place
-        + write_client(
-            &mut octets[place..],
-            &mut marks[place..],
-            s,
-            client,
-            d,
-            idles,
-        )
+    let part = &mut octets[place..];
+    let a = put_client(part, s, client, d);
+    place + finish(part, &mut marks[place..], a, idles)
 }
 
 pub fn pause_at(
@@ -390,7 +317,9 @@ pub fn pause_at(
     requires { (place + length (pause_symbols idles s q) ≤ length octets.old) × (place + length (pause_symbols idles s q) ≤ length marks.old) }
     ensures { Laid octets.old marks.old place (pause_symbols idles s q) result octets.new marks.new }
 {
-    place + write_pause(&mut octets[place..], &mut marks[place..], s, q, idles)
+    let part = &mut octets[place..];
+    let a = put_pause(part, s, q);
+    place + finish(part, &mut marks[place..], a, idles)
 }
 
 pub fn pfc_at(
@@ -404,12 +333,15 @@ pub fn pfc_at(
     requires { (place + length (pfc_symbols idles s classes) ≤ length octets.old) × (place + length (pfc_symbols idles s classes) ≤ length marks.old) }
     ensures { Laid octets.old marks.old place (pfc_symbols idles s classes) result octets.new marks.new }
 {
-    place + write_pfc(&mut octets[place..], &mut marks[place..], s, classes, idles)
+    let part = &mut octets[place..];
+    let a = put_pfc(part, s, classes);
+    place + finish(part, &mut marks[place..], a, idles)
 }
 
 pub fn idle_at(octets: &mut [u8], marks: &mut [u8], place: usize, n: usize) -> usize
     requires { (place + n ≤ length octets.old) × (place + n ≤ length marks.old) }
     ensures { Laid octets.old marks.old place (idle_symbols n) result octets.new marks.new }
 {
-    place + write_idle(&mut octets[place..], &mut marks[place..], n)
+    fill(octets, place, n, 0x07);
+    fill(marks, place, n, 1)
 }
