@@ -1,7 +1,6 @@
 -- Document 01, "Control frames": rules 7 to 10, and document 02, items 7 and 10: which address let a frame in. `f` is a whole frame, from destination to
 -- FCS; `own` is what a job has of the address table, at each entry its address or nothing (`mine`).
-use Rattle.std.specs.Prelude.{ℕ, Bool, not, ◌&&◌, ◌||◌, cond, List, [], ◌∷◌, eqb}
-use Rattle.std.proofs.Math.Option.{Option}
+use Rattle.std.specs.Prelude.{ℕ, Bool, not, ◌&&◌, ◌||◌, cond, List, [], ◌∷◌, eqb, Option}
 use Rattle.line.specs.Octets.{same_octets, high_first_at}
 use Rattle.station.specs.declared.Address.{Address}
 use Rattle.station.specs.declared.Settings.{Settings}

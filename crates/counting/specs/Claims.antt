@@ -1,6 +1,7 @@
 -- Document 02, item 9: what its claims speak of. A call on a capture and its totals, the whole table of its refusals, and any sequence of calls on one
 -- capture ("while a capture grows"). The theorems are proofs/Claims.antt and, of the refusals, mac/proofs/Totals.antt.
-use Rattle.std.specs.Prelude.{ℕ, zero, suc, ◌≡◌, List, [], ◌∷◌}
+use Rattle.station.specs.Numbers.{Checked}
+use Rattle.std.specs.Prelude.{ℕ, zero, suc, ◌≡◌, List, [], ◌∷◌, Err}
 use Rattle.line.specs.Line.{Symbol, capture}
 use Rattle.line.specs.Table.{Table, ◌⇒◌, ◌∣◌, otherwise}
 use Rattle.station.specs.declared.Settings.{Settings}
@@ -8,8 +9,6 @@ use Rattle.station.specs.declared.State.{State}
 use Rattle.station.specs.declared.Port.{Port}
 use Rattle.station.specs.declared.Quanta.{Quanta}
 use Rattle.station.specs.declared.Refusal.TheVariants.{WrongTotals, HighTotal}
-use Rattle.station.specs.declared.Checked.{Checked}
-use Rattle.station.specs.declared.Checked.TheVariants.{Refused}
 use Rattle.station.specs.Station.{is_pause_mode, is_pfc_mode}
 use Rattle.writing.specs.declared.Client.{Client}
 use Rattle.writing.specs.declared.Classes.{Classes}
@@ -83,7 +82,7 @@ pub record RefusedCall (st : State) (l : Lent) (place : ℕ) (x : Counting) : Ty
 -- ---- "Refusals, after 3 and 19": the rows of the call without totals, with 21 and 22 behind its first n
 
 unfoldable pub with_totals : ℕ → List ℕ → List ℕ → Table Checked → Table Checked
-with_totals zero os ts rows = wrong_totals os ts ⇒ Refused WrongTotals ∣ high_total ts ⇒ Refused HighTotal ∣ rows
+with_totals zero os ts rows = wrong_totals os ts ⇒ Err WrongTotals ∣ high_total ts ⇒ Err HighTotal ∣ rows
 with_totals (suc n) os ts (otherwise a) = otherwise a
 with_totals (suc n) os ts (r ∣ rows) = r ∣ with_totals n os ts rows
 

@@ -1,6 +1,7 @@
 -- Document 02, item 9: the sending calls with the totals of a capture lent beside it. Each is the call of before, and then the blocks that it wrote into
 -- counted anew; so the promises of the calls of before stand as they are.
-use Rattle.std.specs.Prelude.{ℕ, List}
+use Rattle.station.specs.Numbers.{Checked}
+use Rattle.std.specs.Prelude.{ℕ, List, Err, Ok}
 use Rattle.line.specs.Line.{capture}
 use Rattle.line.specs.Table.{Table, ◌⇒◌, ◌∣◌, otherwise, first}
 use Rattle.station.specs.declared.Settings.{Settings}
@@ -8,8 +9,6 @@ use Rattle.station.specs.declared.State.{State}
 use Rattle.station.specs.declared.Port.{Port}
 use Rattle.station.specs.declared.Quanta.{Quanta}
 use Rattle.station.specs.declared.Refusal.TheVariants.{BadSettings, BadBuffers, BadPlace, HighDeficit, WrongTotals, HighTotal}
-use Rattle.station.specs.declared.Checked.{Checked}
-use Rattle.station.specs.declared.Checked.TheVariants.{Fine, Refused}
 use Rattle.station.specs.Station.{bad_settings, bad_buffers, bad_start, high_deficit}
 use Rattle.writing.specs.declared.Client.{Client}
 use Rattle.writing.specs.declared.Classes.{Classes}
@@ -28,19 +27,19 @@ counting r os ms ts = record { sent = send_call r os ms; totals = ts }
 -- "Refusals, after 3 and 19": the tests of a frame's call up to 22, on a port and with the deficit count
 unfoldable pub frame_totals : Settings → Port → ℕ → List ℕ → List ℕ → ℕ → List ℕ → Table Checked
 frame_totals s port count os ms place ts =
-    bad_settings s ⇒ Refused BadSettings
-    ∣ bad_buffers os ms ⇒ Refused BadBuffers
-    ∣ bad_start port os place ⇒ Refused BadPlace
-    ∣ high_deficit port count ⇒ Refused HighDeficit
-    ∣ wrong_totals os ts ⇒ Refused WrongTotals
-    ∣ high_total ts ⇒ Refused HighTotal
-    ∣ otherwise Fine
+    bad_settings s ⇒ Err BadSettings
+    ∣ bad_buffers os ms ⇒ Err BadBuffers
+    ∣ bad_start port os place ⇒ Err BadPlace
+    ∣ high_deficit port count ⇒ Err HighDeficit
+    ∣ wrong_totals os ts ⇒ Err WrongTotals
+    ∣ high_total ts ⇒ Err HighTotal
+    ∣ otherwise (Ok tt)
 
 -- a call with totals: `early` is what the tests up to 22 give, `base` what the call without totals gives and leaves; its own refusals come after these.
 -- "Each sending call and Idle fill counts anew the blocks it writes into and touches no other total"; "A refused call changes none."
 unfoldable pub count_checked : Checked → State → List ℕ → List ℕ → ℕ → List ℕ → SendCall → Counting
-count_checked (Refused x) st os ms place ts base = counting (refused_at x place st) os ms ts
-count_checked Fine st os ms place ts base =
+count_checked (Err x) st os ms place ts base = counting (refused_at x place st) os ms ts
+count_checked (Ok _) st os ms place ts base =
     record { sent = base; totals = recounted (capture base.octets base.marks) place base.given.place ts }
 
 -- the four calls

@@ -1,12 +1,10 @@
 -- What stands behind a pointer that one value crosses back by, after a refusal too. A record where there are two, so that a promise is one equation.
-use Rattle.std.specs.Prelude.{ℕ, cond, List, eqb}
+use Rattle.reading_log.specs.declared.LogRefusal.{LogRefusal}
+use Rattle.reading_log.specs.declared.Record.{Record}
+use Rattle.station.specs.declared.Refusal.{Refusal}
+use Rattle.std.specs.Prelude.{ℕ, cond, List, eqb, Err, Ok, Result}
 use Rattle.station.specs.declared.State.{State}
-use Rattle.table.specs.declared.Placed.{Placed}
 use Rattle.table.specs.Claims.{placed_refusal}
-use Rattle.reading_log.specs.declared.LogRead.{LogRead}
-use Rattle.reading_log.specs.declared.LogRead.TheVariants.{Holds}
-use Rattle.reading_log.specs.declared.LogNumber.{LogNumber}
-use Rattle.reading_log.specs.declared.LogNumber.TheVariants.{Number}
 use Rattle.reading_log.specs.Numbers.{log_read_refusal, log_number_refusal}
 use Rattle.reading_log.specs.Log.{octets_of_record}
 use Rattle.crossing.specs.Records.{state_numbers}
@@ -23,11 +21,11 @@ abbrev pub record_given : ℕ → List ℕ → RecordGiven
 record_given n o = record { refusal = n; octets = o }
 
 -- of a record that is read: its 16 octets; a refusal leaves those that stood there before
-unfoldable pub record_left : List ℕ → LogRead → List ℕ
-record_left before (LogRead.Refused x) = before
-record_left before (Holds r) = octets_of_record r
+unfoldable pub record_left : List ℕ → Result Record LogRefusal → List ℕ
+record_left before (Err x) = before
+record_left before (Ok r) = octets_of_record r
 
-unfoldable pub record_told : List ℕ → LogRead → RecordGiven
+unfoldable pub record_told : List ℕ → Result Record LogRefusal → RecordGiven
 record_told before x = record_given (log_read_refusal x) (record_left before x)
 
 pub record NumberGiven : Type 0 where
@@ -38,17 +36,17 @@ abbrev pub number_given : ℕ → ℕ → NumberGiven
 number_given n k = record { refusal = n; number = k }
 
 -- of a number of records; a refusal leaves the one that stood there before
-unfoldable pub number_left : ℕ → LogNumber → ℕ
-number_left before (LogNumber.Refused x) = before
-number_left before (Number n) = n
+unfoldable pub number_left : ℕ → Result ℕ LogRefusal → ℕ
+number_left before (Err x) = before
+number_left before (Ok n) = n
 
-unfoldable pub number_told : ℕ → LogNumber → NumberGiven
+unfoldable pub number_told : ℕ → Result ℕ LogRefusal → NumberGiven
 number_told before x = number_given (log_number_refusal x) (number_left before x)
 
 -- of a table call: the entry that it took or freed; a refusal leaves the number that stood there before
-unfoldable pub entry_left : ℕ → Placed → ℕ
-entry_left before (Placed.Refused x) = before
-entry_left before (Placed.At k) = k
+unfoldable pub entry_left : ℕ → Result ℕ Refusal → ℕ
+entry_left before (Err x) = before
+entry_left before (Ok k) = k
 
-unfoldable pub entry_told : ℕ → Placed → NumberGiven
+unfoldable pub entry_told : ℕ → Result ℕ Refusal → NumberGiven
 entry_told before x = number_given (placed_refusal x) (entry_left before x)

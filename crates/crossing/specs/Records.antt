@@ -2,6 +2,7 @@
 -- its numbers of 64 bits. Decoding is total: any are some settings, some state, some client frame.
 use Rattle.std.specs.Prelude.{ℕ, zero, suc, ◌+◌, ◌-◌, ◌*◌, ◌%◌, Bool, cond, not, ◌&&◌, List, [], ◌∷◌, ◌++◌, get_or, replicate, eqb, leb, ltb}
 use Rattle.line.specs.Octets.{low_first}
+use Rattle.station.specs.declared.Address.{Address}
 use Rattle.station.specs.declared.Flow.{Flow}
 use Rattle.station.specs.declared.Flow.TheVariants.{Off, Pause, Pfc}
 use Rattle.station.specs.declared.Port.{Port}
@@ -17,7 +18,6 @@ use Rattle.receive.specs.declared.Answer.TheVariants.{Nothing, Open, Counted}
 use Rattle.receive.specs.declared.Reading.{Reading}
 use Rattle.receive.specs.declared.Walking.{Walking}
 use Rattle.receive.specs.Values.{answer_outcome, answer_refusal, answer_status, answer_part, answer_way, walk_refusal, walk_starts, walk_open}
-use Rattle.reason.specs.declared.Six.{Six}
 use Rattle.reason.specs.declared.Reason.{Reason}
 use Rattle.reason.specs.declared.Reason.TheVariants.{CutAt, ShortRun, WrongOctet, TooShort, TooLong, FcsDiffers}
 use Rattle.reason.specs.declared.Reason.TheVariants.{LengthBroken, NotForUs, TookPause, TookPfc, DroppedControl, Handed}
@@ -152,8 +152,10 @@ reading_numbers r =
     ∷ replicate 3 0
 
 -- six octets as one number, the first octet highest
-unfoldable pub six_number : Six → ℕ
-six_number d = d.0 * 0x100_0000_0000 + d.1 * 0x1_0000_0000 + d.2 * 0x100_0000 + d.3 * 0x1_0000 + d.4 * 0x100 + d.5
+unfoldable pub six_number : Address → ℕ
+six_number d =
+    get_or d.0 0 0 * 0x100_0000_0000 + get_or d.0 1 0 * 0x1_0000_0000 + get_or d.0 2 0 * 0x100_0000 + get_or d.0 3 0 * 0x1_0000 + get_or d.0 4 0 * 0x100
+    + get_or d.0 5 0
 
 -- a reason, as 3 numbers: which one, 1 to 12 in the order of `enum Reason`, and its evidence, 0 where it has none
 unfoldable pub reason_numbers : Reason → List ℕ

@@ -1,6 +1,6 @@
--- Internal: sixteen tables in one array, made once and lent. Of this file a caller sees `entries 4096`, which `make_tables` makes, and `Lent`, which
--- `check_by` requires: no caller has to look into them.
-use Rattle.std.specs.Prelude.{◌≡◌, List, [], ◌∷◌, ◌++◌, ℕ, zero, suc, ◌+◌, ◌-◌, ◌/◌, ◌%◌, ◌<◌, length, get_or}
+-- Internal: sixteen tables in one array, made once and lent. Of this file a caller sees `entries 4096`, which `make_tables` makes, and `Tables`, the
+-- invariant of `Rows`: no caller has to look into them.
+use Rattle.std.specs.Prelude.{◌≡◌, List, [], ◌∷◌, ◌++◌, ℕ, zero, suc, ◌+◌, ◌-◌, ◌/◌, ◌%◌, ◌<◌, get_or}
 use Rattle.std.specs.Int.Bits.{bit_xor}
 use Rattle.crc.specs.Words.{crc_zeros}
 
@@ -24,7 +24,3 @@ Filled n t = (j : ℕ) → j < n → get_or t j 0 ≡ entry_of j
 -- the n entries from i on follow from the one at i and those n before them
 abbrev pub Doubled : ℕ → ℕ → Type 0
 Doubled i n = (x : ℕ) → x < n → entry_of (i + x) ≡ bit_xor (entry_of (i + x - n)) (entry_of i)
-
--- what may be lent: nothing, or the tables
-abbrev pub Lent : List ℕ → Type 0
-Lent t = 0 < length t → Tables t

@@ -1,5 +1,6 @@
 -- The C face (include/fenhamper.h): what each exported call leaves behind its pointers. What the records stand for is crossing/specs.
-use Rattle.std.specs.Prelude.{ℕ, List, [], ◌∷◌, get_or}
+use Rattle.station.specs.declared.Refusal.{Refusal}
+use Rattle.std.specs.Prelude.{ℕ, List, [], ◌∷◌, get_or, Err, Ok, Result}
 use Rattle.station.specs.Numbers.{checked_number}
 use Rattle.table.specs.Calls.{Change}
 use Rattle.receive.specs.declared.Answer.{Answer}
@@ -13,8 +14,6 @@ use Rattle.reading_log.specs.Room.{Numbered}
 use Rattle.logging.specs.Walks.{Keeping}
 use Rattle.logging.specs.Claims.{end_refusal}
 use Rattle.send.specs.Sending.{SendCall, send_refusal}
-use Rattle.totals.specs.declared.Count.{Count}
-use Rattle.totals.specs.declared.Count.TheVariants.{Starts}
 use Rattle.totals.specs.Totals.{Filling, count_refusal}
 use Rattle.counting.specs.Counting.{Counting}
 use Rattle.plain.specs.declared.Step as plain
@@ -119,11 +118,11 @@ unfoldable pub fill_told : Filling → TotalsGiven
 fill_told x = totals_given (checked_number x.given) x.totals
 
 -- of how many Starts lie before a place; a refusal leaves the number that stood there before
-unfoldable pub starts_left : ℕ → Count → ℕ
-starts_left before (Starts n) = n
-starts_left before (Count.Refused x) = before
+unfoldable pub starts_left : ℕ → Result ℕ Refusal → ℕ
+starts_left before (Ok n) = n
+starts_left before (Err x) = before
 
-unfoldable pub starts_told : ℕ → Count → NumberGiven
+unfoldable pub starts_told : ℕ → Result ℕ Refusal → NumberGiven
 starts_told before x = number_given (count_refusal x) (starts_left before x)
 
 pub record WithTotals : Type 0 where

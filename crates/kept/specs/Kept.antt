@@ -1,7 +1,7 @@
 -- Document 02, item 12: what a reader keeps of a run that "keeps a run count, the first octets and a running FCS", and the rules of document 01 asked of
 -- that. That they give what document 01's give of the run itself is proved in proofs/Keeps.antt. `own` is what a job has of the address table.
-use Rattle.std.specs.Prelude.{ℕ, ◌+◌, ◌-◌, ◌*◌, ◌^◌, Bool, not, ◌&&◌, ◌||◌, List, drop, replicate, eqb, ltb, leb}
-use Rattle.std.proofs.Math.Option.{Option}
+use Rattle.station.specs.Numbers.{Checked}
+use Rattle.std.specs.Prelude.{ℕ, ◌+◌, ◌-◌, ◌*◌, ◌^◌, Bool, not, ◌&&◌, ◌||◌, List, drop, replicate, eqb, ltb, leb, Err, Ok, Option}
 use Rattle.line.specs.Limits.{most_symbols, preamble_size, lead_size, least_frame, fcs_size}
 use Rattle.line.specs.Octets.{same_octets}
 use Rattle.line.specs.Table.{Table, ◌⇒◌, ◌∣◌, otherwise, first}
@@ -12,8 +12,6 @@ use Rattle.station.specs.declared.Part.{Part}
 use Rattle.station.specs.declared.Outcome.{Outcome}
 use Rattle.station.specs.declared.Outcome.TheVariants.{Cut, BadPreamble, Undersized, Oversized, WrongFcs, WrongLength, Filtered, PauseTaken, PfcTaken, ControlDropped, HandedOut}
 use Rattle.station.specs.declared.Refusal.TheVariants.{BadSettings, BadBuffers, BadJob, BadTable}
-use Rattle.station.specs.declared.Checked.{Checked}
-use Rattle.station.specs.declared.Checked.TheVariants.{Fine, Refused}
 use Rattle.station.specs.Numbers.{by_outcome}
 use Rattle.station.specs.Station.{bad_settings}
 use Rattle.fields.specs.Tags.{tag_count}
@@ -101,8 +99,8 @@ kept_told s own o r = Counted o (kept_word s o r) (kept_part s o r) (way_carried
 -- ---- "Refusals: 1, 14, 20 as in reading, then 2 for a symbol after 65,536 of them": of a symbol where so many were taken
 unfoldable pub symbol_refusals : Settings → ℕ → List Entry → ℕ → Table Checked
 symbol_refusals s job es taken =
-    bad_settings s ⇒ Refused BadSettings
-    ∣ bad_job job ⇒ Refused BadJob
-    ∣ bad_table es ⇒ Refused BadTable
-    ∣ leb most_symbols taken ⇒ Refused BadBuffers
-    ∣ otherwise Fine
+    bad_settings s ⇒ Err BadSettings
+    ∣ bad_job job ⇒ Err BadJob
+    ∣ bad_table es ⇒ Err BadTable
+    ∣ leb most_symbols taken ⇒ Err BadBuffers
+    ∣ otherwise (Ok tt)

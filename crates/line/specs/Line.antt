@@ -2,10 +2,7 @@
 --
 -- Every definition stands on ONE list of symbols. The code has two lent buffers, and a contract says
 -- `capture octets.now marks.now`. Refusal 2 sees to it that the two are equally long, so nothing is cut off.
-use Rattle.std.specs.Prelude.{ℕ, ◌+◌, Bool, true, false, not, ◌&&◌, List, [], ◌∷◌, ◌++◌, length, take, drop, eqb}
-use Rattle.std.proofs.Math.Option.{Option, none, some}
-use Rattle.line.specs.declared.Found.{Found}
-use Rattle.line.specs.declared.Found.TheVariants.{At, Nothing}
+use Rattle.std.specs.Prelude.{ℕ, ◌+◌, Bool, true, false, not, ◌&&◌, List, [], ◌∷◌, ◌++◌, length, take, drop, eqb, Option, Some, None}
 
 -- ---- The line
 
@@ -63,16 +60,16 @@ preamble = 0x55 ∷ 0x55 ∷ 0x55 ∷ 0x55 ∷ 0x55 ∷ 0x55 ∷ 0xD5 ∷ []
 -- ---- Reading one Start
 
 -- the place of the first symbol for which a test holds; `at` is the place of the list's first symbol
-unfoldable pub first_where : (Symbol → Bool) → ℕ → List Symbol → Found
-first_where test at [] = Nothing
-first_where test at (x ∷ xs) = elim (test x) [ true ↦ At at | false ↦ first_where test (at + 1) xs ]
+unfoldable pub first_where : (Symbol → Bool) → ℕ → List Symbol → Option ℕ
+first_where test at [] = None
+first_where test at (x ∷ xs) = elim (test x) [ true ↦ Some at | false ↦ first_where test (at + 1) xs ]
 
 -- "the first Start at that place or later"
-unfoldable pub find_start : List Symbol → ℕ → Found
+unfoldable pub find_start : List Symbol → ℕ → Option ℕ
 find_start c place = first_where is_start place (drop place c)
 
 -- "the first control symbol", at a place or later
-unfoldable pub find_control : List Symbol → ℕ → Found
+unfoldable pub find_control : List Symbol → ℕ → Option ℕ
 find_control c place = first_where is_control place (drop place c)
 
 -- "the run is the data symbols after the Start up to the first control symbol": of what follows the Start
@@ -82,8 +79,8 @@ run (x ∷ xs) = elim (is_data x) [ true ↦ x.octet ∷ run xs | false ↦ [] ]
 
 -- "the ending control symbol", if "there is … such symbol"
 unfoldable pub ending : List Symbol → Option Symbol
-ending [] = none
-ending (x ∷ xs) = elim (is_data x) [ true ↦ ending xs | false ↦ some x ]
+ending [] = None
+ending (x ∷ xs) = elim (is_data x) [ true ↦ ending xs | false ↦ Some x ]
 
 -- what follows a Start: a run that no control symbol ends, or a run and the octet of the control symbol that ends it
 pub data AfterStart : Type 0 where
@@ -91,8 +88,8 @@ pub data AfterStart : Type 0 where
   ended : List ℕ → ℕ → AfterStart
 
 unfoldable pub ended_by : List ℕ → Option Symbol → AfterStart
-ended_by r none = unended
-ended_by r (some x) = ended r x.octet
+ended_by r None = unended
+ended_by r (Some x) = ended r x.octet
 
 unfoldable pub after_start : List Symbol → AfterStart
 after_start l = ended_by (run l) (ending l)

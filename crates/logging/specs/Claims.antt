@@ -1,6 +1,7 @@
 -- What the claims on a walk that keeps its readings speak of. The theorems are proofs/Claims.antt, proofs/Added.antt, proofs/Refused.antt and
 -- proofs/Full.antt.
-use Rattle.std.specs.Prelude.{ℕ, ◌+◌, ◌-◌, ◌<◌, ◌≡◌, true, false, ◌↔◌, List, [], ◌∷◌, ◌++◌, map, length, take}
+use Rattle.receive.specs.Values.{WalkAnswer}
+use Rattle.std.specs.Prelude.{ℕ, ◌+◌, ◌-◌, ◌<◌, ◌≡◌, true, false, ◌↔◌, List, [], ◌∷◌, ◌++◌, map, length, take, Ok, Err}
 use Rattle.station.specs.declared.Settings.{Settings}
 use Rattle.station.specs.declared.State.{State}
 use Rattle.station.specs.Numbers.{refusal_number}
@@ -10,8 +11,6 @@ use Rattle.reading_log.specs.Numbers.{log_refusal_number, logged_refusal}
 use Rattle.reading_log.specs.Log.{remaining, appending}
 use Rattle.reading_log.specs.Claims.{zero_log, append_all, counted_ones, read_back, filled, IsMultiple, EveryUsed, unused_count}
 use Rattle.receive.specs.declared.Reading.{Reading}
-use Rattle.receive.specs.declared.WalkAnswer.{WalkAnswer}
-use Rattle.receive.specs.declared.WalkAnswer.TheVariants.{Ended}
 use Rattle.receive.specs.Values.{is_counted, answer_refusal}
 use Rattle.receive.specs.Reading.{reading}
 use Rattle.receive.specs.Walk.{readings_from, walk, walked}
@@ -32,9 +31,8 @@ last_next p (r ∷ rs) = last_next r.next rs
 
 -- how a walk ends that always found a record: as the walk itself
 abbrev pub end_of : WalkAnswer → LogEnd
-end_of (WalkAnswer.Refused x) = LogEnd.Refused (ByReading x)
-end_of (Ended n false) = Nothing
-end_of (Ended n true) = Open
+end_of (Err x) = LogEnd.Refused (ByReading x)
+end_of (Ok e) = elim e.is_open [ true ↦ Open | false ↦ Nothing ]
 
 -- "the readings of a run kept": from place 0, with a log of zero octets of so many records, what stands in the log are the records of the walk's counted
 -- readings in order, and all else is the walk's own

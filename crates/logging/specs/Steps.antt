@@ -1,6 +1,5 @@
 -- Internal: the record of a Start, as the walk's code makes it: of the frame of its run and its outcome. No promise to a caller needs it.
-use Rattle.std.specs.Prelude.{ℕ, ◌+◌, List}
-use Rattle.std.proofs.Math.Option.{Option}
+use Rattle.std.specs.Prelude.{ℕ, ◌+◌, List, Option}
 use Rattle.station.specs.declared.Address.{Address}
 use Rattle.station.specs.declared.Settings.{Settings}
 use Rattle.station.specs.declared.Outcome.{Outcome}

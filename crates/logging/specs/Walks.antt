@@ -1,6 +1,6 @@
 -- Document 02, item 4: "Support wants the readings of a run kept." A walk from a place on that appends the record of each Start it counts, of a
 -- job and by the address table (item 10).
-use Rattle.std.specs.Prelude.{ℕ, zero, suc, ◌+◌, List, length}
+use Rattle.std.specs.Prelude.{ℕ, zero, suc, ◌+◌, List, length, Result, Ok, Err}
 use Rattle.line.specs.Table.{Table, ◌⇒◌, ◌∣◌, otherwise, first}
 use Rattle.station.specs.declared.Settings.{Settings}
 use Rattle.station.specs.declared.State.{State}
@@ -9,15 +9,13 @@ use Rattle.station.specs.Station.{bad_settings, bad_buffers, bad_place}
 use Rattle.table.specs.declared.Entry.{Entry}
 use Rattle.table.specs.Tests.{bad_job, bad_table}
 use Rattle.reading_log.specs.declared.LogRefusal.TheVariants.{BadLog}
-use Rattle.reading_log.specs.declared.Logged.{Logged}
 use Rattle.reading_log.specs.Log.{bad_log, Logging, appending}
 use Rattle.receive.specs.declared.Answer.{Answer}
 use Rattle.receive.specs.declared.Answer.TheVariants.{Counted}
 use Rattle.receive.specs.declared.Reading.{Reading}
 use Rattle.receive.specs.Reading.{reading}
+use Rattle.logging.specs.declared.KeepRefusal.{KeepRefusal}
 use Rattle.logging.specs.declared.KeepRefusal.TheVariants.{ByReading, ByLog}
-use Rattle.logging.specs.declared.KeepChecked.{KeepChecked}
-use Rattle.logging.specs.declared.KeepChecked.TheVariants.{Fine, Refused}
 use Rattle.logging.specs.declared.LogEnd.{LogEnd}
 use Rattle.logging.specs.declared.LogEnd.TheVariants.{Nothing, Open, Full}
 use Rattle.logging.specs.declared.LogWalk.{LogWalk}
@@ -47,26 +45,30 @@ keep_from (suc most) s job es st os ms place n l =
       | Answer.Nothing ↦ stopped Nothing r.state r.next n l
       | Answer.Open ↦ stopped Open r.state r.next n l
       | Counted o w p v ↦ elim a.given [
-        | Logged.Fine ↦ keep_from most s job es r.state os ms r.next (n + 1) a.log
-        | Logged.Refused x ↦ stopped Full st place n l
+        | Ok _ ↦ keep_from most s job es r.state os ms r.next (n + 1) a.log
+        | Err x ↦ stopped Full st place n l
       ]
     ]
+
+-- what the table of its refusals gives: the first that holds, or that the walk goes on
+abbrev pub KeepChecked : Type 0
+KeepChecked = Result (Unit {0}) KeepRefusal
 
 -- 1, 14, 2, 3 and 20 as a reading at that place, then "11 log length no multiple of 16"
 unfoldable pub keep_refusals : Settings → ℕ → List Entry → List ℕ → List ℕ → ℕ → List ℕ → Table KeepChecked
 keep_refusals s job es os ms place l =
-    bad_settings s ⇒ Refused (ByReading BadSettings)
-    ∣ bad_job job ⇒ Refused (ByReading BadJob)
-    ∣ bad_buffers os ms ⇒ Refused (ByReading BadBuffers)
-    ∣ bad_place os place ⇒ Refused (ByReading BadPlace)
-    ∣ bad_table es ⇒ Refused (ByReading BadTable)
-    ∣ bad_log l ⇒ Refused (ByLog BadLog)
-    ∣ otherwise Fine
+    bad_settings s ⇒ Err (ByReading BadSettings)
+    ∣ bad_job job ⇒ Err (ByReading BadJob)
+    ∣ bad_buffers os ms ⇒ Err (ByReading BadBuffers)
+    ∣ bad_place os place ⇒ Err (ByReading BadPlace)
+    ∣ bad_table es ⇒ Err (ByReading BadTable)
+    ∣ bad_log l ⇒ Err (ByLog BadLog)
+    ∣ otherwise (Ok tt)
 
 -- a refused walk gives the state and the place it was given, and leaves the log; no capture has more Starts than symbols
 unfoldable pub keep_checked : KeepChecked → Settings → ℕ → List Entry → State → List ℕ → List ℕ → ℕ → List ℕ → Keeping
-keep_checked (Refused x) s job es st os ms place l = stopped (LogEnd.Refused x) st place 0 l
-keep_checked Fine s job es st os ms place l = keep_from (length os + 1) s job es st os ms place 0 l
+keep_checked (Err x) s job es st os ms place l = stopped (LogEnd.Refused x) st place 0 l
+keep_checked (Ok _) s job es st os ms place l = keep_from (length os + 1) s job es st os ms place 0 l
 
 unfoldable pub walk_logged : Settings → ℕ → List Entry → State → List ℕ → List ℕ → ℕ → List ℕ → Keeping
 walk_logged s job es st os ms place l = keep_checked (first (keep_refusals s job es os ms place l)) s job es st os ms place l

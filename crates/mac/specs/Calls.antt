@@ -2,10 +2,8 @@
 -- of sending ("starts no client frame while its class timer runs"), and document 02, items 5 and 14. The theorems are proofs/Timers.antt,
 -- proofs/Leaves.antt, proofs/Port.antt and proofs/Quiet.antt. Each call has settings, buffers and all else but the state of its own, so nothing is assumed
 -- of what happens to them between calls, and refused calls are among them.
-use Rattle.std.specs.Prelude.{ℕ, zero, suc, ◌+◌, ◌/◌, ◌%◌, ◌≡◌, Bool, false, cond, List, [], ◌∷◌, ◌++◌, length, get_or, take, drop, eqb}
-use Rattle.std.proofs.Math.Option.{Option}
-use Rattle.line.specs.declared.Found.{Found}
-use Rattle.line.specs.declared.Found.TheVariants.{At, Nothing}
+use Rattle.station.specs.Numbers.{Checked}
+use Rattle.std.specs.Prelude.{ℕ, zero, suc, ◌+◌, ◌/◌, ◌%◌, ◌≡◌, Bool, false, cond, List, [], ◌∷◌, ◌++◌, length, get_or, take, drop, eqb, Err, None, Ok, Option, Some}
 use Rattle.line.specs.Line.{Symbol, capture, octets_of, marks_of, find_start, AfterStart, unended, ended, after_start, MetStart, met_starts, overwrite}
 use Rattle.line.specs.Table.{first}
 use Rattle.station.specs.declared.Address.{Address}
@@ -14,8 +12,6 @@ use Rattle.station.specs.declared.State.{State}
 use Rattle.station.specs.declared.Quanta.{Quanta}
 use Rattle.station.specs.declared.Slots.{Slots}
 use Rattle.station.specs.declared.Outcome.{Outcome}
-use Rattle.station.specs.declared.Checked.{Checked}
-use Rattle.station.specs.declared.Checked.TheVariants.{Fine, Refused}
 use Rattle.station.specs.Numbers.{by_outcome}
 use Rattle.flow.specs.Timers.{slots_of, quanta_at}
 use Rattle.table.specs.declared.Entry.{Entry}
@@ -126,12 +122,12 @@ read_told (Told.Counted o w p v) run = record { outcome = o; frame = front_of ru
 -- the Starts that a call reads: a refused one none, a reading "the first Start at that place or later", a walk every one, a walk that keeps its readings
 -- as many as it kept, from its place on
 unfoldable pub unless_refused : Checked → List MetStart → List MetStart
-unless_refused (Refused x) l = []
-unless_refused Fine l = l
+unless_refused (Err x) l = []
+unless_refused (Ok _) l = l
 
-unfoldable pub start_found : List Symbol → Found → List MetStart
-start_found c Nothing = []
-start_found c (At i) = record { place = i; follows = after_start (drop (i + 1) c) } ∷ []
+unfoldable pub start_found : List Symbol → Option ℕ → List MetStart
+start_found c None = []
+start_found c (Some i) = record { place = i; follows = after_start (drop (i + 1) c) } ∷ []
 
 unfoldable pub start_read : Settings → ℕ → List Entry → List ℕ → List ℕ → ℕ → List MetStart
 start_read s job es os ms p = unless_refused (first (read_refusals s job es os ms p)) (start_found (capture os ms) (find_start (capture os ms) p))

@@ -1,8 +1,8 @@
 -- Demand 1: what it says of a call's refusals. The theorems are proofs/Demand1.antt.
+use Rattle.station.specs.Numbers.{Checked}
 use Rattle.std.specs.Prelude.{ℕ, ◌+◌, ◌<◌, ◌≡◌, Bool, true, false, cond, ◌&&◌, ◌||◌, ◌↔◌, List, [], ◌∷◌, eqb}
 use Rattle.line.specs.Table.{Table, otherwise, ◌∣◌}
 use Rattle.station.specs.declared.State.{State}
-use Rattle.station.specs.declared.Checked.{Checked}
 use Rattle.station.specs.Numbers.{checked_number}
 use Rattle.receive.specs.declared.Reading.{Reading}
 use Rattle.receive.specs.Reading.{empty_part}

@@ -1,13 +1,11 @@
 -- Demand 2: what the claims on a walk speak of. The theorems are proofs/Walk.antt and proofs/Sum.antt.
-use Rattle.std.specs.Prelude.{ℕ, ◌+◌, ◌≡◌, Bool, true, false, cond, List, [], ◌∷◌, ◌++◌, eqb}
-use Rattle.std.proofs.Math.Option.{Option}
+use Rattle.std.specs.Prelude.{ℕ, ◌+◌, ◌≡◌, Bool, true, false, cond, List, [], ◌∷◌, ◌++◌, eqb, Ok, Option}
 use Rattle.line.specs.Line.{AfterStart, unended, ended, MetStart}
 use Rattle.line.specs.Table.{first}
 use Rattle.station.specs.declared.Address.{Address}
 use Rattle.station.specs.declared.Settings.{Settings}
 use Rattle.station.specs.declared.Outcome.{Outcome}
 use Rattle.station.specs.declared.Part.{Part}
-use Rattle.station.specs.declared.Checked.TheVariants.{Fine}
 use Rattle.station.specs.Numbers.{outcome_number}
 use Rattle.table.specs.declared.Entry.{Entry}
 use Rattle.receive.specs.declared.Answer.{Answer}
@@ -18,7 +16,7 @@ use Rattle.receive.specs.Reading.{read_refusals}
 
 -- a capture, settings, a job and an address table with which no reading from place 0 on is refused: refusals 1, 14, 2 and 20 do not hold
 abbrev pub Readable : Settings → ℕ → List Entry → List ℕ → List ℕ → Type 0
-Readable s job es os ms = first (read_refusals s job es os ms 0) ≡ Fine
+Readable s job es os ms = first (read_refusals s job es os ms 0) ≡ Ok tt
 
 -- ---- "Each Start in a capture, but for a last one whose run hasn't ended, gets the one outcome"
 

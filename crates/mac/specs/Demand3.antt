@@ -1,13 +1,11 @@
 -- Demand 3: what it speaks of. The theorems are proofs/Demand3.antt and, from the sending calls on, proofs/Row.antt.
-use Rattle.std.specs.Prelude.{ℕ, ◌+◌, ◌-◌, ◌≤◌, ◌<◌, ◌≡◌, true, false, List, [], ◌∷◌, ◌++◌, length, take, drop}
-use Rattle.std.proofs.Math.Option.{Option}
+use Rattle.std.specs.Prelude.{ℕ, ◌+◌, ◌-◌, ◌≤◌, ◌<◌, ◌≡◌, true, false, List, [], ◌∷◌, ◌++◌, length, take, drop, Ok, Option}
 use Rattle.line.specs.Line.{Symbol, capture, octets_of, marks_of, overwrite}
 use Rattle.fcs.specs.Fcs.{fcs}
 use Rattle.station.specs.declared.Address.{Address}
 use Rattle.station.specs.declared.Settings.{Settings}
 use Rattle.station.specs.declared.Port.{Port}
 use Rattle.station.specs.declared.State.{State}
-use Rattle.station.specs.declared.Checked.TheVariants.{Fine}
 use Rattle.frame.specs.Frame.{oversized}
 use Rattle.table.specs.declared.Entry.{Entry}
 use Rattle.table.specs.Way.{accepts}
@@ -15,7 +13,6 @@ use Rattle.receive.specs.Walk.{walk, handed_out}
 use Rattle.writing.specs.declared.Client.{Client}
 use Rattle.writing.specs.declared.Form.{Form}
 use Rattle.writing.specs.declared.Form.TheVariants.{ByLength, ByType}
-use Rattle.send.specs.declared.SendAnswer.TheVariants.{Wrote}
 use Rattle.writing.specs.Frames.{padded, client_body, client_symbols}
 use Rattle.writing.specs.Gaps.{gap_on}
 use Rattle.send.specs.Sending.{bad_type, many_tags, long_data, SendCall, send_call, client_checked, client_sending}
@@ -108,13 +105,13 @@ row_frames tx x (a ∷ asked) = frame_sent tx x a ∷ row_frames tx (send_next t
 
 -- where a row starts
 abbrev pub row_from : State → List ℕ → List ℕ → ℕ → SendCall
-row_from st os ms place = send_call (record { answer = Wrote; place = place; state = st }) os ms
+row_from st os ms place = send_call (record { answer = Ok tt; place = place; state = st }) os ms
 
 -- no call of the row is refused
 unfoldable pub NoneRefused : Settings → SendCall → List Asked → Type 0
 NoneRefused tx x [] = Unit {0}
 NoneRefused tx x (a ∷ asked) =
-    (client_checked tx x.given.state a.port x.octets x.marks x.given.place a.client a.octets ≡ Fine)
+    (client_checked tx x.given.state a.port x.octets x.marks x.given.place a.client a.octets ≡ Ok tt)
     × NoneRefused tx (send_next tx x a) asked
 
 -- from x to y the symbols of these frames were written, back to back from the place of x on, and y has the place behind them; they fit, and "every

@@ -1,7 +1,7 @@
 -- Demand 1, of the plain reader (document 02, item 12): what it says of a symbol's refusals. The theorem is proofs/Plain.antt.
+use Rattle.station.specs.Numbers.{Checked}
 use Rattle.std.specs.Prelude.{ℕ, ◌<◌, ◌≡◌, List}
 use Rattle.line.specs.Table.{Table}
-use Rattle.station.specs.declared.Checked.{Checked}
 use Rattle.kept.specs.Values.{told_refusal}
 use Rattle.plain.specs.declared.Plain.{Plain}
 use Rattle.plain.specs.declared.Step.{Step}

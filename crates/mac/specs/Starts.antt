@@ -1,7 +1,6 @@
 -- Demand 2, of each Start: "Each Start in a capture, but for a last one whose run hasn't ended, gets the one outcome …, its counter rises by one …,
 -- and what is handed out is that frame's client data and status word."; by document 02, item 6, modulo 2^64. The theorem is `each_start` of proofs/Each.antt.
-use Rattle.std.specs.Prelude.{ℕ, ◌+◌, ◌%◌, ◌≡◌, List, [], ◌∷◌}
-use Rattle.std.proofs.Math.Option.{Option}
+use Rattle.std.specs.Prelude.{ℕ, ◌+◌, ◌%◌, ◌≡◌, List, [], ◌∷◌, Option}
 use Rattle.line.specs.Line.{unended, ended, MetStart}
 use Rattle.station.specs.declared.Address.{Address}
 use Rattle.station.specs.declared.Settings.{Settings}

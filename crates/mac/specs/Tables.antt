@@ -1,7 +1,7 @@
 -- Demand 1 of the table calls (document 02, item 10): "Table calls give only 14 to 18 and 20", each by exactly its numbers. The theorems are proofs/Tables.antt.
+use Rattle.station.specs.Numbers.{Checked}
 use Rattle.std.specs.Prelude.{ℕ, ◌<◌, ◌≡◌, List}
 use Rattle.line.specs.Table.{Table}
-use Rattle.station.specs.declared.Checked.{Checked}
 use Rattle.table.specs.Calls.{Change}
 use Rattle.table.specs.Claims.{placed_refusal}
 use Rattle.mac.specs.Demand1.{Exactly}

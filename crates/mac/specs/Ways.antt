@@ -1,16 +1,13 @@
 -- Document 02, item 7: what the claim that nothing else of a reading moved speaks of: the reading as it was before, by the same rules and refusals. The
 -- theorems are proofs/Ways.antt.
-use Rattle.std.specs.Prelude.{ℕ, ◌+◌, List, length, drop}
-use Rattle.line.specs.declared.Found.{Found}
-use Rattle.line.specs.declared.Found.TheVariants.{At}
+use Rattle.station.specs.Numbers.{Checked}
+use Rattle.std.specs.Prelude.{ℕ, ◌+◌, List, length, drop, Err, None, Ok, Option, Some}
 use Rattle.line.specs.Limits.{lead_size}
 use Rattle.line.specs.Line.{capture, find_start, unended, ended, after_start}
 use Rattle.line.specs.Table.{first}
 use Rattle.station.specs.declared.Settings.{Settings}
 use Rattle.station.specs.declared.State.{State}
 use Rattle.station.specs.declared.Outcome.{Outcome}
-use Rattle.station.specs.declared.Checked.{Checked}
-use Rattle.station.specs.declared.Checked.TheVariants.{Fine}
 use Rattle.table.specs.declared.Entry.{Entry}
 use Rattle.table.specs.Entries.{mine}
 use Rattle.outcome.specs.Outcomes.{outcome, frame_of}
@@ -33,10 +30,10 @@ run_before s st i run o =
 unfoldable pub reading_before : Settings → ℕ → List Entry → State → List ℕ → List ℕ → ℕ → Reading
 reading_before s job es st os ms place =
     elim (first (read_refusals s job es os ms place)) [
-      | Checked.Refused x ↦ record { answer = Refused x; start = place; next = place; state = st }
-      | Fine ↦ elim (find_start (capture os ms) place) [
-        | Found.Nothing ↦ record { answer = Nothing; start = length (capture os ms); next = length (capture os ms); state = st }
-        | At i ↦ elim (after_start (drop (i + 1) (capture os ms))) [
+      | Err x ↦ record { answer = Refused x; start = place; next = place; state = st }
+      | Ok _ ↦ elim (find_start (capture os ms) place) [
+        | None ↦ record { answer = Nothing; start = length (capture os ms); next = length (capture os ms); state = st }
+        | Some i ↦ elim (after_start (drop (i + 1) (capture os ms))) [
           | unended ↦ record { answer = Open; start = i; next = i; state = st }
           | ended run by ↦ run_before s st i run (outcome s (mine job es) run by)
         ]

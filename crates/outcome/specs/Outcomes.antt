@@ -1,6 +1,5 @@
 -- Document 01, "Reading one Start": the table of outcomes. `own` is what a job has of the address table (document 02, item 10).
-use Rattle.std.specs.Prelude.{ℕ, Bool, not, ◌||◌, cond, List, length, take, drop, eqb, ltb, leb}
-use Rattle.std.proofs.Math.Option.{Option}
+use Rattle.std.specs.Prelude.{ℕ, Bool, not, ◌||◌, cond, List, length, take, drop, eqb, ltb, leb, Option}
 use Rattle.line.specs.Limits.{preamble_size}
 use Rattle.line.specs.Line.{terminate, preamble}
 use Rattle.line.specs.Octets.{same_octets}

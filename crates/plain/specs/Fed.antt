@@ -1,4 +1,5 @@
 -- Document 02, item 12: the reader over a whole capture, and what the claims of proofs/Walk.antt compare with the walk.
+use Rattle.receive.specs.Values.{walk_ended}
 use Rattle.std.specs.Prelude.{ℕ, cond, List, [], ◌∷◌, ◌++◌}
 use Rattle.line.specs.Line.{Symbol}
 use Rattle.station.specs.declared.Settings.{Settings}
@@ -6,7 +7,6 @@ use Rattle.table.specs.declared.Entry.{Entry}
 use Rattle.receive.specs.declared.Answer.{Answer}
 use Rattle.receive.specs.declared.Answer.TheVariants.{Nothing, Open}
 use Rattle.receive.specs.declared.Reading.{Reading}
-use Rattle.receive.specs.declared.WalkAnswer.TheVariants.{Ended}
 use Rattle.receive.specs.declared.Walking.{Walking}
 use Rattle.kept.specs.declared.Told.{Told}
 use Rattle.kept.specs.declared.Told.TheVariants.{Quiet}
@@ -42,7 +42,7 @@ tellings_of (r ∷ rs) = telling_of r.answer ++ tellings_of rs
 
 -- "counters and timers … and stop with a run in progress exactly when the walk says `open`": a reader's end as a walk's, with n Starts counted
 unfoldable pub plain_end : ℕ → Plain → Walking
-plain_end n p = record { answer = Ended n p.running; state = p.state }
+plain_end n p = record { answer = walk_ended n p.running; state = p.state }
 
 -- ---- the reader's readings: what it tells at a symbol, as a reading of the Start whose run that symbol ends, and `none` or `open` at the end
 

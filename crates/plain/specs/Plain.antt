@@ -1,7 +1,7 @@
 -- Document 02, item 12: a reader that "takes one symbol at a time, keeps a run count, the first octets and a running FCS in its state, and answers at each
 -- ending control symbol". Its rules are those of crate `kept`. That it gives what the walk gives is the claim of proofs/Walk.antt.
-use Rattle.std.specs.Prelude.{ℕ, ◌+◌, ◌%◌, ◌^◌, false, cond, List, [], ◌∷◌, ◌++◌, drop, ◌==◌, nat_le, nat_lt, slice_index, slice_set}
-use Rattle.std.proofs.Math.Option.{Option}
+use Rattle.station.specs.Numbers.{Checked}
+use Rattle.std.specs.Prelude.{ℕ, ◌+◌, ◌%◌, ◌^◌, false, cond, List, [], ◌∷◌, ◌++◌, drop, ◌==◌, nat_le, nat_lt, slice_index, slice_set, Err, Ok, Option}
 use Rattle.line.specs.Limits.{preamble_size, fcs_size}
 use Rattle.line.specs.Line.{Symbol, is_data, start}
 use Rattle.line.specs.Table.{first}
@@ -10,8 +10,6 @@ use Rattle.station.specs.declared.Address.{Address}
 use Rattle.station.specs.declared.Settings.{Settings}
 use Rattle.station.specs.declared.State.{State}
 use Rattle.station.specs.declared.Outcome.{Outcome}
-use Rattle.station.specs.declared.Checked.{Checked}
-use Rattle.station.specs.declared.Checked.TheVariants.{Fine}
 use Rattle.table.specs.declared.Entry.{Entry}
 use Rattle.table.specs.Entries.{mine}
 use Rattle.receive.specs.Reading.{state_after}
@@ -63,8 +61,8 @@ after_control s own p o =
 
 -- "with the state kept"
 unfoldable pub step_checked : Checked → Settings → List (Option Address) → Plain → Symbol → Step
-step_checked (Checked.Refused x) s own p y = record { told = Told.Refused x; plain = p }
-step_checked Fine s own p y = cond (is_data y) (after_data p y.octet) (after_control s own p y.octet)
+step_checked (Err x) s own p y = record { told = Told.Refused x; plain = p }
+step_checked (Ok _) s own p y = cond (is_data y) (after_data p y.octet) (after_control s own p y.octet)
 
 -- a symbol in any state
 unfoldable pub step : Settings → ℕ → List Entry → Plain → Symbol → Step

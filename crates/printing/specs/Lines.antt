@@ -1,5 +1,6 @@
 -- Document 01, "The printing program": what it prints, by what it reads.
-use Rattle.std.specs.Prelude.{ℕ, ◌+◌, ◌*◌, ◌%◌, Bool, true, false, cond, ◌||◌, List, [], ◌∷◌, ◌++◌, length, eqb, ltb}
+use Rattle.std.proofs.Common.{sym, ap}
+use Rattle.std.specs.Prelude.{◌≡◌, ℕ, ◌+◌, ◌*◌, ◌%◌, Bool, true, false, cond, ◌||◌, List, [], ◌∷◌, ◌++◌, length, eqb, ltb}
 use Rattle.line.specs.Limits.{least_limit, most_records}
 use Rattle.station.specs.declared.Settings.{Settings}
 use Rattle.station.specs.declared.Flow.TheVariants.{Off}
@@ -88,3 +89,9 @@ printed input =
     cond (bad_input input)
     (98 ∷ 97 ∷ 100 ∷ space ∷ 105 ∷ 110 ∷ 112 ∷ 117 ∷ 116 ∷ newline ∷ [])
     (capture_lines (record_octets input) (record_marks input))
+
+-- so of an input that is not good it prints `bad input`
+pub printed_bad : (input : List ℕ) → bad_input input ≡ true → (98 ∷ 97 ∷ 100 ∷ 32 ∷ 105 ∷ 110 ∷ 112 ∷ 117 ∷ 116 ∷ 10 ∷ []) ≡ printed input
+unfolding printed
+printed_bad input bad =
+    sym (ap (λ (b : Bool). cond b (98 ∷ 97 ∷ 100 ∷ 32 ∷ 105 ∷ 110 ∷ 112 ∷ 117 ∷ 116 ∷ 10 ∷ []) (capture_lines (record_octets input) (record_marks input))) bad)

@@ -1,10 +1,10 @@
 -- What the claims of document 02, items 4 and 11, speak of. The theorems are proofs/Claims.antt and proofs/Room.antt.
-use Rattle.std.specs.Prelude.{ℕ, zero, suc, ◌+◌, ◌-◌, ◌*◌, ◌/◌, ◌%◌, ◌^◌, ◌≤◌, ◌<◌, ◌≡◌, true, false, ◌↔◌, ◌⊎◌, List, [], ◌∷◌, ◌++◌, map, length, get_or, take, drop, set, replicate, eqb}
+use Rattle.std.specs.Prelude.{ℕ, zero, suc, ◌+◌, ◌-◌, ◌*◌, ◌/◌, ◌%◌, ◌^◌, ◌≤◌, ◌<◌, ◌≡◌, true, false, ◌↔◌, ◌⊎◌, List, [], ◌∷◌, ◌++◌}
+use Rattle.std.specs.Prelude.{map, length, get_or, take, drop, set, replicate, eqb, Ok}
 use Rattle.std.proofs.Math.Option.{none, some}
 use Rattle.line.specs.Limits.{record_size}
 use Rattle.line.specs.Line.{overwrite}
 use Rattle.reading_log.specs.declared.Record.{Record}
-use Rattle.reading_log.specs.declared.LogRead.TheVariants.{Holds}
 use Rattle.reading_log.specs.declared.Reader.{Reader}
 use Rattle.reading_log.specs.Log.{octets_of_record, record_of, is_used, counts, slot_at, slots, used_ones, used_count, remaining, at_front, compacted}
 use Rattle.reading_log.specs.Log.{appending, record_read, used_records}
@@ -176,7 +176,7 @@ pub record HandsOutOrRefuses (r : Reader) : Type 0 where
   pub eleven : (log_read_refusal (hand_out r).given ≡ 11) ↔ (IsMultiple r.log.now → ⊥)
   pub thirteen : (log_read_refusal (hand_out r).given ≡ 13) ↔ (IsMultiple r.log.now × NoneUsed r.log.now r.at)
   pub skips : (k : ℕ) → IsMultiple r.log.now → IsNextUsed r.log.now r.at k
-      → hand_out r ≡ handing (Holds (record_of (slot_at r.log.now k))) (record { log = r.log; at = k + 1 })
+      → hand_out r ≡ handing (Ok (record_of (slot_at r.log.now k))) (record { log = r.log; at = k + 1 })
   pub refused : 0 < log_read_refusal (hand_out r).given → (hand_out r).reader ≡ r
   pub keeps : (hand_out r).reader.log ≡ r.log
   pub given : NoHole r.log.now → (hand_out r).given ≡ record_read r.log.now r.at

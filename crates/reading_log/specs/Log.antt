@@ -1,17 +1,13 @@
 -- Document 02, items 4 and 11: the reading log. A log is the octets of a lent buffer; its records stand side by side from the front on.
-use Rattle.std.specs.Prelude.{ℕ, zero, suc, ◌+◌, ◌-◌, ◌*◌, ◌/◌, ◌%◌, Bool, true, false, not, ◌&&◌, ◌||◌, cond, List, [], ◌∷◌, ◌++◌, map, length, get_or, take, drop, replicate, eqb, ltb}
+use Rattle.std.specs.Prelude.{ℕ, zero, suc, ◌+◌, ◌-◌, ◌*◌, ◌/◌, ◌%◌, Bool, true, false, not, ◌&&◌, ◌||◌, cond, List, [], ◌∷◌, ◌++◌}
+use Rattle.std.specs.Prelude.{map, length, get_or, take, drop, replicate, eqb, ltb, Result, Ok, Err}
 use Rattle.line.specs.Limits.{record_size}
 use Rattle.line.specs.Line.{overwrite}
 use Rattle.line.specs.Octets.{low_first}
 use Rattle.line.specs.Table.{Table, ◌⇒◌, ◌∣◌, otherwise, first}
 use Rattle.reading_log.specs.declared.Record.{Record}
+use Rattle.reading_log.specs.declared.LogRefusal.{LogRefusal}
 use Rattle.reading_log.specs.declared.LogRefusal.TheVariants.{BadLog, LogFull, NotUsed}
-use Rattle.reading_log.specs.declared.Logged.{Logged}
-use Rattle.reading_log.specs.declared.Logged.TheVariants.{Fine, Refused}
-use Rattle.reading_log.specs.declared.LogRead.{LogRead}
-use Rattle.reading_log.specs.declared.LogRead.TheVariants.{Holds}
-use Rattle.reading_log.specs.declared.LogNumber.{LogNumber}
-use Rattle.reading_log.specs.declared.LogNumber.TheVariants.{Number}
 
 -- ---- One record
 
@@ -100,24 +96,24 @@ unfoldable pub bad_log : List ℕ → Bool
 bad_log l = not (eqb (length l % record_size) 0)
 
 -- "with outcome 0 … it appends nothing and never gives 12"
-unfoldable pub append_refusals : List ℕ → Record → Table Logged
-append_refusals l r = bad_log l ⇒ Refused BadLog ∣ (counts r && all_used (slots l)) ⇒ Refused LogFull ∣ otherwise Fine
+unfoldable pub append_refusals : List ℕ → Record → Table (Result (Unit {0}) LogRefusal)
+append_refusals l r = bad_log l ⇒ Err BadLog ∣ (counts r && all_used (slots l)) ⇒ Err LogFull ∣ otherwise (Ok tt)
 
-unfoldable pub record_refusals : List ℕ → ℕ → Table Logged
-record_refusals l k = bad_log l ⇒ Refused BadLog ∣ not (is_used (slot_at l k)) ⇒ Refused NotUsed ∣ otherwise Fine
+unfoldable pub record_refusals : List ℕ → ℕ → Table (Result (Unit {0}) LogRefusal)
+record_refusals l k = bad_log l ⇒ Err BadLog ∣ not (is_used (slot_at l k)) ⇒ Err NotUsed ∣ otherwise (Ok tt)
 
 -- of a call on all records
-unfoldable pub log_refusals : List ℕ → Table Logged
-log_refusals l = bad_log l ⇒ Refused BadLog ∣ otherwise Fine
+unfoldable pub log_refusals : List ℕ → Table (Result (Unit {0}) LogRefusal)
+log_refusals l = bad_log l ⇒ Err BadLog ∣ otherwise (Ok tt)
 
 -- ---- Appending
 
 -- what a call gives, and the lent log after it: a record, so that a promise is one equation
 pub record Logging : Type 0 where
-  pub given : Logged
+  pub given : Result (Unit {0}) LogRefusal
   pub log : List ℕ
 
-abbrev pub logging : Logged → List ℕ → Logging
+abbrev pub logging : Result (Unit {0}) LogRefusal → List ℕ → Logging
 logging a l = record { given = a; log = l }
 
 -- "and compacts first if that one is the last slot": the log with a slot free behind its last used record, unless every record is used
@@ -129,9 +125,9 @@ unfoldable pub appended : List ℕ → Record → List ℕ
 appended l r = elim (counts r) [ true ↦ overwrite (roomy l) (record_size * extent (roomy l)) (octets_of_record r) | false ↦ l ]
 
 -- a refusal leaves the log as it was
-unfoldable pub append_checked : Logged → List ℕ → Record → Logging
-append_checked (Refused x) l r = logging (Refused x) l
-append_checked Fine l r = logging Fine (appended l r)
+unfoldable pub append_checked : Result (Unit {0}) LogRefusal → List ℕ → Record → Logging
+append_checked (Err x) l r = logging (Err x) l
+append_checked (Ok _) l r = logging (Ok tt) (appended l r)
 
 unfoldable pub appending : List ℕ → Record → Logging
 appending l r = append_checked (first (append_refusals l r)) l r
@@ -139,17 +135,17 @@ appending l r = append_checked (first (append_refusals l r)) l r
 -- ---- Reading
 
 -- the record of a stated number
-unfoldable pub record_checked : Logged → List ℕ → ℕ → LogRead
-record_checked (Refused x) l k = LogRead.Refused x
-record_checked Fine l k = Holds (record_of (slot_at l k))
+unfoldable pub record_checked : Result (Unit {0}) LogRefusal → List ℕ → ℕ → Result Record LogRefusal
+record_checked (Err x) l k = Err x
+record_checked (Ok _) l k = Ok (record_of (slot_at l k))
 
-unfoldable pub record_read : List ℕ → ℕ → LogRead
+unfoldable pub record_read : List ℕ → ℕ → Result Record LogRefusal
 record_read l k = record_checked (first (record_refusals l k)) l k
 
 -- how many records are used
-unfoldable pub number_checked : Logged → ℕ → LogNumber
-number_checked (Refused x) n = LogNumber.Refused x
-number_checked Fine n = Number n
+unfoldable pub number_checked : Result (Unit {0}) LogRefusal → ℕ → Result ℕ LogRefusal
+number_checked (Err x) n = Err x
+number_checked (Ok _) n = Ok n
 
-unfoldable pub used_records : List ℕ → LogNumber
+unfoldable pub used_records : List ℕ → Result ℕ LogRefusal
 used_records l = number_checked (first (log_refusals l)) (used_count l)

@@ -1,8 +1,8 @@
 -- Document 02, item 4: "A reader that keeps the lent log and its place and hands out the next record"; item 11: "The reader skips deleted records".
-use Rattle.std.specs.Prelude.{ℕ, ◌+◌, true, false, List, [], ◌∷◌, drop}
+use Rattle.std.specs.Prelude.{ℕ, ◌+◌, true, false, List, [], ◌∷◌, drop, Result, Ok, Err}
 use Rattle.std.specs.Borrow.{Bor}
-use Rattle.reading_log.specs.declared.LogRead.{LogRead}
-use Rattle.reading_log.specs.declared.LogRead.TheVariants.{Holds}
+use Rattle.reading_log.specs.declared.Record.{Record}
+use Rattle.reading_log.specs.declared.LogRefusal.{LogRefusal}
 use Rattle.reading_log.specs.declared.Step.{Step}
 use Rattle.reading_log.specs.declared.Reader.{Reader}
 use Rattle.reading_log.specs.Log.{is_used, slots, record_read}
@@ -18,9 +18,9 @@ next_used l at = at + skipped (drop at (slots l))
 
 -- what is handed out from a number on, by what is read of record k, the next one, and the number after that: behind that record, and the same after a
 -- refusal
-unfoldable pub step_of : LogRead → ℕ → ℕ → Step
-step_of (LogRead.Refused x) at k = record { read = LogRead.Refused x; at = at }
-step_of (Holds r) at k = record { read = Holds r; at = k + 1 }
+unfoldable pub step_of : Result Record LogRefusal → ℕ → ℕ → Step
+step_of (Err x) at k = record { read = Err x; at = at }
+step_of (Ok r) at k = record { read = Ok r; at = k + 1 }
 
 unfoldable pub next_step : List ℕ → ℕ → Step
 next_step l at = step_of (record_read l (next_used l at)) at (next_used l at)
@@ -31,10 +31,10 @@ reader_of l = record { log = l; at = 0 }
 
 -- what a reader hands out, and the reader after that: a record, so that a promise is one equation
 pub record Handing : Type 0 where
-  pub given : LogRead
+  pub given : Result Record LogRefusal
   pub reader : Reader
 
-abbrev pub handing : LogRead → Reader → Handing
+abbrev pub handing : Result Record LogRefusal → Reader → Handing
 handing x r = record { given = x; reader = r }
 
 -- it keeps its log, and moves its place on

@@ -1,19 +1,16 @@
 -- Document 02, item 11: deleting records, and compaction as a call.
-use Rattle.std.specs.Prelude.{ℕ, ◌+◌, ◌*◌, Bool, true, false, ◌&&◌, List, [], ◌∷◌, get_or, set, eqb}
+use Rattle.std.specs.Prelude.{ℕ, ◌+◌, ◌*◌, Bool, true, false, ◌&&◌, List, [], ◌∷◌, get_or, set, eqb, Result, Ok, Err}
 use Rattle.line.specs.Limits.{record_size}
 use Rattle.line.specs.Table.{first}
-use Rattle.reading_log.specs.declared.Logged.{Logged}
-use Rattle.reading_log.specs.declared.Logged.TheVariants.{Fine, Refused}
-use Rattle.reading_log.specs.declared.LogNumber.{LogNumber}
-use Rattle.reading_log.specs.declared.LogNumber.TheVariants.{Number}
+use Rattle.reading_log.specs.declared.LogRefusal.{LogRefusal}
 use Rattle.reading_log.specs.Log.{is_used, slots, joined, compacted, record_refusals, log_refusals, Logging, logging}
 
 -- ---- One record: "A deleted record's outcome octet becomes 0"
 
 -- a refusal leaves the log as it was, here and below
-unfoldable pub delete_checked : Logged → List ℕ → ℕ → Logging
-delete_checked (Refused x) l k = logging (Refused x) l
-delete_checked Fine l k = logging Fine (set l (record_size * k + 4) 0)
+unfoldable pub delete_checked : Result (Unit {0}) LogRefusal → List ℕ → ℕ → Logging
+delete_checked (Err x) l k = logging (Err x) l
+delete_checked (Ok _) l k = logging (Ok tt) (set l (record_size * k + 4) 0)
 
 unfoldable pub deleting : List ℕ → ℕ → Logging
 deleting l k = delete_checked (first (record_refusals l k)) l k
@@ -35,24 +32,24 @@ count_of o (s ∷ ss) = elim (has_outcome o s) [ true ↦ 1 + count_of o ss | fa
 
 -- the number that a call gives, and the lent log after it
 pub record Numbered : Type 0 where
-  pub given : LogNumber
+  pub given : Result ℕ LogRefusal
   pub log : List ℕ
 
-abbrev pub numbered : LogNumber → List ℕ → Numbered
+abbrev pub numbered : Result ℕ LogRefusal → List ℕ → Numbered
 numbered a l = record { given = a; log = l }
 
-unfoldable pub delete_all_checked : Logged → List ℕ → ℕ → Numbered
-delete_all_checked (Refused x) l o = numbered (LogNumber.Refused x) l
-delete_all_checked Fine l o = numbered (Number (count_of o (slots l))) (joined (deleted_all o (slots l)))
+unfoldable pub delete_all_checked : Result (Unit {0}) LogRefusal → List ℕ → ℕ → Numbered
+delete_all_checked (Err x) l o = numbered (Err x) l
+delete_all_checked (Ok _) l o = numbered (Ok (count_of o (slots l))) (joined (deleted_all o (slots l)))
 
 unfoldable pub deleting_all : List ℕ → ℕ → Numbered
 deleting_all l o = delete_all_checked (first (log_refusals l)) l o
 
 -- ---- Compaction
 
-unfoldable pub compact_checked : Logged → List ℕ → Logging
-compact_checked (Refused x) l = logging (Refused x) l
-compact_checked Fine l = logging Fine (compacted l)
+unfoldable pub compact_checked : Result (Unit {0}) LogRefusal → List ℕ → Logging
+compact_checked (Err x) l = logging (Err x) l
+compact_checked (Ok _) l = logging (Ok tt) (compacted l)
 
 unfoldable pub compacting : List ℕ → Logging
 compacting l = compact_checked (first (log_refusals l)) l

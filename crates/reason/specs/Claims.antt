@@ -1,6 +1,5 @@
 -- What the claims of document 02, item 8, speak of. The theorems are proofs/Claims.antt.
-use Rattle.std.specs.Prelude.{ℕ, ◌+◌, ◌-◌, ◌*◌, ◌≤◌, ◌<◌, ◌≡◌, Bool, true, false, List, [], ◌∷◌, length, get_or, take, drop, replicate}
-use Rattle.std.proofs.Math.Option.{Option}
+use Rattle.std.specs.Prelude.{ℕ, ◌+◌, ◌-◌, ◌*◌, ◌≤◌, ◌<◌, ◌≡◌, Bool, true, false, List, [], ◌∷◌, length, get_or, take, drop, replicate, Option}
 use Rattle.line.specs.Limits.{preamble_size, lead_size, least_frame, tag_size}
 use Rattle.line.specs.Line.{capture, terminate, preamble, ended, after_start}
 use Rattle.line.specs.Table.{Table, otherwise, ◌∣◌}
@@ -15,7 +14,6 @@ use Rattle.control.specs.Control.{opcode, filtered, takes_pause, takes_pfc, drop
 use Rattle.outcome.specs.Outcomes.{outcomes, frame_of}
 use Rattle.receive.specs.declared.Reading.{Reading}
 use Rattle.receive.specs.Values.{answer_outcome, answer_refusal, answer_part, is_counted}
-use Rattle.reason.specs.declared.Six.{Six}
 use Rattle.reason.specs.declared.Reason.{Reason}
 use Rattle.reason.specs.declared.Reason.TheVariants.{CutAt, ShortRun, WrongOctet, TooShort, TooLong, FcsDiffers, LengthBroken, NotForUs, TookPause, TookPfc, DroppedControl, Handed}
 use Rattle.reason.specs.Reasons.{received}
@@ -27,10 +25,6 @@ use Rattle.reason.specs.Values.{reason_number, why_outcome, why_refusal, why_par
 -- the octets of a capture are octets, as those of every lent buffer are
 abbrev pub AllOctets : List ℕ → Type 0
 AllOctets os = (k : ℕ) → get_or os k 0 < 256
-
--- six octets as an address
-abbrev pub octets_in : Six → List ℕ
-octets_in d = d.0 ∷ d.1 ∷ d.2 ∷ d.3 ∷ d.4 ∷ d.5 ∷ []
 
 -- "the first wrong place": k is the first at which a run is not as the preamble
 pub record FirstWrong (run : List ℕ) (k : ℕ) : Type 0 where
@@ -48,7 +42,7 @@ Fact s own i run by (TooLong n m) = (n ≡ length (frame_of run)) × (m ≡ s.li
 Fact s own i run by (FcsDiffers a b) = (a ≡ received (frame_of run)) × (b ≡ fcs_of (covered (frame_of run))) × (a ≡ b → ⊥)
 Fact s own i run by (LengthBroken n m) =
     (n ≡ field (frame_of run)) × (m ≡ length (frame_data (frame_of run))) × (s.checking ≡ true) × (kept (tag_count (frame_of run)) n m ≡ false)
-Fact s own i run by (NotForUs d) = (octets_in d ≡ destination (frame_of run)) × (filtered s own (frame_of run) ≡ true)
+Fact s own i run by (NotForUs d) = (d.0 ≡ destination (frame_of run)) × (filtered s own (frame_of run) ≡ true)
 Fact s own i run by (TookPause n) = (n ≡ opcode (frame_of run)) × (takes_pause s (frame_of run) ≡ true)
 Fact s own i run by (TookPfc n) = (n ≡ opcode (frame_of run)) × (takes_pfc s (frame_of run) ≡ true)
 Fact s own i run by (DroppedControl n) = (n ≡ opcode (frame_of run)) × (drops_control s (frame_of run) ≡ true)

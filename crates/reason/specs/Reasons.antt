@@ -1,8 +1,6 @@
 -- Document 02, item 8: why a Start has its outcome, with the evidence. `own` is what the job has of the address table (item 10).
-use Rattle.std.specs.Prelude.{ℕ, ◌+◌, ◌-◌, ◌*◌, Bool, true, false, List, [], ◌∷◌, length, get_or, drop, eqb, ltb}
-use Rattle.std.proofs.Math.Option.{Option}
-use Rattle.line.specs.declared.Found.{Found}
-use Rattle.line.specs.declared.Found.TheVariants.{At}
+use Rattle.station.specs.Numbers.{Checked}
+use Rattle.std.specs.Prelude.{ℕ, ◌+◌, ◌-◌, ◌*◌, Bool, true, false, List, [], ◌∷◌, length, drop, eqb, ltb, Err, None, Ok, Option, Some}
 use Rattle.line.specs.Limits.{preamble_size, lead_size, least_frame, tag_size, fcs_size}
 use Rattle.line.specs.Line.{Symbol, capture, find_start, AfterStart, unended, ended, after_start, preamble}
 use Rattle.line.specs.Octets.{low_first}
@@ -12,18 +10,15 @@ use Rattle.station.specs.declared.Address.{Address}
 use Rattle.station.specs.declared.Settings.{Settings}
 use Rattle.station.specs.declared.Outcome.{Outcome}
 use Rattle.station.specs.declared.Outcome.TheVariants.{Cut, BadPreamble, Undersized, Oversized, WrongFcs, WrongLength, Filtered, PauseTaken, PfcTaken, ControlDropped, HandedOut}
-use Rattle.station.specs.declared.Checked.{Checked}
-use Rattle.station.specs.declared.Checked.TheVariants.{Fine}
 use Rattle.fields.specs.Tags.{tag_count}
 use Rattle.fields.specs.Fields.{field, data_place}
 use Rattle.frame.specs.Frame.{frame_data, covered}
 use Rattle.frame.specs.Length.{handed_length}
 use Rattle.table.specs.declared.Entry.{Entry}
-use Rattle.table.specs.Entries.{mine}
+use Rattle.table.specs.Entries.{mine, address_at}
 use Rattle.control.specs.Control.{opcode}
 use Rattle.outcome.specs.Outcomes.{outcome, frame_of}
 use Rattle.receive.specs.Reading.{read_refusals}
-use Rattle.reason.specs.declared.Six.{Six}
 use Rattle.reason.specs.declared.Reason.{Reason}
 use Rattle.reason.specs.declared.Reason.TheVariants.{CutAt, ShortRun, WrongOctet, TooShort, TooLong, FcsDiffers, LengthBroken, NotForUs, TookPause, TookPfc, DroppedControl, Handed}
 use Rattle.reason.specs.declared.Why.{Why}
@@ -62,10 +57,6 @@ length_reason f = LengthBroken (field f) (length (frame_data f))
 unfoldable pub handed_reason : Bool → ℕ → List ℕ → Reason
 handed_reason checking at f = Handed (at + data_place f) (handed_length checking f)
 
--- the six octets of the destination
-unfoldable pub six_of : List ℕ → Six
-six_of f = record { 0 = get_or f 0 0; 1 = get_or f 1 0; 2 = get_or f 2 0; 3 = get_or f 3 0; 4 = get_or f 4 0; 5 = get_or f 5 0 }
-
 -- "for cut, the place and octet of the ending symbol; …; for filtered, the destination; for 8 to 10, the opcode": of a Start at place i, whose run is
 -- ended by the control octet `by`
 unfoldable pub reason_for : Settings → ℕ → List ℕ → ℕ → Outcome → Reason
@@ -75,7 +66,7 @@ reason_for s i run by Undersized = TooShort (length (frame_of run)) least_frame
 reason_for s i run by Oversized = long_reason s.limit (frame_of run)
 reason_for s i run by WrongFcs = fcs_reason (frame_of run)
 reason_for s i run by WrongLength = length_reason (frame_of run)
-reason_for s i run by Filtered = NotForUs (six_of (frame_of run))
+reason_for s i run by Filtered = NotForUs (address_at (frame_of run) 0)
 reason_for s i run by PauseTaken = TookPause (opcode (frame_of run))
 reason_for s i run by PfcTaken = TookPfc (opcode (frame_of run))
 reason_for s i run by ControlDropped = DroppedControl (opcode (frame_of run))
@@ -92,14 +83,14 @@ unfoldable pub explain_start : Settings → List (Option Address) → ℕ → Af
 explain_start s own i unended = record { answer = Open; start = i; next = i }
 explain_start s own i (ended run by) = record { answer = Because (reason_of s own i run by); start = i; next = i + 1 + length run }
 
-unfoldable pub explain_found : Settings → List (Option Address) → List Symbol → Found → Explained
-explain_found s own c Found.Nothing = record { answer = Why.Nothing; start = length c; next = length c }
-explain_found s own c (At i) = explain_start s own i (after_start (drop (i + 1) c))
+unfoldable pub explain_found : Settings → List (Option Address) → List Symbol → Option ℕ → Explained
+explain_found s own c None = record { answer = Why.Nothing; start = length c; next = length c }
+explain_found s own c (Some i) = explain_start s own i (after_start (drop (i + 1) c))
 
 -- "Refusals: 1 to 3 as in reading." Item 10: "Item 8's tool gives 14 and 20 as reading does."
 unfoldable pub explain_checked : Checked → Settings → List (Option Address) → List ℕ → List ℕ → ℕ → Explained
-explain_checked (Checked.Refused x) s own os ms place = record { answer = Why.Refused x; start = place; next = place }
-explain_checked Fine s own os ms place = explain_found s own (capture os ms) (find_start (capture os ms) place)
+explain_checked (Err x) s own os ms place = record { answer = Why.Refused x; start = place; next = place }
+explain_checked (Ok _) s own os ms place = explain_found s own (capture os ms) (find_start (capture os ms) place)
 
 unfoldable pub explained : Settings → ℕ → List Entry → List ℕ → List ℕ → ℕ → Explained
 explained s job es os ms place = explain_checked (first (read_refusals s job es os ms place)) s (mine job es) os ms place

@@ -1,9 +1,7 @@
 -- Document 01, "Reading one Start" and, for reading, "Refusals and their order": what a reading gives, exact for refusals too. Document 02, item 10: a
 -- reading is of a job, 0 or 1, and goes by the address table `es`; behind the refusals it sees `own`, the job's own entries, and nothing else of the table.
-use Rattle.std.specs.Prelude.{ℕ, ◌+◌, ◌-◌, cond, ◌&&◌, List, [], length, take, drop, nat_le}
-use Rattle.std.proofs.Math.Option.{Option}
-use Rattle.line.specs.declared.Found.{Found}
-use Rattle.line.specs.declared.Found.TheVariants.{At}
+use Rattle.station.specs.Numbers.{Checked}
+use Rattle.std.specs.Prelude.{ℕ, ◌+◌, ◌-◌, cond, ◌&&◌, List, [], length, take, drop, nat_le, Err, None, Ok, Option, Some}
 use Rattle.line.specs.Limits.{lead_size}
 use Rattle.line.specs.Line.{Symbol, capture, find_start, AfterStart, unended, ended, after_start}
 use Rattle.line.specs.Table.{Table, ◌⇒◌, ◌∣◌, otherwise, first}
@@ -13,8 +11,6 @@ use Rattle.station.specs.declared.State.{State}
 use Rattle.station.specs.declared.Part.{Part}
 use Rattle.station.specs.declared.Outcome.{Outcome}
 use Rattle.station.specs.declared.Refusal.TheVariants.{BadSettings, BadBuffers, BadPlace, BadJob, BadTable}
-use Rattle.station.specs.declared.Checked.{Checked}
-use Rattle.station.specs.declared.Checked.TheVariants.{Fine, Refused}
 use Rattle.station.specs.Numbers.{by_outcome}
 use Rattle.station.specs.Station.{bad_settings, bad_buffers, bad_place, counted, with_counters, with_timers}
 use Rattle.fields.specs.Fields.{data_place}
@@ -61,9 +57,9 @@ read_start s own st i unended = record { answer = Open; start = i; next = i; sta
 read_start s own st i (ended run by) = read_run s own st i run (outcome s own run by)
 
 -- "A capture with no further Start gives `none` and the capture's length as both places."
-unfoldable pub read_found : Settings → List (Option Address) → State → List Symbol → Found → Reading
-read_found s own st c Found.Nothing = record { answer = Answer.Nothing; start = length c; next = length c; state = st }
-read_found s own st c (At i) = read_start s own st i (after_start (drop (i + 1) c))
+unfoldable pub read_found : Settings → List (Option Address) → State → List Symbol → Option ℕ → Reading
+read_found s own st c None = record { answer = Answer.Nothing; start = length c; next = length c; state = st }
+read_found s own st c (Some i) = read_start s own st i (after_start (drop (i + 1) c))
 
 -- "A reading at a place finds the first Start at that place or later."
 unfoldable pub read_at : Settings → List (Option Address) → State → List Symbol → ℕ → Reading
@@ -75,17 +71,17 @@ read_at s own st c place = read_found s own st c (find_start c place)
 -- table where a job holds above 12 or has an address twice"
 unfoldable pub read_refusals : Settings → ℕ → List Entry → List ℕ → List ℕ → ℕ → Table Checked
 read_refusals s job es os ms place =
-    bad_settings s ⇒ Refused BadSettings
-    ∣ bad_job job ⇒ Refused BadJob
-    ∣ bad_buffers os ms ⇒ Refused BadBuffers
-    ∣ bad_place os place ⇒ Refused BadPlace
-    ∣ bad_table es ⇒ Refused BadTable
-    ∣ otherwise Fine
+    bad_settings s ⇒ Err BadSettings
+    ∣ bad_job job ⇒ Err BadJob
+    ∣ bad_buffers os ms ⇒ Err BadBuffers
+    ∣ bad_place os place ⇒ Err BadPlace
+    ∣ bad_table es ⇒ Err BadTable
+    ∣ otherwise (Ok tt)
 
 -- "A refusal gives its number, status 0, an empty part, the place it was called with (in a reading, as both places), the old state"
 unfoldable pub read_checked : Checked → Settings → List (Option Address) → State → List ℕ → List ℕ → ℕ → Reading
-read_checked (Refused x) s own st os ms place = record { answer = Answer.Refused x; start = place; next = place; state = st }
-read_checked Fine s own st os ms place = read_at s own st (capture os ms) place
+read_checked (Err x) s own st os ms place = record { answer = Answer.Refused x; start = place; next = place; state = st }
+read_checked (Ok _) s own st os ms place = read_at s own st (capture os ms) place
 
 -- a reading, of any job, table, octets, marks and place
 unfoldable pub reading : Settings → ℕ → List Entry → State → List ℕ → List ℕ → ℕ → Reading

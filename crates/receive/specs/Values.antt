@@ -1,11 +1,11 @@
 -- Document 01's number and values for each case of an answer ("Expected forms by place", the last paragraph).
-use Rattle.std.specs.Prelude.{ℕ, Bool, true, false, cond}
+use Rattle.std.specs.Prelude.{ℕ, Bool, true, false, cond, Result, Ok, Err}
+use Rattle.station.specs.declared.Refusal.{Refusal}
+use Rattle.receive.specs.declared.Ended.{Ended}
 use Rattle.station.specs.declared.Part.{Part}
 use Rattle.station.specs.Numbers.{outcome_number, refusal_number}
 use Rattle.receive.specs.declared.Answer.{Answer}
 use Rattle.receive.specs.declared.Answer.TheVariants.{Refused, Nothing, Open, Counted}
-use Rattle.receive.specs.declared.WalkAnswer.{WalkAnswer}
-use Rattle.receive.specs.declared.WalkAnswer.TheVariants.{Ended}
 use Rattle.receive.specs.Reading.{empty_part}
 
 -- the outcome's number; 0 for `none`, `open` and a refused reading
@@ -49,16 +49,23 @@ is_counted Nothing = false
 is_counted Open = false
 is_counted (Counted o w p v) = true
 
+-- what a walk over a whole capture answers: its refusal, or how it ended
+abbrev pub WalkAnswer : Type 0
+WalkAnswer = Result Ended Refusal
+
+abbrev pub walk_ended : ℕ → Bool → WalkAnswer
+walk_ended n is_open = Ok (record { starts = n; is_open = is_open })
+
 -- a walk's refusal, or 0
 abbrev pub walk_refusal : WalkAnswer → ℕ
-walk_refusal (WalkAnswer.Refused x) = refusal_number x
-walk_refusal (Ended n b) = 0
+walk_refusal (Err x) = refusal_number x
+walk_refusal (Ok e) = 0
 
 -- how a walk ended: "the number of counted Starts", and "1 if the walk ended `open`, else 0"; 0 and 0 for a refused one
 abbrev pub walk_starts : WalkAnswer → ℕ
-walk_starts (WalkAnswer.Refused x) = 0
-walk_starts (Ended n b) = n
+walk_starts (Err x) = 0
+walk_starts (Ok e) = e.starts
 
 abbrev pub walk_open : WalkAnswer → ℕ
-walk_open (WalkAnswer.Refused x) = 0
-walk_open (Ended n b) = cond b 1 0
+walk_open (Err x) = 0
+walk_open (Ok e) = cond e.is_open 1 0

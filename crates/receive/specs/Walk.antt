@@ -1,5 +1,6 @@
 -- Document 01, "Reading one Start": "a walk from place 0 until `none` or `open`".
-use Rattle.std.specs.Prelude.{ℕ, zero, suc, ◌+◌, true, false, List, [], ◌∷◌, ◌++◌, length}
+use Rattle.receive.specs.Values.{walk_ended}
+use Rattle.std.specs.Prelude.{ℕ, zero, suc, ◌+◌, true, false, List, [], ◌∷◌, ◌++◌, length, Err}
 use Rattle.station.specs.declared.Settings.{Settings}
 use Rattle.station.specs.declared.State.{State}
 use Rattle.station.specs.Numbers.{by_outcome}
@@ -7,8 +8,6 @@ use Rattle.table.specs.declared.Entry.{Entry}
 use Rattle.receive.specs.declared.Answer.{Answer}
 use Rattle.receive.specs.declared.Answer.TheVariants.{Nothing, Open, Counted}
 use Rattle.receive.specs.declared.Reading.{Reading}
-use Rattle.receive.specs.declared.WalkAnswer.{WalkAnswer}
-use Rattle.receive.specs.declared.WalkAnswer.TheVariants.{Ended}
 use Rattle.receive.specs.declared.Walking.{Walking}
 use Rattle.receive.specs.Reading.{reading, part_of}
 use Rattle.receive.specs.Values.{is_counted}
@@ -27,12 +26,12 @@ walk s job es st os ms = readings_from (length os + 1) s job es st os ms 0
 
 -- what readings come to: how many counted a Start, whether the last one was `open`, or its refusal; and the state that they left
 unfoldable pub walk_of : ℕ → State → List Reading → Walking
-walk_of n st [] = record { answer = Ended n false; state = st }
+walk_of n st [] = record { answer = walk_ended n false; state = st }
 walk_of n st (r ∷ rs) =
     elim r.answer [
-      | Answer.Refused x ↦ record { answer = WalkAnswer.Refused x; state = r.state }
-      | Nothing ↦ record { answer = Ended n false; state = r.state }
-      | Open ↦ record { answer = Ended n true; state = r.state }
+      | Answer.Refused x ↦ record { answer = Err x; state = r.state }
+      | Nothing ↦ record { answer = walk_ended n false; state = r.state }
+      | Open ↦ record { answer = walk_ended n true; state = r.state }
       | Counted o w p v ↦ walk_of (n + 1) r.state rs
     ]
 

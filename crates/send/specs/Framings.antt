@@ -1,11 +1,10 @@
 -- Internal: what the checks of a frame promise the calls that send it: a table's answer, with the gap that was reckoned for it.
-use Rattle.station.specs.declared.Checked.{Checked}
-use Rattle.station.specs.declared.Checked.TheVariants.{Fine, Refused}
+use Rattle.std.specs.Prelude.{Err, Ok, Result}
+use Rattle.station.specs.Numbers.{Checked}
+use Rattle.station.specs.declared.Refusal.{Refusal}
 use Rattle.writing.specs.declared.Gap.{Gap}
-use Rattle.send.specs.declared.Framing.{Framing}
-use Rattle.send.specs.declared.Framing.TheVariants.{Goes}
 
 -- the gap where the table refuses nothing, else its refusal
-unfoldable pub with_gap : Gap → Checked → Framing
-with_gap g Fine = Goes g
-with_gap g (Refused x) = Framing.Refused x
+unfoldable pub with_gap : Gap → Checked → Result Gap Refusal
+with_gap g (Ok _) = Ok g
+with_gap g (Err x) = Err x

@@ -1,6 +1,7 @@
 -- Document 01, "Sending" and, for sending, "Refusals and their order": the four calls. Each is a table of refusals and the symbols it writes;
 -- what is common to them stands here once.
-use Rattle.std.specs.Prelude.{ℕ, ◌+◌, ◌-◌, Bool, false, not, ◌||◌, List, [], length, eqb, ltb}
+use Rattle.station.specs.Numbers.{Checked}
+use Rattle.std.specs.Prelude.{ℕ, ◌+◌, ◌-◌, Bool, false, not, ◌||◌, List, [], length, eqb, ltb, Err, Ok}
 use Rattle.line.specs.Limits.{least_type, most_length, most_class, around_data, most_tags}
 use Rattle.line.specs.Line.{Symbol, octets_of, marks_of, overwrite}
 use Rattle.line.specs.Table.{Table, ◌⇒◌, ◌∣◌, otherwise, first}
@@ -10,8 +11,6 @@ use Rattle.station.specs.declared.Port.{Port}
 use Rattle.station.specs.declared.Quanta.{Quanta}
 use Rattle.station.specs.declared.Refusal.{Refusal}
 use Rattle.station.specs.declared.Refusal.TheVariants.{BadSettings, BadBuffers, BadPlace, OtherFlow, BadClass, BadType, LongData, NoRoom, Held, ManyTags, HighDeficit}
-use Rattle.station.specs.declared.Checked.{Checked}
-use Rattle.station.specs.declared.Checked.TheVariants.{Fine, Refused}
 use Rattle.station.specs.Numbers.{refusal_number}
 use Rattle.station.specs.Station.{bad_settings, bad_buffers, bad_place, bad_start, high_deficit, is_pause_mode, is_pfc_mode, with_timers, with_deficit}
 use Rattle.flow.specs.Timers.{timer, lowered}
@@ -19,8 +18,6 @@ use Rattle.writing.specs.declared.Client.{Client}
 use Rattle.writing.specs.declared.Classes.{Classes}
 use Rattle.writing.specs.declared.Form.{Form}
 use Rattle.writing.specs.declared.Form.TheVariants.{ByLength, ByType}
-use Rattle.send.specs.declared.SendAnswer.{SendAnswer}
-use Rattle.send.specs.declared.SendAnswer.TheVariants.{Wrote}
 use Rattle.send.specs.declared.Sending.{Sending}
 use Rattle.writing.specs.Frames.{client_body, pause_body, pfc_body, idle_symbols}
 use Rattle.writing.specs.Gaps.{gap_on, symbols_on}
@@ -37,14 +34,14 @@ abbrev pub send_call : Sending → List ℕ → List ℕ → SendCall
 send_call r os ms = record { given = r; octets = os; marks = ms }
 
 -- document 01's number of a refusal, 0 where symbols were written
-abbrev pub send_refusal : SendAnswer → ℕ
-send_refusal Wrote = 0
-send_refusal (SendAnswer.Refused x) = refusal_number x
+abbrev pub send_refusal : Checked → ℕ
+send_refusal (Ok _) = 0
+send_refusal (Err x) = refusal_number x
 
 -- the symbols that a call writes: none where it is refused
 unfoldable pub written : Checked → List Symbol → List Symbol
-written (Refused x) new = []
-written Fine new = new
+written (Err x) new = []
+written (Ok _) new = new
 
 -- "Every call that writes n symbols lowers each timer by n, not below zero." Document 02, item 5: "The slots that lower the timers are those really
 -- written"; and the deficit count is now `count`
@@ -53,16 +50,16 @@ state_sent st n count = with_deficit count (with_timers (lowered n st.timers) st
 
 -- what a refused call gives, and one that wrote up to a place and left a state
 abbrev pub refused_at : Refusal → ℕ → State → Sending
-refused_at x place st = record { answer = SendAnswer.Refused x; place = place; state = st }
+refused_at x place st = record { answer = Err x; place = place; state = st }
 
 abbrev pub wrote_up_to : ℕ → State → Sending
-wrote_up_to next st = record { answer = Wrote; place = next; state = st }
+wrote_up_to next st = record { answer = Ok tt; place = next; state = st }
 
 -- "gives its own place plus the number of symbols it wrote"; "lowers each timer by n"; "from the place the caller names on; every other symbol
 -- stays". "A refusal gives its number, …, the place it was called with …, the old state, and untouched buffers."
 unfoldable pub send_checked : Checked → State → List ℕ → List ℕ → ℕ → List Symbol → ℕ → SendCall
-send_checked (Refused x) st os ms place new count = send_call (refused_at x place st) os ms
-send_checked Fine st os ms place new count =
+send_checked (Err x) st os ms place new count = send_call (refused_at x place st) os ms
+send_checked (Ok _) st os ms place new count =
     send_call
     (wrote_up_to (place + length new) (state_sent st (length new) count))
     (overwrite os place (octets_of new))
@@ -102,37 +99,37 @@ held st class = ltb 0 (timer st.timers class).0
 -- counts the actual gap"
 unfoldable pub client_refusals : Settings → State → Port → List ℕ → List ℕ → ℕ → Client → List ℕ → Table Checked
 client_refusals s st port os ms place c d =
-    bad_settings s ⇒ Refused BadSettings
-    ∣ bad_buffers os ms ⇒ Refused BadBuffers
-    ∣ bad_start port os place ⇒ Refused BadPlace
-    ∣ high_deficit port st.deficit ⇒ Refused HighDeficit
-    ∣ bad_class c ⇒ Refused BadClass
-    ∣ bad_type c.form ⇒ Refused BadType
-    ∣ many_tags c ⇒ Refused ManyTags
-    ∣ long_data s.limit c.form d ⇒ Refused LongData
-    ∣ no_room os place (symbols_on port st.deficit place (client_body s c d)) ⇒ Refused NoRoom
-    ∣ held st c.class ⇒ Refused Held
-    ∣ otherwise Fine
+    bad_settings s ⇒ Err BadSettings
+    ∣ bad_buffers os ms ⇒ Err BadBuffers
+    ∣ bad_start port os place ⇒ Err BadPlace
+    ∣ high_deficit port st.deficit ⇒ Err HighDeficit
+    ∣ bad_class c ⇒ Err BadClass
+    ∣ bad_type c.form ⇒ Err BadType
+    ∣ many_tags c ⇒ Err ManyTags
+    ∣ long_data s.limit c.form d ⇒ Err LongData
+    ∣ no_room os place (symbols_on port st.deficit place (client_body s c d)) ⇒ Err NoRoom
+    ∣ held st c.class ⇒ Err Held
+    ∣ otherwise (Ok tt)
 
 -- "pause and PFC 1 to 4 and 8", of a frame of what its FCS covers; item 5: "Pause and PFC frames obey the same gaps". `inMode` says whether the flow
 -- mode is the one asked for. Of the state they look at the deficit count alone.
 unfoldable pub control_refusals : Settings → Port → ℕ → List ℕ → List ℕ → ℕ → Bool → List ℕ → Table Checked
 control_refusals s port count os ms place inMode body =
-    bad_settings s ⇒ Refused BadSettings
-    ∣ bad_buffers os ms ⇒ Refused BadBuffers
-    ∣ bad_start port os place ⇒ Refused BadPlace
-    ∣ high_deficit port count ⇒ Refused HighDeficit
-    ∣ not inMode ⇒ Refused OtherFlow
-    ∣ no_room os place (symbols_on port count place body) ⇒ Refused NoRoom
-    ∣ otherwise Fine
+    bad_settings s ⇒ Err BadSettings
+    ∣ bad_buffers os ms ⇒ Err BadBuffers
+    ∣ bad_start port os place ⇒ Err BadPlace
+    ∣ high_deficit port count ⇒ Err HighDeficit
+    ∣ not inMode ⇒ Err OtherFlow
+    ∣ no_room os place (symbols_on port count place body) ⇒ Err NoRoom
+    ∣ otherwise (Ok tt)
 
 -- "Idle fill 2, 3 and 8"; item 5: "Idle fill take any place"
 unfoldable pub idle_refusals : List ℕ → List ℕ → ℕ → List Symbol → Table Checked
 idle_refusals os ms place new =
-    bad_buffers os ms ⇒ Refused BadBuffers
-    ∣ bad_place os place ⇒ Refused BadPlace
-    ∣ no_room os place new ⇒ Refused NoRoom
-    ∣ otherwise Fine
+    bad_buffers os ms ⇒ Err BadBuffers
+    ∣ bad_place os place ⇒ Err BadPlace
+    ∣ no_room os place new ⇒ Err NoRoom
+    ∣ otherwise (Ok tt)
 
 unfoldable pub client_checked : Settings → State → Port → List ℕ → List ℕ → ℕ → Client → List ℕ → Checked
 client_checked s st port os ms place c d = first (client_refusals s st port os ms place c d)

@@ -1,11 +1,10 @@
 -- Document 02, item 13: the size table for a day of captures.
-use Rattle.std.specs.Prelude.{ℕ, ◌+◌, ◌-◌, ◌%◌, ◌^◌, Bool, true, false, cond, List, [], ◌∷◌, ◌++◌, replicate, nat_le, slice_index, slice_set}
+use Rattle.station.specs.Numbers.{Checked}
+use Rattle.std.specs.Prelude.{ℕ, ◌+◌, ◌-◌, ◌%◌, ◌^◌, Bool, true, false, cond, List, [], ◌∷◌, ◌++◌, replicate, nat_le, slice_index, slice_set, Err, Ok}
 use Rattle.line.specs.Limits.{lead_size}
 use Rattle.line.specs.Table.{Table, ◌⇒◌, ◌∣◌, otherwise, first}
 use Rattle.station.specs.declared.Settings.{Settings}
 use Rattle.station.specs.declared.Outcome.{Outcome}
-use Rattle.station.specs.declared.Checked.{Checked}
-use Rattle.station.specs.declared.Checked.TheVariants.{Fine, Refused}
 use Rattle.station.specs.Numbers.{by_outcome}
 use Rattle.station.specs.Station.{fresh}
 use Rattle.table.specs.declared.Entry.{Entry}
@@ -74,8 +73,8 @@ frame_lengths (r ∷ rs) = length_by r.answer (r.next - (r.start + lead_size)) +
 
 -- "a refused capture adds nothing"; else the frames of its whole walk. No outcome depends on the state, so any serves.
 unfoldable pub add_checked : Checked → SizeTable → Settings → ℕ → List Entry → List ℕ → List ℕ → Added
-add_checked (Refused x) t s job es os ms = record { answer = Refused x; sizes = t }
-add_checked Fine t s job es os ms = record { answer = Fine; sizes = with_frames t (frame_lengths (walk s job es fresh os ms)) }
+add_checked (Err x) t s job es os ms = record { answer = Err x; sizes = t }
+add_checked (Ok _) t s job es os ms = record { answer = Ok tt; sizes = with_frames t (frame_lengths (walk s job es fresh os ms)) }
 
 -- "Add up, over any number of captures": one of them, refused as a walk is
 unfoldable pub adding : SizeTable → Settings → ℕ → List Entry → List ℕ → List ℕ → Added

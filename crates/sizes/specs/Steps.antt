@@ -1,7 +1,6 @@
 -- Internal: the frame lengths of a capture, Start by Start, as the code finds them, and two tables that are added count by count. No promise to a
 -- caller needs it.
-use Rattle.std.specs.Prelude.{ℕ, zero, suc, cond, List, [], ◌∷◌, ◌++◌, length}
-use Rattle.std.proofs.Math.Option.{Option}
+use Rattle.std.specs.Prelude.{ℕ, zero, suc, cond, List, [], ◌∷◌, ◌++◌, length, Option}
 use Rattle.line.specs.Line.{unended, ended, MetStart}
 use Rattle.station.specs.declared.Address.{Address}
 use Rattle.station.specs.declared.Settings.{Settings}

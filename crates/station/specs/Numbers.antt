@@ -1,11 +1,9 @@
 -- Document 01's number of each outcome ("Reading one Start", the table) and of each refusal ("Refusals and their order").
-use Rattle.std.specs.Prelude.{ℕ}
+use Rattle.std.specs.Prelude.{ℕ, Result, Ok, Err}
 use Rattle.station.specs.declared.Outcome.{Outcome}
 use Rattle.station.specs.declared.Outcome.TheVariants.{Cut, BadPreamble, Undersized, Oversized, WrongFcs, WrongLength, Filtered, PauseTaken, PfcTaken, ControlDropped, HandedOut}
 use Rattle.station.specs.declared.Refusal.{Refusal}
 use Rattle.station.specs.declared.Refusal.TheVariants.{BadSettings, BadBuffers, BadPlace, OtherFlow, BadClass, BadType, LongData, NoRoom, Held, ManyTags, BadJob, HoldsTwelve, AllInUse, AlreadyListed, NotListed, HighDeficit, BadTable, WrongTotals, HighTotal}
-use Rattle.station.specs.declared.Checked.{Checked}
-use Rattle.station.specs.declared.Checked.TheVariants.{Fine, Refused}
 
 abbrev pub outcome_number : Outcome → ℕ
 outcome_number Cut = 1
@@ -41,10 +39,14 @@ refusal_number BadTable = 20
 refusal_number WrongTotals = 21
 refusal_number HighTotal = 22
 
+-- what a table of refusals gives: the first refusal that holds, or that the call goes on
+abbrev pub Checked : Type 0
+Checked = Result (Unit {0}) Refusal
+
 -- the number of what a table of refusals gives, 0 where the call goes on
 abbrev pub checked_number : Checked → ℕ
-checked_number Fine = 0
-checked_number (Refused x) = refusal_number x
+checked_number (Ok _) = 0
+checked_number (Err x) = refusal_number x
 
 -- what depends on an outcome: one value for 1 to 7, and one each for 8, 9, 10 and 11
 abbrev pub by_outcome : {A : Type 0} → Outcome → A → A → A → A → A → A

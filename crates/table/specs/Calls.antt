@@ -1,19 +1,15 @@
 -- Document 02, item 10: the table calls.
-use Rattle.std.specs.Prelude.{ℕ, ◌*◌, Bool, not, cond, List, [], ◌∷◌, ◌++◌, replicate, eqb, leb}
-use Rattle.std.proofs.Math.Option.{Option}
+use Rattle.station.specs.Numbers.{Checked}
+use Rattle.station.specs.declared.Refusal.{Refusal}
+use Rattle.std.specs.Prelude.{ℕ, ◌*◌, Bool, not, cond, List, [], ◌∷◌, ◌++◌, replicate, eqb, leb, Err, None, Ok, Option, Result, Some}
 use Rattle.std.proofs.lemmas.List.Edits.{sets}
-use Rattle.line.specs.declared.Found.{Found}
-use Rattle.line.specs.declared.Found.TheVariants.{At, Nothing}
 use Rattle.line.specs.Limits.{most_held}
 use Rattle.line.specs.Table.{Table, ◌⇒◌, ◌∣◌, otherwise, first}
 use Rattle.station.specs.declared.Address.{Address}
 use Rattle.station.specs.declared.Refusal.TheVariants.{BadJob, HoldsTwelve, AllInUse, AlreadyListed, NotListed, BadTable}
-use Rattle.station.specs.declared.Checked.{Checked}
-use Rattle.station.specs.declared.Checked.TheVariants.{Fine}
 use Rattle.table.specs.declared.Holder.{Holder}
 use Rattle.table.specs.declared.Holder.TheVariants.{Nobody, JobZero, JobOne}
 use Rattle.table.specs.declared.Entry.{Entry}
-use Rattle.table.specs.declared.Placed.{Placed}
 use Rattle.table.specs.Entries.{entries_of, free_entry, mine, own_entries, held, among, first_mine, is_found}
 use Rattle.table.specs.Tests.{bad_job, bad_table}
 
@@ -53,40 +49,40 @@ is_listed a ms = among a.0 ms
 -- "Refusals: 14 …; 20 …; then lowest first 15 holds 12; 16 all 16 in use; 17 already listed by this job …. When adding, 17 comes before 15 and 16."
 unfoldable pub add_refusals : ℕ → List Entry → Address → Table Checked
 add_refusals job es a =
-    bad_job job ⇒ Checked.Refused BadJob
-    ∣ bad_table es ⇒ Checked.Refused BadTable
-    ∣ is_listed a (mine job es) ⇒ Checked.Refused AlreadyListed
-    ∣ leb most_held (held (mine job es)) ⇒ Checked.Refused HoldsTwelve
-    ∣ not (is_found (free_entry es)) ⇒ Checked.Refused AllInUse
-    ∣ otherwise Fine
+    bad_job job ⇒ Err BadJob
+    ∣ bad_table es ⇒ Err BadTable
+    ∣ is_listed a (mine job es) ⇒ Err AlreadyListed
+    ∣ leb most_held (held (mine job es)) ⇒ Err HoldsTwelve
+    ∣ not (is_found (free_entry es)) ⇒ Err AllInUse
+    ∣ otherwise (Ok tt)
 
 -- "18 not listed by this job"
 unfoldable pub remove_refusals : ℕ → List Entry → Address → Table Checked
 remove_refusals job es a =
-    bad_job job ⇒ Checked.Refused BadJob
-    ∣ bad_table es ⇒ Checked.Refused BadTable
-    ∣ not (is_found (first_mine a.0 0 (mine job es))) ⇒ Checked.Refused NotListed
-    ∣ otherwise Fine
+    bad_job job ⇒ Err BadJob
+    ∣ bad_table es ⇒ Err BadTable
+    ∣ not (is_found (first_mine a.0 0 (mine job es))) ⇒ Err NotListed
+    ∣ otherwise (Ok tt)
 
 -- ---- the calls
 
 -- what a table call answers, and the table after it
 pub record Change : Type 0 where
-  pub answer : Placed
+  pub answer : Result ℕ Refusal
   pub table : List ℕ
 
-abbrev pub change : Placed → List ℕ → Change
+abbrev pub change : Result ℕ Refusal → List ℕ → Change
 change answer table = record { answer = answer; table = table }
 
 -- an entry in the place that was found; the refusals have seen to it that there is one
-unfoldable pub put_at : Found → List ℕ → Entry → Change
-put_at (At k) t e = change (Placed.At k) (put_entry t k e)
-put_at Nothing t e = change (Placed.Refused AllInUse) t
+unfoldable pub put_at : Option ℕ → List ℕ → Entry → Change
+put_at (Some k) t e = change (Ok k) (put_entry t k e)
+put_at None t e = change (Err AllInUse) t
 
 -- a refused call leaves every octet
-unfoldable pub changed : Checked → Found → List ℕ → Entry → Change
-changed (Checked.Refused x) found t e = change (Placed.Refused x) t
-changed Fine found t e = put_at found t e
+unfoldable pub changed : Checked → Option ℕ → List ℕ → Entry → Change
+changed (Err x) found t e = change (Err x) t
+changed (Ok _) found t e = put_at found t e
 
 -- "An addition takes the lowest free entry, so freed ones are used again."
 unfoldable pub added : ℕ → List ℕ → Address → Change

@@ -1,18 +1,18 @@
 -- What the claims of document 02, item 10, on the table speak of. The theorems are proofs/Claims.antt.
-use Rattle.std.specs.Prelude.{ℕ, ◌≡◌, Bool, ◌⊎◌, List, [], ◌∷◌, map, length, set}
+use Rattle.station.specs.declared.Refusal.{Refusal}
+use Rattle.std.specs.Prelude.{ℕ, ◌≡◌, Bool, ◌⊎◌, List, [], ◌∷◌, map, length, set, Err, Ok, Result}
 use Rattle.station.specs.declared.Address.{Address}
 use Rattle.station.specs.Numbers.{refusal_number}
 use Rattle.table.specs.declared.Entry.{Entry}
-use Rattle.table.specs.declared.Placed.{Placed}
 use Rattle.table.specs.Entries.{entries_of, unused, own_entries}
 use Rattle.table.specs.Calls.{added, removed}
 
 -- ---- one call
 
 -- the number of a call's refusal, 0 where it was not refused
-abbrev pub placed_refusal : Placed → ℕ
-placed_refusal (Placed.Refused x) = refusal_number x
-placed_refusal (Placed.At k) = 0
+abbrev pub placed_refusal : Result ℕ Refusal → ℕ
+placed_refusal (Err x) = refusal_number x
+placed_refusal (Ok k) = 0
 
 -- a number is one of those listed
 abbrev pub OneOf : List ℕ → ℕ → Type 0
@@ -20,9 +20,9 @@ OneOf [] n = ⊥
 OneOf (x ∷ xs) n = (n ≡ x) ⊎ OneOf xs n
 
 -- the entries after a call, by its answer: one was taken or freed, or none changed. Likewise anything that is said of each entry
-unfoldable pub after_call : {A : Type 0} → Placed → List A → A → List A
-after_call (Placed.Refused x) es e = es
-after_call (Placed.At k) es e = set es k e
+unfoldable pub after_call : {A : Type 0} → Result ℕ Refusal → List A → A → List A
+after_call (Err x) es e = es
+after_call (Ok k) es e = set es k e
 
 -- ---- "its additions also on which entries the other holds"
 

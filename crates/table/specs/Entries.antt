@@ -2,10 +2,7 @@
 --
 -- A table is 128 lent octets, eight for each entry: who holds it, the six octets of the address, and a spare one that is not looked at. So any octets are
 -- some table. Every definition speaks of the list of entries, and what a reading sees of it is the list of the job's own: `mine`.
-use Rattle.std.specs.Prelude.{ℕ, zero, suc, ◌+◌, ◌*◌, Bool, true, false, ◌||◌, cond, List, [], ◌∷◌, map, get_or, eqb}
-use Rattle.std.proofs.Math.Option.{Option, none, some}
-use Rattle.line.specs.declared.Found.{Found}
-use Rattle.line.specs.declared.Found.TheVariants.{At, Nothing}
+use Rattle.std.specs.Prelude.{ℕ, zero, suc, ◌+◌, ◌*◌, Bool, true, false, ◌||◌, cond, List, [], ◌∷◌, map, get_or, eqb, None, Option, Some}
 use Rattle.line.specs.Limits.{table_entries}
 use Rattle.line.specs.Octets.{same_octets}
 use Rattle.station.specs.declared.Address.{Address}
@@ -49,21 +46,21 @@ is_free JobZero = false
 is_free JobOne = false
 
 -- "the lowest free entry": the first for which a test holds; `at` is the number of the list's first entry
-unfoldable pub first_entry : (Entry → Bool) → ℕ → List Entry → Found
-first_entry test at [] = Nothing
-first_entry test at (e ∷ es) = elim (test e) [ true ↦ At at | false ↦ first_entry test (at + 1) es ]
+unfoldable pub first_entry : (Entry → Bool) → ℕ → List Entry → Option ℕ
+first_entry test at [] = None
+first_entry test at (e ∷ es) = elim (test e) [ true ↦ Some at | false ↦ first_entry test (at + 1) es ]
 
 abbrev pub unused : Entry → Bool
 unused e = is_free e.holder
 
-unfoldable pub free_entry : List Entry → Found
+unfoldable pub free_entry : List Entry → Option ℕ
 free_entry es = first_entry unused 0 es
 
 -- ---- a job's "own entries", and "where the table put them"
 
 -- an entry as a job sees it: its address, or nothing
 unfoldable pub own_at : ℕ → Entry → Option Address
-own_at job e = cond (is_held job e.holder) (some e.address) none
+own_at job e = cond (is_held job e.holder) (Some e.address) None
 
 -- at each entry the job's address, or nothing
 unfoldable pub mine : ℕ → List Entry → List (Option Address)
@@ -75,13 +72,13 @@ own_entries job t = mine job (entries_of t)
 -- how many entries it holds
 unfoldable pub held : List (Option Address) → ℕ
 held [] = 0
-held (none ∷ ms) = held ms
-held (some a ∷ ms) = 1 + held ms
+held (None ∷ ms) = held ms
+held (Some a ∷ ms) = 1 + held ms
 
 -- whether an entry lists the address `d` for the job
 unfoldable pub names : List ℕ → Option Address → Bool
-names d none = false
-names d (some a) = same_octets d a.0
+names d None = false
+names d (Some a) = same_octets d a.0
 
 -- whether the job lists `d`: "equal … a listed one, all six octets"
 unfoldable pub among : List ℕ → List (Option Address) → Bool
@@ -89,11 +86,11 @@ among d [] = false
 among d (m ∷ ms) = names d m || among d ms
 
 -- the first entry at which the job lists `d`
-unfoldable pub first_mine : List ℕ → ℕ → List (Option Address) → Found
-first_mine d at [] = Nothing
-first_mine d at (m ∷ ms) = elim (names d m) [ true ↦ At at | false ↦ first_mine d (at + 1) ms ]
+unfoldable pub first_mine : List ℕ → ℕ → List (Option Address) → Option ℕ
+first_mine d at [] = None
+first_mine d at (m ∷ ms) = elim (names d m) [ true ↦ Some at | false ↦ first_mine d (at + 1) ms ]
 
 -- whether a search found an entry
-abbrev pub is_found : Found → Bool
-is_found (At k) = true
-is_found Nothing = false
+abbrev pub is_found : Option ℕ → Bool
+is_found (Some k) = true
+is_found None = false

@@ -1,6 +1,5 @@
 -- Internal: what the table's loops promise one another. No promise to a caller needs it.
-use Rattle.std.specs.Prelude.{ℕ, ◌≡◌, Bool, true, false, cond, List, ◌∷◌, length, get_or}
-use Rattle.std.proofs.Math.Option.{Option}
+use Rattle.std.specs.Prelude.{ℕ, ◌≡◌, Bool, true, false, cond, List, ◌∷◌, length, get_or, Option}
 use Rattle.station.specs.declared.Address.{Address}
 use Rattle.table.specs.Entries.{among}
 use Rattle.table.specs.Tests.{again}

@@ -1,6 +1,5 @@
 -- Document 02, item 10: what is tested of a job and of a table before any reading and in every table call: refusals 14 and 20.
-use Rattle.std.specs.Prelude.{ℕ, Bool, false, ◌||◌, List, [], ◌∷◌, ltb}
-use Rattle.std.proofs.Math.Option.{Option, none, some}
+use Rattle.std.specs.Prelude.{ℕ, Bool, false, ◌||◌, List, [], ◌∷◌, ltb, None, Option, Some}
 use Rattle.line.specs.Limits.{most_held}
 use Rattle.station.specs.declared.Address.{Address}
 use Rattle.table.specs.declared.Entry.{Entry}
@@ -12,8 +11,8 @@ bad_job job = ltb 1 job
 
 -- whether an address of the job stands among those behind it too
 unfoldable pub again : Option Address → List (Option Address) → Bool
-again none ms = false
-again (some a) ms = among a.0 ms
+again None ms = false
+again (Some a) ms = among a.0 ms
 
 -- "has an address twice"
 unfoldable pub twice : List (Option Address) → Bool

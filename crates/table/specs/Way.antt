@@ -1,10 +1,7 @@
 -- Document 01, "Address rule", with the job's own entries "in place of the four listed ones" (document 02, item 10), and document 02, item 7: which address
 -- let a frame in. `ms` is what the job has of the table: no other entry has a part in either. That the number is above 0 exactly where the rule accepts is a
 -- theorem, `way-accepts` (proofs/Ways).
-use Rattle.std.specs.Prelude.{ℕ, ◌+◌, Bool, cond, ◌||◌, List}
-use Rattle.std.proofs.Math.Option.{Option}
-use Rattle.line.specs.declared.Found.{Found}
-use Rattle.line.specs.declared.Found.TheVariants.{At, Nothing}
+use Rattle.std.specs.Prelude.{ℕ, ◌+◌, Bool, cond, ◌||◌, List, None, Option, Some}
 use Rattle.line.specs.Octets.{same_octets}
 use Rattle.station.specs.declared.Address.{Address}
 use Rattle.station.specs.declared.Settings.{Settings}
@@ -26,9 +23,9 @@ abbrev pub otherwise_way : Bool → ℕ
 otherwise_way promiscuous = cond promiscuous 7 0
 
 -- item 10: "Item 7's numbers become 16 plus the entry for listed ones."
-abbrev pub entry_way : Found → Bool → ℕ
-entry_way (At k) promiscuous = 16 + k
-entry_way Nothing promiscuous = otherwise_way promiscuous
+abbrev pub entry_way : Option ℕ → Bool → ℕ
+entry_way (Some k) promiscuous = 16 + k
+entry_way None promiscuous = otherwise_way promiscuous
 
 -- "Own address and list are tried before promiscuous; broadcast is 6 if its setting is on, else 7 or 0, listed or not."
 unfoldable pub way : Settings → List (Option Address) → List ℕ → ℕ

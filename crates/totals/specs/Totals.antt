@@ -1,15 +1,13 @@
 -- Document 02, item 9, "Starts per stretch": a total for each block of 256 symbols beside a capture, and how many Starts lie before a place.
-use Rattle.std.specs.Prelude.{ℕ, zero, suc, ◌+◌, ◌-◌, ◌*◌, ◌/◌, Bool, false, not, cond, ◌&&◌, ◌||◌, List, [], ◌∷◌, length, take, drop, eqb, ltb}
+use Rattle.station.specs.Numbers.{Checked}
+use Rattle.station.specs.declared.Refusal.{Refusal}
+use Rattle.std.specs.Prelude.{ℕ, zero, suc, ◌+◌, ◌-◌, ◌*◌, ◌/◌, Bool, false, not, cond, ◌&&◌, ◌||◌, List, [], ◌∷◌, length, take, drop, eqb, ltb, Err, Ok, Result}
 use Rattle.line.specs.Limits.{block_size, most_total}
 use Rattle.line.specs.Line.{Symbol, capture, start_count}
 use Rattle.line.specs.Table.{Table, ◌⇒◌, ◌∣◌, otherwise, first}
-use Rattle.station.specs.declared.Checked.{Checked}
-use Rattle.station.specs.declared.Checked.TheVariants.{Fine, Refused}
 use Rattle.station.specs.declared.Refusal.TheVariants.{BadBuffers, BadPlace, WrongTotals, HighTotal}
 use Rattle.station.specs.Numbers.{refusal_number}
 use Rattle.station.specs.Station.{bad_buffers, bad_place, total}
-use Rattle.totals.specs.declared.Count.{Count}
-use Rattle.totals.specs.declared.Count.TheVariants.{Starts}
 
 -- ---- the totals
 
@@ -71,27 +69,27 @@ high_total (t ∷ ts) = ltb most_total t || high_total ts
 -- the question's: 2, 3 and, "after 3", 21 and 22
 unfoldable pub before_refusals : List ℕ → List ℕ → ℕ → List ℕ → Table Checked
 before_refusals os ms place ts =
-    bad_buffers os ms ⇒ Refused BadBuffers
-    ∣ bad_place os place ⇒ Refused BadPlace
-    ∣ wrong_totals os ts ⇒ Refused WrongTotals
-    ∣ high_total ts ⇒ Refused HighTotal
-    ∣ otherwise Fine
+    bad_buffers os ms ⇒ Err BadBuffers
+    ∣ bad_place os place ⇒ Err BadPlace
+    ∣ wrong_totals os ts ⇒ Err WrongTotals
+    ∣ high_total ts ⇒ Err HighTotal
+    ∣ otherwise (Ok tt)
 
 -- "filling gives 2 and 21 only"
 unfoldable pub fill_refusals : List ℕ → List ℕ → List ℕ → Table Checked
 fill_refusals os ms ts =
-    bad_buffers os ms ⇒ Refused BadBuffers
-    ∣ wrong_totals os ts ⇒ Refused WrongTotals
-    ∣ otherwise Fine
+    bad_buffers os ms ⇒ Err BadBuffers
+    ∣ wrong_totals os ts ⇒ Err WrongTotals
+    ∣ otherwise (Ok tt)
 
 -- ---- the calls
 
-unfoldable pub before_checked : Checked → List ℕ → List ℕ → ℕ → List ℕ → Count
-before_checked (Refused x) os ms place ts = Count.Refused x
-before_checked Fine os ms place ts = Starts (answer ts (capture os ms) place)
+unfoldable pub before_checked : Checked → List ℕ → List ℕ → ℕ → List ℕ → Result ℕ Refusal
+before_checked (Err x) os ms place ts = Err x
+before_checked (Ok _) os ms place ts = Ok (answer ts (capture os ms) place)
 
 -- "how many Starts lie before a place"
-unfoldable pub before_place : List ℕ → List ℕ → ℕ → List ℕ → Count
+unfoldable pub before_place : List ℕ → List ℕ → ℕ → List ℕ → Result ℕ Refusal
 before_place os ms place ts = before_checked (first (before_refusals os ms place ts)) os ms place ts
 
 -- a filling call's answer, and the lent totals: a record, so that a promise is one equation
@@ -103,18 +101,18 @@ abbrev pub filling : Checked → List ℕ → Filling
 filling r ts = record { given = r; totals = ts }
 
 unfoldable pub fill_checked : Checked → List ℕ → List ℕ → List ℕ → Filling
-fill_checked (Refused x) os ms ts = filling (Refused x) ts
-fill_checked Fine os ms ts = filling Fine (true_totals (capture os ms))
+fill_checked (Err x) os ms ts = filling (Err x) ts
+fill_checked (Ok _) os ms ts = filling (Ok tt) (true_totals (capture os ms))
 
 -- "one call fills them all for a capture"
 unfoldable pub filled : List ℕ → List ℕ → List ℕ → Filling
 filled os ms ts = fill_checked (first (fill_refusals os ms ts)) os ms ts
 
 -- document 02's number of a refusal, 0 where there is an answer; and the answer
-abbrev pub count_refusal : Count → ℕ
-count_refusal (Starts n) = 0
-count_refusal (Count.Refused x) = refusal_number x
+abbrev pub count_refusal : Result ℕ Refusal → ℕ
+count_refusal (Ok n) = 0
+count_refusal (Err x) = refusal_number x
 
-abbrev pub count_starts : Count → ℕ
-count_starts (Starts n) = n
-count_starts (Count.Refused x) = 0
+abbrev pub count_starts : Result ℕ Refusal → ℕ
+count_starts (Ok n) = n
+count_starts (Err x) = 0

@@ -1,5 +1,6 @@
 -- Document 02, item 8, as the crew's program `why` prints it. A text stands as its octets, with the text itself in the comment above.
-use Rattle.std.specs.Prelude.{ℕ, zero, suc, ◌+◌, true, false, cond, List, [], ◌∷◌, ◌++◌, length, eqb}
+use Rattle.std.proofs.Common.{sym, ap}
+use Rattle.std.specs.Prelude.{◌≡◌, ℕ, zero, suc, ◌+◌, Bool, true, false, cond, List, [], ◌∷◌, ◌++◌, length, get_or, eqb}
 use Rattle.line.specs.Line.{idle, start}
 use Rattle.line.specs.Table.{◌⇒◌, ◌∣◌, otherwise, first}
 use Rattle.station.specs.declared.Settings.{Settings}
@@ -80,7 +81,9 @@ reason_text (LengthBroken field n) =
     ++ (newline ∷ [])
 -- filtered: to 02-00-00-00-00-02
 reason_text (NotForUs d) =
-    (102 ∷ 105 ∷ 108 ∷ 116 ∷ 101 ∷ 114 ∷ 101 ∷ 100 ∷ 58 ∷ 32 ∷ 116 ∷ 111 ∷ 32 ∷ []) ++ three_octets d.0 d.1 d.2 45 ++ three_octets d.3 d.4 d.5 newline
+    (102 ∷ 105 ∷ 108 ∷ 116 ∷ 101 ∷ 114 ∷ 101 ∷ 100 ∷ 58 ∷ 32 ∷ 116 ∷ 111 ∷ 32 ∷ [])
+    ++ three_octets (get_or d.0 0 0) (get_or d.0 1 0) (get_or d.0 2 0) 45
+    ++ three_octets (get_or d.0 3 0) (get_or d.0 4 0) (get_or d.0 5 0) newline
 -- pause taken: opcode 0x0001
 reason_text (TookPause n) =
     opcode_text (112 ∷ 97 ∷ 117 ∷ 115 ∷ 101 ∷ 32 ∷ 116 ∷ 97 ∷ 107 ∷ 101 ∷ 110 ∷ 58 ∷ 32 ∷ 111 ∷ 112 ∷ 99 ∷ 111 ∷ 100 ∷ 101 ∷ 32 ∷ 48 ∷ 120 ∷ []) n
@@ -134,3 +137,9 @@ printed_whys input =
     cond (bad_input input)
     (98 ∷ 97 ∷ 100 ∷ 32 ∷ 105 ∷ 110 ∷ 112 ∷ 117 ∷ 116 ∷ 10 ∷ [])
     (capture_whys (record_octets input) (record_marks input))
+
+-- so of an input that is not good it prints `bad input`
+pub printed_whys_bad : (input : List ℕ) → bad_input input ≡ true → (98 ∷ 97 ∷ 100 ∷ 32 ∷ 105 ∷ 110 ∷ 112 ∷ 117 ∷ 116 ∷ 10 ∷ []) ≡ printed_whys input
+unfolding printed_whys
+printed_whys_bad input bad =
+    sym (ap (λ (b : Bool). cond b (98 ∷ 97 ∷ 100 ∷ 32 ∷ 105 ∷ 110 ∷ 112 ∷ 117 ∷ 116 ∷ 10 ∷ []) (capture_whys (record_octets input) (record_marks input))) bad)
