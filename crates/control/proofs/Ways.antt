@@ -1,11 +1,11 @@
 -- Document 02, items 7 and 10: of valid settings, the number of a frame is above 0 exactly where rule 7 lets it through; so outcomes 8 to 11 carry a
 -- number above 0, and a filtered frame has none to carry. Assumes nothing.
+use Rattle.std.specs.Prelude.{Option}
 use Prim.Native.Nat.{ℕ, ◌≤◌}
 use native.Mathlib.Omega.{arith}
 use mathlib.Core.Path.{◌≡◌, refl, sym, ap, ◌∙◌}
 use mathlib.Core.Bool.{Bool, true, false, not, ◌&&◌, ◌||◌, cond, false≢true}
 use mathlib.Core.List.{List}
-use mathlib.Core.Option.{Option}
 use lib.ListN.{length}
 use denote.Enum.Declared.{tag_of}
 use types.Run.{OneOf}

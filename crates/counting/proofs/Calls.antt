@@ -1,4 +1,6 @@
 -- A sending call with totals, once its tests up to 22 have answered: refused, or made and its blocks counted anew. Assumes nothing.
+use Rattle.std.specs.Prelude.{Err, Ok}
+use Rattle.station.specs.Numbers.{Checked}
 use Prim.Native.Nat.{ℕ, ◌≤◌}
 use native.Mathlib.Omega.{arith}
 use mathlib.Core.Path.{◌≡◌, refl, sym, ap, ◌∙◌}
@@ -14,8 +16,6 @@ use Rattle.station.specs.declared.Port.{Port}
 use Rattle.station.specs.declared.Quanta.{Quanta}
 use Rattle.station.specs.declared.Refusal.{Refusal}
 use Rattle.station.specs.declared.Refusal.TheVariants.{BadSettings, BadBuffers, BadPlace, HighDeficit, WrongTotals, HighTotal}
-use Rattle.station.specs.declared.Checked.{Checked}
-use Rattle.station.specs.declared.Checked.TheVariants.{Fine, Refused}
 use Rattle.station.specs.Station.{is_pause_mode, is_pfc_mode}
 use Rattle.station.proofs.Refusals.{fine_row}
 use Rattle.writing.specs.declared.Client.{Client}
@@ -32,11 +32,11 @@ use Rattle.counting.specs.Counting.{counting, frame_totals, count_checked}
 -- ---- the answer
 
 module _ (early : Checked) (st : State) (os ms : List ℕ) (place : ℕ) (ts : List ℕ) (base : SendCall) where
-  pub count-refused : {r : Sending} (x : Refusal) → early ≡ Refused x → r ≡ refused_at x place st → counting r os ms ts ≡ count_checked early st os ms place ts base
+  pub count-refused : {r : Sending} (x : Refusal) → early ≡ Err x → r ≡ refused_at x place st → counting r os ms ts ≡ count_checked early st os ms place ts base
   unfolding count_checked
   count-refused x h e = ap (λ (q : Sending). counting q os ms ts) e ∙ sym (ap (λ (q : Checked). count_checked q st os ms place ts base) h)
 
-  pub count-made : {r : Sending} {os' ms' ts' : List ℕ} → early ≡ Fine → send_call r os' ms' ≡ base → ts' ≡ recounted (capture os' ms') place r.place ts
+  pub count-made : {r : Sending} {os' ms' ts' : List ℕ} → early ≡ Ok tt → send_call r os' ms' ≡ base → ts' ≡ recounted (capture os' ms') place r.place ts
       → counting r os' ms' ts' ≡ count_checked early st os ms place ts base
   unfolding count_checked
   count-made {r} {os'} {ms'} h e t =
@@ -53,10 +53,10 @@ pub record Leaves (os : List ℕ) (place : ℕ) (b : SendCall) : Type 0 where
   pub inside : b.given.place ≤ length b.octets
 
 module _ (st : State) (os ms : List ℕ) (place : ℕ) (new : List Symbol) (count : ℕ) (even : length os ≡ length ms) (inside : place ≤ length os) where
-  pub leaves : (k : Checked) → (k ≡ Fine → Room os ms place new) → Leaves os place (send_checked k st os ms place new count)
+  pub leaves : (k : Checked) → (k ≡ Ok tt → Room os ms place new) → Leaves os place (send_checked k st os ms place new count)
   unfolding send_checked
-  leaves (Refused x) h = record { octets = refl; even = even; inside = inside }
-  leaves Fine h =
+  leaves (Err x) h = record { octets = refl; even = even; inside = inside }
+  leaves (Ok _) h =
       let r = (h refl).room in
       let no = length-octets_of new in
       let nm = length-marks_of new in
@@ -71,7 +71,7 @@ framed_room k = record { even = k.even; small = k.small; room = k.room }
 
 -- what the tests up to 22 of a frame's call tell
 pub known_frame : (s : Settings) (port : Port) (count : ℕ) (os ms : List ℕ) (place : ℕ) (ts : List ℕ)
-    → first (frame_totals s port count os ms place ts) ≡ Fine → Known os ms place ts
+    → first (frame_totals s port count os ms place ts) ≡ Ok tt → Known os ms place ts
 unfolding frame_totals
 known_frame s port count os ms place ts h =
     let r1 = fine_row BadSettings _ h in
@@ -104,7 +104,7 @@ countable {os} {ms} {place} {ts} {os'} {ms'} {r} base k l e =
 -- ---- each call
 
 module _ (st : State) (os ms : List ℕ) (place : ℕ) (ts : List ℕ) (k : Known os ms place ts) where
-  frame_leaves : (s : Settings) (port : Port) (body : List ℕ) (c : Checked) → (c ≡ Fine → Framed s port st.deficit os ms place body)
+  frame_leaves : (s : Settings) (port : Port) (body : List ℕ) (c : Checked) → (c ≡ Ok tt → Framed s port st.deficit os ms place body)
       → Leaves os place (frame_sending c st port os ms place body)
   unfolding frame_sending
   frame_leaves s port body c h =

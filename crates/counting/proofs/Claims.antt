@@ -1,6 +1,8 @@
 -- Document 02, item 9, of the sending calls with totals, each claim one statement over the four of them: what a call leaves in the totals (`totals-left`,
 -- block by block `each_block`); a refused call changes none (`refused_none`); true totals stay true (`sends-true`); the number it gives is that of its
 -- whole table of refusals (`number-given`), and but for its totals it is the call without them with that table (`counted-sent`). Assumes nothing.
+use Rattle.std.specs.Prelude.{Err, Ok}
+use Rattle.station.specs.Numbers.{Checked}
 use Prim.Native.Nat.{ℕ, zero, suc, ◌+◌, ◌<◌}
 use native.Mathlib.Omega.{arith}
 use mathlib.Core.Path.{◌≡◌, refl, sym, ap, ◌∙◌, subst}
@@ -16,8 +18,6 @@ use Rattle.line.proofs.Overwrite.{capture-overwrite}
 use Rattle.station.specs.declared.State.{State}
 use Rattle.station.specs.declared.Refusal.{Refusal}
 use Rattle.station.specs.declared.Refusal.TheVariants.{WrongTotals, HighTotal}
-use Rattle.station.specs.declared.Checked.{Checked}
-use Rattle.station.specs.declared.Checked.TheVariants.{Fine, Refused}
 use Rattle.station.specs.Numbers.{checked_number}
 use Rattle.station.specs.Station.{is_pause_mode, is_pfc_mode}
 use Rattle.station.proofs.Refusals.{fine_row}
@@ -34,18 +34,18 @@ use Rattle.counting.proofs.Calls.{framed_room}
 
 -- ---- 21 and 22 behind the first n rows of a table
 
-never : {P : Type 0} (x : Refusal) → ◌≡◌ {A = Checked} Fine (Refused x) → P
+never : {P : Type 0} (x : Refusal) → ◌≡◌ {A = Checked} (Ok tt) (Err x) → P
 never x h = let bad : ◌≡◌ {A = ℕ} 0 1 = cc in absurd (omega arith)
 
 -- the first n rows alone: with 21 and 22 behind them they are what a call tests before it goes on to the call without totals
 unfoldable up_to : ℕ → Table Checked → Table Checked
-up_to zero rows = otherwise Fine
+up_to zero rows = otherwise (Ok tt)
 up_to (suc n) (otherwise a) = otherwise a
 up_to (suc n) (r ∣ rows) = r ∣ up_to n rows
 
 -- a row in front of two tables, of which the second refuses as the first does
-front : (r : Row Checked) (a b : Table Checked) (x : Refusal) → (first a ≡ Refused x → first b ≡ Refused x)
-    → first (r ∣ a) ≡ Refused x → first (r ∣ b) ≡ Refused x
+front : (r : Row Checked) (a b : Table Checked) (x : Refusal) → (first a ≡ Err x → first b ≡ Err x)
+    → first (r ∣ a) ≡ Err x → first (r ∣ b) ≡ Err x
 front r a b x f h =
     by_test r.holds
     (λ t. first-here r.gives b t ∙ sym (first-here r.gives a t) ∙ h)
@@ -54,21 +54,21 @@ front r a b x f h =
 module _ (os ts : List ℕ) where
   -- refused early, the whole table refuses by that number
   early-first : (n : ℕ) (rows : Table Checked) (x : Refusal)
-      → first (with_totals n os ts (up_to n rows)) ≡ Refused x → first (with_totals n os ts rows) ≡ Refused x
+      → first (with_totals n os ts (up_to n rows)) ≡ Err x → first (with_totals n os ts rows) ≡ Err x
   unfolding with_totals up_to
   early-first zero rows x h =
-      front (wrong_totals os ts ⇒ Refused WrongTotals) _ _ x
-      (front (high_total ts ⇒ Refused HighTotal) (otherwise Fine) rows x (λ e. never x (sym (first-other Fine) ∙ e))) h
+      front (wrong_totals os ts ⇒ Err WrongTotals) _ _ x
+      (front (high_total ts ⇒ Err HighTotal) (otherwise (Ok tt)) rows x (λ e. never x (sym (first-other (Ok tt)) ∙ e))) h
   early-first (suc n) (otherwise a) x h = h
   early-first (suc n) (r ∣ rows) x h = front r _ _ x (early-first n rows x) h
 
   -- else it gives what the call without totals does
-  then-others : (n : ℕ) (rows : Table Checked) → first (with_totals n os ts (up_to n rows)) ≡ Fine → first (with_totals n os ts rows) ≡ first rows
+  then-others : (n : ℕ) (rows : Table Checked) → first (with_totals n os ts (up_to n rows)) ≡ Ok tt → first (with_totals n os ts rows) ≡ first rows
   unfolding with_totals up_to
   then-others zero rows h =
       let r21 = fine_row WrongTotals _ h in
       let r22 = fine_row HighTotal _ r21.1 in
-      first_next (Refused WrongTotals) _ r21.0 ∙ first_next (Refused HighTotal) rows r22.0
+      first_next (Err WrongTotals) _ r21.0 ∙ first_next (Err HighTotal) rows r22.0
   then-others (suc n) (otherwise a) h = refl
   then-others (suc n) (r ∣ rows) h =
       by_test r.holds
@@ -83,24 +83,24 @@ module _ (st : State) (os ms ts : List ℕ) (place : ℕ) (new : List Symbol) (c
 
   left : (early k : Checked) → let x = made early k in x.totals ≡ recounted (capture x.sent.octets x.sent.marks) place x.sent.given.place ts
   unfolding count_checked
-  left (Refused y) k = sym (none-recounted (capture os ms) place place ts (omega arith))
-  left Fine k = refl
+  left (Err y) k = sym (none-recounted (capture os ms) place place ts (omega arith))
+  left (Ok _) k = refl
 
   abbrev lent : List ℕ → Lent
   lent l = record { octets = os; marks = ms; totals = l }
 
   none-changed : (early k : Checked) → 0 < send_refusal (made early k).sent.given.answer → RefusedCall st (lent ts) place (made early k)
   unfolding count_checked send_checked
-  none-changed (Refused y) k h = record { at = refl; state = refl; lent = refl }
-  none-changed Fine (Refused x) h =
+  none-changed (Err y) k h = record { at = refl; state = refl; lent = refl }
+  none-changed (Ok _) (Err x) h =
       record { at = refl; state = refl; lent = ap lent (none-recounted (capture os ms) place place ts (omega arith)) }
-  none-changed Fine Fine h = absurd (omega arith)
+  none-changed (Ok _) (Ok _) h = absurd (omega arith)
 
-  still_true : (early k : Checked) → (k ≡ Fine → Room os ms place new) → ts ≡ true_totals (capture os ms) → TotalsTrue (left_by (made early k))
+  still_true : (early k : Checked) → (k ≡ Ok tt → Room os ms place new) → ts ≡ true_totals (capture os ms) → TotalsTrue (left_by (made early k))
   unfolding TotalsTrue count_checked send_checked
-  still_true (Refused y) k h e = e
-  still_true Fine (Refused x) h e = none-recounted (capture os ms) place place ts (omega arith) ∙ e
-  still_true Fine Fine h e =
+  still_true (Err y) k h e = e
+  still_true (Ok _) (Err x) h e = none-recounted (capture os ms) place place ts (omega arith) ∙ e
+  still_true (Ok _) (Ok _) h e =
       let r = h refl in
       let even = r.even in
       let room = r.room in
@@ -111,19 +111,19 @@ module _ (st : State) (os ms ts : List ℕ) (place : ℕ) (new : List Symbol) (c
       ∙ stay_true c place new ts (let n = length-capture os ms even in omega arith) e
       ∙ ap true_totals (sym same)
 
-  number_is : (early k all : Checked) → ((x : Refusal) → early ≡ Refused x → all ≡ Refused x) → (early ≡ Fine → all ≡ k)
+  number_is : (early k all : Checked) → ((x : Refusal) → early ≡ Err x → all ≡ Err x) → (early ≡ Ok tt → all ≡ k)
       → send_refusal (made early k).sent.given.answer ≡ checked_number all
   unfolding count_checked send_checked
-  number_is (Refused x) k all f g = ap checked_number (sym (f x refl))
-  number_is Fine (Refused x) all f g = ap checked_number (sym (g refl))
-  number_is Fine Fine all f g = ap checked_number (sym (g refl))
+  number_is (Err x) k all f g = ap checked_number (sym (f x refl))
+  number_is (Ok _) (Err x) all f g = ap checked_number (sym (g refl))
+  number_is (Ok _) (Ok _) all f g = ap checked_number (sym (g refl))
 
   -- both tables together: the call without totals, by the whole table
-  sent-by_all : (early k all : Checked) → ((x : Refusal) → early ≡ Refused x → all ≡ Refused x) → (early ≡ Fine → all ≡ k)
+  sent-by_all : (early k all : Checked) → ((x : Refusal) → early ≡ Err x → all ≡ Err x) → (early ≡ Ok tt → all ≡ k)
       → (made early k).sent ≡ send_checked all st os ms place new count
   unfolding count_checked send_checked
-  sent-by_all (Refused x) k all f g = sym (ap (λ (a : Checked). send_checked a st os ms place new count) (f x refl))
-  sent-by_all Fine k all f g = sym (ap (λ (a : Checked). send_checked a st os ms place new count) (g refl))
+  sent-by_all (Err x) k all f g = sym (ap (λ (a : Checked). send_checked a st os ms place new count) (f x refl))
+  sent-by_all (Ok _) k all f g = sym (ap (λ (a : Checked). send_checked a st os ms place new count) (g refl))
 
 -- ---- each call is such a call
 
@@ -137,7 +137,7 @@ sent-by st os ms (sends_pfc s port place k) = unfold pfc_sending pfc_checked in 
 sent-by st os ms (fills_idle place n) = unfold idle_sending idle_checked in refl
 
 -- there is room for what it writes
-asked_room : (st : State) (os ms : List ℕ) (c : Sends) → first (refusals_of st os ms c) ≡ Fine → Room os ms (place_of c) (symbols_asked st c)
+asked_room : (st : State) (os ms : List ℕ) (c : Sends) → first (refusals_of st os ms c) ≡ Ok tt → Room os ms (place_of c) (symbols_asked st c)
 unfolding refusals_of symbols_asked client_checked idle_checked
 asked_room st os ms (sends_client s port place c d) f = framed_room (passed s st port os ms place c d f).framed
 asked_room st os ms (sends_pause s port place q) f =
@@ -203,11 +203,11 @@ module _ (st : State) (l : Lent) (c : Sends) where
       (still_true st l.octets l.marks l.totals (place_of c) (symbols_asked st c) (count_after st c) _ _ (asked_room st l.octets l.marks c) e)
 
   -- the whole table: refused early, it refuses by that number; else it gives what the table of the call without totals does
-  all_early : (x : Refusal) → early st l c ≡ Refused x → first (all_refusals st l c) ≡ Refused x
+  all_early : (x : Refusal) → early st l c ≡ Err x → first (all_refusals st l c) ≡ Err x
   unfolding all_refusals
   all_early = early-first l.octets l.totals (come_first c) (refusals_of st l.octets l.marks c)
 
-  all_later : early st l c ≡ Fine → first (all_refusals st l c) ≡ later st l c
+  all_later : early st l c ≡ Ok tt → first (all_refusals st l c) ≡ later st l c
   unfolding all_refusals
   all_later = then-others l.octets l.totals (come_first c) (refusals_of st l.octets l.marks c)
 
@@ -224,9 +224,9 @@ module _ (st : State) (l : Lent) (c : Sends) where
       ∙ sent-by_all st l.octets l.marks l.totals (place_of c) (symbols_asked st c) (count_after st c) _ _ _ all_early all_later
 
   -- where the whole table refuses nothing, the call without totals is not refused either
-  pub none-refused : first (all_refusals st l c) ≡ Fine → first (refusals_of st l.octets l.marks c) ≡ Fine
+  pub none-refused : first (all_refusals st l c) ≡ Ok tt → first (refusals_of st l.octets l.marks c) ≡ Ok tt
   none-refused h = by-early (early st l c) refl
     where
-      by-early : (k : Checked) → early st l c ≡ k → later st l c ≡ Fine
-      by-early (Refused x) e = never x (sym h ∙ all_early x e)
-      by-early Fine e = sym (all_later e) ∙ h
+      by-early : (k : Checked) → early st l c ≡ k → later st l c ≡ Ok tt
+      by-early (Err x) e = never x (sym h ∙ all_early x e)
+      by-early (Ok _) e = sym (all_later e) ∙ h

@@ -6,22 +6,23 @@
 -- Assumes nothing.
 use mathlib.Core.Path.{◌≡◌, refl, sym, ap, ap₂, ◌∙◌, subst}
 use mathlib.Core.List.{List, [], ◌∷◌, ◌++◌}
-use Prim.Native.Nat.{ℕ, zero, suc, ◌+◌, ◌*◌, ◌/◌, ◌%◌, ◌-◌, ◌^◌, ◌≤◌, ◌<◌}
-use native.Mathlib.Nat.{mod-lt, zero-lt-suc, mul-mod_left, mul-div_cancel, mul_assoc, pow-suc, mul-one, add_comm, div-add-mod', div-lt_iff_lt-mul, zero-add, suc-add, not-suc-le-zero, lt_of_lt_of_le}
-use native.Mathlib.Numerals.{add-one, unary_clauses}
+use Prim.Native.Nat.{ℕ, zero, suc, ◌+◌, ◌*◌, ◌/◌, ◌%◌, ◌^◌, ◌≤◌, ◌<◌}
+use native.Mathlib.Nat.{mod-lt, zero-lt-suc, mul-mod_left, mul-div_cancel, mul_assoc, pow-suc, mul-one, add_comm, div-add-mod', div-lt_iff_lt-mul, zero-add}
+use native.Mathlib.Nat.{suc-add, lt_of_lt_of_le}
+use native.Mathlib.Numerals.{add-one}
 use native.Mathlib.Omega.{arith}
-use lib.Bits.{bit_xor, differ, xor_comm, xor_zero_r, xor_shifted, xor_lt}
+use lib.Bits.{bit_xor, xor_assoc, xor_comm, xor_zero_r, xor_shifted, xor_shr, xor_mod, xor_lt}
 use lib.Pow.{pow_pos, pow_mono}
 use lib.ListN.{length, get_or, take, drop, length-drop, take-append-drop}
 use lib.Seq.{drop-cons, take-suc, get_or-drop, length-take-le, drop-drop}
 use lib.Dec.{lit<}
 use Rattle.crc.specs.Crc.{divisor, taken_off, crc_bit, crc_bits, crc_octet, crc_over}
 use Rattle.crc.specs.Words.{crc_zeros, word, word_at}
-use Rattle.crc.proofs.Xor.{bit, xor_half, xor_odd, xor_assoc, xor-last, xor-twice}
+use Rattle.crc.proofs.Xor.{xor-last, xor-twice}
 
 -- ---- one bit, and any number of them
 
-taken_off-xor : (x y p q : ℕ) → x < 2 → y < 2 → taken_off (differ x y) (bit_xor p q) ≡ bit_xor (taken_off x p) (taken_off y q)
+taken_off-xor : (x y p q : ℕ) → x < 2 → y < 2 → taken_off (bit_xor x y) (bit_xor p q) ≡ bit_xor (taken_off x p) (taken_off y q)
 taken_off-xor zero zero p q hx hy = refl
 taken_off-xor zero (suc y) p q hx hy = xor_assoc p q divisor
 taken_off-xor (suc zero) zero p q hx hy = xor-last p q divisor
@@ -31,16 +32,11 @@ taken_off-xor (suc zero) (suc (suc y)) p q hx hy = omega arith
 taken_off-xor (suc (suc x)) y p q hx hy = omega arith
 
 bit-xor : (a b : ℕ) → crc_bit (bit_xor a b) ≡ bit_xor (crc_bit a) (crc_bit b)
-bit-xor a b = ap₂ taken_off (xor_odd a b) (xor_half a b) ∙ taken_off-xor (a % 2) (b % 2) (a / 2) (b / 2) (bit a) (bit b)
+bit-xor a b = ap₂ taken_off (xor_mod a b 1) (xor_shr a b 1) ∙ taken_off-xor (a % 2) (b % 2) (a / 2) (b / 2) (omega arith) (omega arith)
 
 pub bits-xor : (n a b : ℕ) → crc_bits n (bit_xor a b) ≡ bit_xor (crc_bits n a) (crc_bits n b)
 bits-xor zero a b = refl
 bits-xor (suc n) a b = ap (crc_bits n) (bit-xor a b) ∙ bits-xor n (crc_bit a) (crc_bit b)
-
--- one bit of m, in the form of the code
-pub one_bit : (m r : ℕ) → 0 < m → crc_bits m r ≡ crc_bits (m - 1) (crc_bit r)
-one_bit zero r h = absurd (not-suc-le-zero h)
-one_bit (suc m) r h = simp unary_clauses
 
 pub bits-add : (m n r : ℕ) → crc_bits (m + n) r ≡ crc_bits n (crc_bits m r)
 bits-add zero n r = ap (λ (k : ℕ). crc_bits k r) (zero-add n)
@@ -155,7 +151,8 @@ word-at (suc n) s i h =
 
 -- ---- a loop's turn: what is left of the list has the same end, from the register after the turn
 
-bytes_take : (n : ℕ) (s : List ℕ) → ((k : ℕ) → get_or s k 0 < 256) → (k : ℕ) → get_or (take n s) k 0 < 256
+-- the first n of octets are octets
+pub bytes_take : (n : ℕ) (s : List ℕ) → ((k : ℕ) → get_or s k 0 < 256) → (k : ℕ) → get_or (take n s) k 0 < 256
 bytes_take zero s h k = lit< tt
 bytes_take (suc n) [] h k = lit< tt
 bytes_take (suc n) (x ∷ s) h zero = h 0

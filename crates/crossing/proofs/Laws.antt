@@ -1,6 +1,8 @@
 -- What the arrays' meanings keep: a part handed over as place and length is the module's own client data; a state that crossed back is the
 -- same state, and a size table the same numbers; the record of a reading is the same by its numbers; a record of a log is given out as it stands there;
 -- what why tells of a Start beside its reason is what a reading tells. Assume nothing.
+use Rattle.std.specs.Prelude.{Err, None, Ok, Option, Some}
+use Rattle.station.specs.Numbers.{Checked}
 use Prim.Native.Nat.{ℕ, zero, suc, ◌+◌, ◌-◌, ◌%◌, ◌^◌, ◌<◌, ◌≤◌}
 use native.Mathlib.Nat.{mod-eq_of_lt}
 use native.Mathlib.Omega.{arith}
@@ -9,16 +11,12 @@ use mathlib.Core.Path.{◌≡◌, refl, sym, ap, ap₂, ◌∙◌, subst}
 use mathlib.Core.List.{List, [], ◌∷◌}
 use lib.ListN.{length, get_or, take, drop}
 use lib.Dec.{leb, lit<}
-use Rattle.line.specs.declared.Found.{Found}
-use Rattle.line.specs.declared.Found.TheVariants.{At}
 use Rattle.line.specs.Line.{capture, find_start, find_control}
 use Rattle.line.specs.Table.{first}
 use Rattle.line.proofs.Symbols.{by_test}
 use Rattle.station.specs.declared.Slots.{Slots}
 use Rattle.station.specs.declared.State.{State}
 use Rattle.station.specs.declared.Settings.{Settings}
-use Rattle.station.specs.declared.Checked.{Checked}
-use Rattle.station.specs.declared.Checked.TheVariants.{Fine}
 use Rattle.station.specs.declared.Outcome.{Outcome}
 use Rattle.station.specs.declared.Outcome.TheVariants.{Cut, BadPreamble, Undersized, Oversized, WrongFcs, WrongLength, Filtered}
 use Rattle.station.specs.declared.Outcome.TheVariants.{PauseTaken, PfcTaken, ControlDropped, HandedOut}
@@ -37,7 +35,6 @@ use Rattle.reason.specs.declared.Explained.{Explained}
 use Rattle.reason.specs.Reasons.{explained}
 use Rattle.reason.proofs.Laws.{explain_refused, explain_none, explain_open, explain_ended}
 use Rattle.reason.proofs.Claims.{explain_reads}
-use Rattle.reading_log.specs.declared.LogRead.TheVariants.{Holds}
 use Rattle.reading_log.specs.Log.{record_of, slot_at, record_read}
 use Rattle.reading_log.specs.Claims.{OfOctets, IsMultiple, Used}
 use Rattle.reading_log.proofs.Searches.{slot_stands}
@@ -134,8 +131,8 @@ way-small : (s : Settings) (job : ℕ) (es : List Entry) (st : State) (os ms : L
 way-small s job es st os ms p few = by_checked (first (read_refusals s job es os ms p)) refl
   where
     by_checked : (k : Checked) → first (read_refusals s job es os ms p) ≡ k → answer_way (reading s job es st os ms p).answer < 2 ^ 8
-    by_checked (Checked.Refused x) e = subst (λ (r : Reading). answer_way r.answer < 2 ^ 8) (sym (read-refused s job es st os ms p x e)) (lit< tt)
-    by_checked Fine e = (reading_sound s job es st os ms p e).way few
+    by_checked (Err x) e = subst (λ (r : Reading). answer_way r.answer < 2 ^ 8) (sym (read-refused s job es st os ms p x e)) (lit< tt)
+    by_checked (Ok _) e = (reading_sound s job es st os ms p e).way few
 
 pub reading_record : (s : Settings) (job : ℕ) (t : List ℕ) (st : State) (os ms : List ℕ) (p : ℕ)
     → record_named (reading_numbers (reading s job (entries_of t) st os ms p)) ≡ record_of_reading (reading s job (entries_of t) st os ms p)
@@ -148,8 +145,8 @@ module _ (l before : List ℕ) (k : ℕ) (octets : OfOctets l) (good : IsMultipl
   unfolding record_left
   record_given_lem = ap (record_left before) (read-used l k (good_log l good) used) ∙ slot_stands l k octets good used
 
-  pub record_crosses : Holds (record_of (record_left before (record_read l k))) ≡ record_read l k
-  record_crosses = ap (λ (s : List ℕ). Holds (record_of s)) record_given_lem ∙ sym (read-used l k (good_log l good) used)
+  pub record_crosses : Ok (record_of (record_left before (record_read l k))) ≡ record_read l k
+  record_crosses = ap (λ (s : List ℕ). Ok (record_of s)) record_given_lem ∙ sym (read-used l k (good_log l good) used)
 
 -- ---- why a Start has its outcome: refusal, kind, outcome and both places are a reading's from there, whatever its state
 
@@ -157,23 +154,24 @@ module _ (s : Settings) (job : ℕ) (es : List Entry) (st : State) (os ms : List
   abbrev SameKind : Type 0
   SameKind = why_kind (explained s job es os ms p).answer ≡ answer_kind (reading s job es st os ms p).answer
 
-  kind_of_lem : (e : Explained) (r : Reading) → explained s job es os ms p ≡ e → reading s job es st os ms p ≡ r → why_kind e.answer ≡ answer_kind r.answer → SameKind
+  kind_of_lem : (e : Explained) (r : Reading) → explained s job es os ms p ≡ e → reading s job es st os ms p ≡ r
+      → why_kind e.answer ≡ answer_kind r.answer → SameKind
   kind_of_lem e r f g h = rw (f, g) h
 
-  module _ (fine : first (read_refusals s job es os ms p) ≡ Fine) where
-    module _ (i : ℕ) (found : find_start (capture os ms) p ≡ At i) where
-      kind_ended : (x : Found) → find_control (capture os ms) (i + 1) ≡ x → SameKind
+  module _ (fine : first (read_refusals s job es os ms p) ≡ Ok tt) where
+    module _ (i : ℕ) (found : find_start (capture os ms) p ≡ Some i) where
+      kind_ended : (x : Option ℕ) → find_control (capture os ms) (i + 1) ≡ x → SameKind
       unfolding read_run
-      kind_ended Found.Nothing h = kind_of_lem _ _ (explain_open s job es os ms p fine i found h) (read_open s job es st os ms p fine i found h) refl
-      kind_ended (At e) h = kind_of_lem _ _ (explain_ended s job es os ms p fine i found e h) (read-ended s job es st os ms p fine i found e h) refl
+      kind_ended None h = kind_of_lem _ _ (explain_open s job es os ms p fine i found h) (read_open s job es st os ms p fine i found h) refl
+      kind_ended (Some e) h = kind_of_lem _ _ (explain_ended s job es os ms p fine i found e h) (read-ended s job es st os ms p fine i found e h) refl
 
-    kind_found : (x : Found) → find_start (capture os ms) p ≡ x → SameKind
-    kind_found Found.Nothing h = kind_of_lem _ _ (explain_none s job es os ms p fine h) (read_none s job es st os ms p fine h) refl
-    kind_found (At i) h = kind_ended i h (find_control (capture os ms) (i + 1)) refl
+    kind_found : (x : Option ℕ) → find_start (capture os ms) p ≡ x → SameKind
+    kind_found None h = kind_of_lem _ _ (explain_none s job es os ms p fine h) (read_none s job es st os ms p fine h) refl
+    kind_found (Some i) h = kind_ended i h (find_control (capture os ms) (i + 1)) refl
 
   kind_checked : (k : Checked) → first (read_refusals s job es os ms p) ≡ k → SameKind
-  kind_checked Fine h = kind_found h (find_start (capture os ms) p) refl
-  kind_checked (Checked.Refused x) h = kind_of_lem _ _ (explain_refused s job es os ms p x h) (read-refused s job es st os ms p x h) refl
+  kind_checked (Ok _) h = kind_found h (find_start (capture os ms) p) refl
+  kind_checked (Err x) h = kind_of_lem _ _ (explain_refused s job es os ms p x h) (read-refused s job es st os ms p x h) refl
 
   pub explain_crosses : take 5 (explain_numbers (explained s job es os ms p)) ≡ take 5 (reading_numbers (reading s job es st os ms p))
   unfolding explain_numbers reading_numbers

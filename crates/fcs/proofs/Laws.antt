@@ -1,12 +1,11 @@
 -- What callers cite of a check, and the last part of a list.
 -- Assumes nothing.
-use mathlib.Core.Path.{◌≡◌, refl, sym, ap}
+use mathlib.Core.Path.{◌≡◌, refl}
 use mathlib.Core.List.{List}
-use Prim.Native.Nat.{ℕ, ◌-◌, ◌≤◌}
+use Prim.Native.Nat.{ℕ, ◌-◌}
 use native.Mathlib.Omega.{arith}
-use lib.ListN.{length, take, drop, length-drop, drop_of_length-le}
+use lib.ListN.{length, take, drop, length-drop}
 use lib.Seq.{take_all}
-use Rattle.crc.specs.Crc.{crc_over}
 use Rattle.fcs.specs.Fcs.{fcs_of, fcs_octets, fcs}
 
 -- what `octets(check(s))` gives is the check sequence
@@ -20,7 +19,3 @@ fcs-four b = refl
 
 pub last-part : (n : ℕ) (s : List ℕ) → take (length s - n) (drop n s) ≡ drop n s
 last-part n s = take_all (length s - n) (drop n s) (simp length-drop (omega arith))
-
--- where nothing is left, the register stands
-pub none_left : (r n : ℕ) (s : List ℕ) → length s ≤ n → r ≡ crc_over r (drop n s)
-none_left r n s h = ap (crc_over r) (sym (drop_of_length-le s h))

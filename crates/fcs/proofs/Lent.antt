@@ -1,20 +1,19 @@
 -- The entries of the lent tables, and a number of octets by as many tables.
 -- Assumes nothing.
-use mathlib.Core.Path.{◌≡◌, refl, sym, ap, ap₂, ◌∙◌, subst}
+use mathlib.Core.Path.{◌≡◌, refl, sym, ap, ap₂, ◌∙◌}
 use mathlib.Core.Logic.{◌⊎◌, inl, inr, ⊎_elim}
 use mathlib.Core.List.{List, [], ◌∷◌, ◌++◌}
 use Prim.Native.Nat.{ℕ, zero, suc, ◌+◌, ◌-◌, ◌*◌, ◌/◌, ◌%◌, ◌^◌, ◌≤◌, ◌<◌, zero-le, suc-le-suc}
-use native.Mathlib.Nat.{mod-eq_of_lt, div-lt_iff_lt-mul, one-mul, pow-suc, add-suc}
+use native.Mathlib.Nat.{div-eq_of_lt, one-mul}
 use native.Mathlib.Numerals.{add-one}
 use native.Mathlib.Omega.{arith}
 use borrow.Author.Count.{below_more}
 use lib.Bits.{bit_xor, xor_comm, xor_shifted}
-use lib.Dec.{lit<}
-use lib.Pow.{pow_mono}
+use lib.Pow.{pow_mono, shr-shr}
 use lib.ListN.{length, get_or, set, length-append, get_or-append}
 use lib.Seq.{get_or-set_same, get_or-set_other, get_or_at, ext_get_or}
 use Rattle.crc.specs.Words.{crc_zeros}
-use Rattle.crc.proofs.Linear.{none, zeros-add, zeros-xor, over_slice}
+use Rattle.crc.proofs.Linear.{bits-zero, none, zeros-add, zeros-xor, over_slice}
 use Rattle.fcs.specs.Lent.{entry_of, entries, Tables, Filled, Doubled}
 
 -- ---- the entries
@@ -102,17 +101,18 @@ up_to (suc a) (suc b) = ⊎_elim (λ p. inl (suc-le-suc p)) (λ p. inr (suc-le-s
 pub exponent : (j : ℕ) → 2 ^ j < 256 → j ≤ 7
 exponent j h = ⊎_elim (λ (l : j ≤ 7). l) (λ (l : 8 ≤ j). let m : 256 ≤ 2 ^ j = pow_mono l in omega arith) (up_to j 7)
 
--- ---- octets by tables, in the form of the code that looks them up
+-- ---- a number of octets by tables, the highest octet first
 
--- the n + 1 low octets of x leave and m octets that are 0 come in
-abbrev pub sliced : ℕ → ℕ → ℕ → ℕ
-sliced m zero x = crc_zeros (m + 1) (x % 256)
-sliced m (suc n) x = bit_xor (crc_zeros (m + suc n + 1) (x % 256)) (sliced m n (x / 256))
+-- no octet yet
+pub folded_none : (n x k : ℕ) → x < 2 ^ k → 0 ≡ crc_zeros n (x / 2 ^ k)
+unfolding crc_zeros
+folded_none n x k h = sym (ap (crc_zeros n) (div-eq_of_lt h) ∙ bits-zero (n * 8))
 
-pub zeros-sliced : (m n x : ℕ) → x < 256 ^ suc n → crc_zeros (m + suc n) x ≡ sliced m n x
-zeros-sliced m zero x h = ap (crc_zeros (m + 1)) (sym (mod-eq_of_lt h))
-zeros-sliced m (suc n) x h =
-    ap (λ (k : ℕ). crc_zeros k x) (add-suc m (suc n))
-    ∙ over_slice (m + suc n) x
-    ∙ ap₂ bit_xor (ap (λ (k : ℕ). crc_zeros k (x % 256)) (sym (add-one (m + suc n))))
-    (zeros-sliced m n (x / 256) ((div-lt_iff_lt-mul (lit< tt)).1 (subst (λ (y : ℕ). x < y) (pow-suc 256 (suc n)) h)))
+-- one more octet, the one at k, with n octets behind it
+pub folded : (n k x r e : ℕ) → r ≡ crc_zeros n (x / 2 ^ (8 * k + 8)) → e ≡ crc_zeros (n + 1) (x / 2 ^ (8 * k) % 256)
+    → bit_xor r e ≡ crc_zeros (n + 1) (x / 2 ^ (8 * k))
+folded n k x r e p q =
+    let y = x / 2 ^ (8 * k) in
+    ap₂ bit_xor (p ∙ ap (crc_zeros n) (sym (shr-shr x (8 * k) 8))) q
+    ∙ xor_comm (crc_zeros n (y / 256)) (crc_zeros (n + 1) (y % 256))
+    ∙ rw add-one (sym (over_slice n y))

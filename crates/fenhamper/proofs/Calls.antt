@@ -1,4 +1,7 @@
 -- A call across the face: what came back encoded is what the module's call gave, encoded. Assume nothing.
+use Rattle.std.specs.Prelude.{Err, Ok, Result}
+use Rattle.station.specs.Numbers.{Checked}
+use Rattle.reading_log.specs.declared.LogRefusal.{LogRefusal}
 use Prim.Native.Nat.{ℕ, ◌%◌}
 use native.Mathlib.Omega.{arith}
 use mathlib.Core.Path.{◌≡◌, refl, sym, ap, ap₂, ◌∙◌, subst}
@@ -11,7 +14,6 @@ use Rattle.line.specs.Line.{capture}
 use Rattle.station.specs.declared.State.{State}
 use Rattle.station.specs.declared.Settings.{Settings}
 use Rattle.table.specs.declared.Entry.{Entry}
-use Rattle.table.specs.declared.Placed.{Placed}
 use Rattle.table.specs.Calls.{Change, change}
 use Rattle.receive.specs.declared.Answer.{Answer}
 use Rattle.receive.specs.declared.Answer.TheVariants.{Counted}
@@ -21,8 +23,6 @@ use Rattle.receive.specs.Values.{answer_refusal, answer_part}
 use Rattle.jobs.specs.Jobs.{of_job, screen_answer}
 use Rattle.jobs.proofs.Screen.{any_state}
 use Rattle.receive.specs.declared.Walking.{Walking}
-use Rattle.reading_log.specs.declared.Logged.{Logged}
-use Rattle.reading_log.specs.declared.LogNumber.{LogNumber}
 use Rattle.reading_log.specs.declared.Step.{Step}
 use Rattle.reading_log.specs.Numbers.{logged_refusal}
 use Rattle.reading_log.specs.Log.{Logging, logging}
@@ -35,8 +35,6 @@ use Rattle.station.specs.declared.Refusal.{Refusal}
 use Rattle.station.specs.declared.Refusal.TheVariants.{BadSettings, BadBuffers, BadPlace, OtherFlow, BadClass, BadType, LongData, NoRoom, Held, ManyTags}
 use Rattle.station.specs.declared.Refusal.TheVariants.{BadJob, HoldsTwelve, AllInUse, AlreadyListed, NotListed, HighDeficit, BadTable, WrongTotals, HighTotal}
 use Rattle.station.specs.Station.{fresh}
-use Rattle.station.specs.declared.Checked.{Checked}
-use Rattle.station.specs.declared.Checked.TheVariants.{Fine, Refused}
 use Rattle.station.specs.Numbers.{refusal_number, checked_number}
 use Rattle.logging.proofs.Refused.{number_apart}
 use Rattle.totals.specs.Totals.{Filling, filling, recounted}
@@ -76,11 +74,11 @@ unfolding keep_told keep_numbers
 keep_crosses {a} {st} {l} before {w} f g e =
     ap₂ (λ (b t : List ℕ). kept b t l) f (g ∙ ap (λ (b : List ℕ). state_left (get_or b 0 0) before w.state) f) ∙ ap (keep_told before) e
 
-pub log_crosses : {n : ℕ} {l : List ℕ} {a : Logged} {x : Logging} → n ≡ logged_refusal a → logging a l ≡ x → lodged n l ≡ log_told x
+pub log_crosses : {n : ℕ} {l : List ℕ} {a : Result (Unit {0}) LogRefusal} {x : Logging} → n ≡ logged_refusal a → logging a l ≡ x → lodged n l ≡ log_told x
 unfolding log_told
 log_crosses {n} {l} f e = ap (λ (k : ℕ). lodged k l) f ∙ ap log_told e
 
-pub deleted_crosses : {n k : ℕ} {l : List ℕ} (before : ℕ) {a : LogNumber} {x : Numbered} → number_given n k ≡ number_told before a → numbered a l ≡ x
+pub deleted_crosses : {n k : ℕ} {l : List ℕ} (before : ℕ) {a : Result ℕ LogRefusal} {x : Numbered} → number_given n k ≡ number_told before a → numbered a l ≡ x
     → log_given n k l ≡ deleted_told before x
 unfolding deleted_told
 deleted_crosses {n} {k} {l} before f e = ap (λ (g : NumberGiven). record { number = g; log = l }) f ∙ ap (deleted_told before) e
@@ -99,7 +97,7 @@ fill_crosses {n} {ts} f e = ap (λ (k : ℕ). totals_given k ts) f ∙ ap fill_t
 
 -- a call with totals is its tests up to 22 and then the exported call without totals. Refused by these tests:
 module _ (before os ms ts : List ℕ) (st : State) (place : ℕ) (base : SendCall) (early : Checked) where
-  pub refused_crosses : {a : List ℕ} (x : Refusal) → early ≡ Refused x → a ≡ refusal_number x ∷ place ∷ []
+  pub refused_crosses : {a : List ℕ} (x : Refusal) → early ≡ Err x → a ≡ refusal_number x ∷ place ∷ []
       → with_totals a before os ms ts ≡ count_told before (count_checked early st os ms place ts base)
   unfolding count_told count_checked send_told sent_numbers state_left
   refused_crosses x h e =
@@ -109,7 +107,7 @@ module _ (before os ms ts : List ℕ) (st : State) (place : ℕ) (base : SendCal
       ∙ sym (ap (λ (q : Checked). count_told before (count_checked q st os ms place ts base)) h)
 
   -- made, and the blocks from its place up to the one that it answered counted anew
-  pub made_crosses : {a st' os' ms' ts' : List ℕ} → early ≡ Fine → wrote a st' os' ms' ≡ send_told before base
+  pub made_crosses : {a st' os' ms' ts' : List ℕ} → early ≡ Ok tt → wrote a st' os' ms' ≡ send_told before base
       → ts' ≡ recounted (capture os' ms') place (get_or a 1 0) ts → with_totals a st' os' ms' ts' ≡ count_told before (count_checked early st os ms place ts base)
   unfolding count_told count_checked send_told sent_numbers
   made_crosses h e t =
@@ -129,7 +127,7 @@ countable_crossed {a} {st'} {os} {ms} {ts} {os'} {ms'} before base k l e =
 
 -- ---- calls of two jobs
 
-pub table_crosses : {n k : ℕ} {t : List ℕ} (before : ℕ) {a : Placed} {x : Change} → number_given n k ≡ entry_told before a → change a t ≡ x
+pub table_crosses : {n k : ℕ} {t : List ℕ} (before : ℕ) {a : Result ℕ Refusal} {x : Change} → number_given n k ≡ entry_told before a → change a t ≡ x
     → table_given n k t ≡ table_told before x
 unfolding table_told
 table_crosses {n} {k} {t} before f e = ap (λ (g : NumberGiven). record { placed = g; table = t }) f ∙ ap (table_told before) e

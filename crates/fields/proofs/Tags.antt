@@ -24,9 +24,9 @@ unfolding tag_run
 run_more f at zero z h = omega arith
 run_more f at (suc most) z h = (let e : suc most - 1 ≡ most = omega arith in rw (high_first-drop f at, h, tag_run, drop-drop tag_size at f, e))
 
-pub run-over : (l : List ℕ) → tag_run 0 l ≡ 0
+pub run_over : (l : List ℕ) (most : ℕ) → most ≡ 0 → tag_run most l ≡ 0
 unfolding tag_run
-run-over l = refl
+run_over l most e = rw e
 
 -- there are few, so that no sum of the code wraps
 choice_le : (b : Bool) (n m : ℕ) → n ≤ m → elim b [ true ↦ 1 + n | false ↦ 0 ] ≤ suc m

@@ -2,32 +2,26 @@
 use Prim.Native.Nat.{ℕ}
 use mathlib.Core.Path.{◌≡◌, refl, sym}
 use mathlib.Core.Bool.{false, false≢true}
-use mathlib.Core.List.{List, [], ◌∷◌}
-use denote.Enum.Declared.{tag_of}
-use types.Run.{OneOf, miss}
+use mathlib.Core.List.{List}
 use Rattle.station.specs.declared.Slots.{Slots}
 use Rattle.station.specs.declared.Outcome.{Outcome}
 use Rattle.station.specs.declared.Outcome.TheVariants.{Cut, BadPreamble, Undersized, Oversized, WrongFcs, WrongLength, Filtered, PauseTaken, PfcTaken, ControlDropped, HandedOut}
-use Rattle.station.specs.contracts.Outcome.{the_type}
 use Rattle.flow.specs.Timers.{timers_after, sets_timers}
 
--- the variants that set none, by their places in the enum
-abbrev others : List ℕ
-others = 0 ∷ 1 ∷ 2 ∷ 3 ∷ 4 ∷ 5 ∷ 6 ∷ 9 ∷ 10 ∷ []
-
-pub sets_none : (o : Outcome) → OneOf others (tag_of the_type o) → sets_timers o ≡ false
+-- no other outcome sets any
+pub sets_none : (o : Outcome) → (o ≡ PauseTaken → ⊥) → (o ≡ PfcTaken → ⊥) → sets_timers o ≡ false
 unfolding sets_timers
-sets_none Cut h = refl
-sets_none BadPreamble h = refl
-sets_none Undersized h = refl
-sets_none Oversized h = refl
-sets_none WrongFcs h = refl
-sets_none WrongLength h = refl
-sets_none Filtered h = refl
-sets_none PauseTaken h = absurd (miss others 7 tt h)
-sets_none PfcTaken h = absurd (miss others 8 tt h)
-sets_none ControlDropped h = refl
-sets_none HandedOut h = refl
+sets_none Cut h g = refl
+sets_none BadPreamble h g = refl
+sets_none Undersized h g = refl
+sets_none Oversized h g = refl
+sets_none WrongFcs h g = refl
+sets_none WrongLength h g = refl
+sets_none Filtered h g = refl
+sets_none PauseTaken h g = absurd (h refl)
+sets_none PfcTaken h g = absurd (g refl)
+sets_none ControlDropped h g = refl
+sets_none HandedOut h g = refl
 
 -- and then the timers stay as they are
 pub stays : (o : Outcome) (f : List ℕ) (ts : List Slots) → sets_timers o ≡ false → ts ≡ timers_after o f ts

@@ -5,7 +5,7 @@ use native.Mathlib.Nat.{add-zero, div-div-eq-div-mul, div-add-mod'}
 use mathlib.Core.Path.{◌≡◌, refl, sym, ap, ◌∙◌}
 use mathlib.Core.Bool.{false, not}
 use mathlib.Core.List.{List}
-use lib.ListN.{length, get_or, take, drop, length-drop}
+use lib.ListN.{length, get_or, drop, length-drop}
 use lib.Seq.{get_or-drop}
 use lib.Dec.{eqb}
 use borrow.Author.Tests.{eq-eqb, eqb-true}
@@ -55,11 +55,11 @@ last-number f n h o hn =
     ∙ ap (λ (w : ℕ). eqb w n) (low_drop f m 0 4 ∙ ap (λ (k : ℕ). low_first f k 4) (add-zero m))
 
 -- their number as the code makes it
-pub last_sum : (f : List ℕ) (a b c d : ℕ) → fcs_size ≤ length f
-    → a ≡ get_or f (length f - fcs_size) 0 → b ≡ get_or f (length f - 3) 0 → c ≡ get_or f (length f - 2) 0 → d ≡ get_or f (length f - 1) 0
-    → a + b * 0x100 + c * 0x1_0000 + d * 0x100_0000 ≡ low_first f (length f - fcs_size) 4
+pub last_sum : (f : List ℕ) → fcs_size ≤ length f
+    → get_or f (length f - 4) 0 + get_or f (length f - 3) 0 * 0x100 + get_or f (length f - 2) 0 * 0x1_0000 + get_or f (length f - 1) 0 * 0x100_0000
+    ≡ low_first f (length f - fcs_size) 4
 unfolding low_first
-last_sum f a b c d h ea eb ec ed =
+last_sum f h =
     let m = length f - fcs_size in
     let at : (i j : ℕ) → i ≡ j → get_or f i 0 ≡ get_or f j 0 = λ i j e. ap (λ (k : ℕ). get_or f k 0) e in
     let p = at (m + 1) (length f - 3) (omega arith) in
@@ -73,10 +73,6 @@ last-short f n h =
     same_octets-not (drop (length f - fcs_size) f) (fcs_octets n) (λ e. omega (arith, ap length e, length-drop (length f - fcs_size) f))
 
 -- the rule, of a check that was made of what it covers
-pub covered-part : (f : List ℕ) (e : ℕ) → e ≡ length f - fcs_size → take e f ≡ covered f
-unfolding covered
-covered-part f e h = ap (λ (k : ℕ). take k f) h
-
 pub wrong-by : (f : List ℕ) (n : ℕ) → n ≡ fcs_of (covered f) → not (same_octets (last_four f) (fcs_octets n)) ≡ wrong_fcs f
 unfolding wrong_fcs
 wrong-by f n e = ap (λ (l : List ℕ). not (same_octets (last_four f) l)) (ap fcs_octets e ∙ fcs-is (covered f))

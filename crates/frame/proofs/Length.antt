@@ -3,7 +3,7 @@ use Prim.Native.Nat.{ℕ, ◌-◌, ◌≤◌, ◌<◌, min}
 use native.Mathlib.Omega.{arith}
 use mathlib.Core.Path.{◌≡◌, refl, sym, ap, ◌∙◌}
 use mathlib.Core.Bool.{Bool, true, false, not, ◌&&◌, ◌||◌, cond}
-use mathlib.Core.List.{List, []}
+use mathlib.Core.List.{List}
 use lib.ListN.{length, take, length-take, length-drop}
 use lib.Dec.{eqb, ltb}
 use borrow.Author.Tests.{le-leb, lt-leb}
@@ -22,11 +22,6 @@ use Rattle.frame.specs.Length.{shortest, kept, breaks_length, wrong_length, hand
 pub data_length : (place : ℕ) (f : List ℕ) → length (data_from place f) ≡ length f - fcs_size - place
 unfolding data_from between
 data_length place f = simp (length-take, length-drop) (omega arith)
-
--- no data where the FCS would begin before the data's place
-pub data_none : (place : ℕ) (f : List ℕ) → length f - fcs_size < place → data_from place f ≡ []
-unfolding data_from between
-data_none place f h = let z : length f - fcs_size - place ≡ 0 = omega arith in rw z
 
 -- ---- the rule, row by row; its first row is `kept-type` of FrameLaws
 module _ (tags field octets : ℕ) where
@@ -55,14 +50,9 @@ front-le true n l = omega (arith, length-take n l)
 front-le false n l = omega arith
 
 -- ---- rule 6
-module _ (l : Layout) (f : List ℕ) where
-  pub length-unchecked : breaks_length false l f ≡ false
-  unfolding breaks_length
-  length-unchecked = refl
-
-  pub length_checked : breaks_length true l f ≡ not (kept l.tags l.field (length (data_from l.place f)))
-  unfolding breaks_length
-  length_checked = refl
+pub length-unchecked : (l : Layout) (f : List ℕ) → breaks_length false l f ≡ false
+unfolding breaks_length
+length-unchecked l f = refl
 
 pub length_right : (checking : Bool) (f : List ℕ) → kept (tag_count f) (field f) (length (frame_data f)) ≡ true → wrong_length checking f ≡ false
 unfolding wrong_length breaks_length layout_of frame_data

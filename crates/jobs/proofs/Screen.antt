@@ -1,21 +1,18 @@
 -- Document 02, item 10, its claims on the screen call: the data is what a reading of that job alone gives, with any state (`job_0_alone`, `job_1_alone`).
 -- Assumes nothing.
+use Rattle.std.specs.Prelude.{Err, None, Ok, Option, Some}
+use Rattle.station.specs.Numbers.{Checked}
 use Prim.Native.Nat.{ℕ, ◌+◌}
 use mathlib.Core.Path.{◌≡◌, refl, ap}
 use mathlib.Core.List.{List, [], ◌∷◌}
-use mathlib.Core.Option.{Option}
 use denote.Enum.Declared.{tag_of}
 use types.Run.{OneOf, miss}
 use lib.ListN.{drop}
-use Rattle.line.specs.declared.Found.{Found}
-use Rattle.line.specs.declared.Found.TheVariants.{At}
 use Rattle.line.specs.Line.{Symbol, capture, find_start, AfterStart, unended, ended, after_start}
 use Rattle.line.specs.Table.{first}
 use Rattle.station.specs.declared.Address.{Address}
 use Rattle.station.specs.declared.Settings.{Settings}
 use Rattle.station.specs.declared.State.{State}
-use Rattle.station.specs.declared.Checked.{Checked}
-use Rattle.station.specs.declared.Checked.TheVariants.{Fine, Refused}
 use Rattle.station.specs.Station.{fresh}
 use Rattle.table.specs.declared.Entry.{Entry}
 use Rattle.table.specs.Entries.{mine}
@@ -33,15 +30,15 @@ module _ (s : Settings) (own : List (Option Address)) (st st' : State) where
   start_any i unended = refl
   start_any i (ended r by) = refl
 
-  found_any : (c : List Symbol) (f : Found) → (read_found s own st c f).answer ≡ (read_found s own st' c f).answer
+  found_any : (c : List Symbol) (f : Option ℕ) → (read_found s own st c f).answer ≡ (read_found s own st' c f).answer
   unfolding read_found
-  found_any c Found.Nothing = refl
-  found_any c (At i) = start_any i (after_start (drop (i + 1) c))
+  found_any c None = refl
+  found_any c (Some i) = start_any i (after_start (drop (i + 1) c))
 
   checked_any : (k : Checked) (os ms : List ℕ) (p : ℕ) → (read_checked k s own st os ms p).answer ≡ (read_checked k s own st' os ms p).answer
   unfolding read_checked read_at
-  checked_any (Refused x) os ms p = refl
-  checked_any Fine os ms p = found_any (capture os ms) (find_start (capture os ms) p)
+  checked_any (Err x) os ms p = refl
+  checked_any (Ok _) os ms p = found_any (capture os ms) (find_start (capture os ms) p)
 
 pub any_state : (s : Settings) (job : ℕ) (es : List Entry) (st st' : State) (os ms : List ℕ) (p : ℕ)
     → (reading s job es st os ms p).answer ≡ (reading s job es st' os ms p).answer
@@ -58,15 +55,3 @@ module _ (s : Settings) (es : List Entry) (st : State) (os ms other other' : Lis
   pub job_1_alone : screen_data s 1 es other other' os ms p ≡ reading_data s 1 es st os ms p
   unfolding screen_data screen_answer of_job
   job_1_alone = ap (λ (a : Answer). part_of os (answer_part a)) (any_state s 1 es fresh st os ms p)
-
--- ---- for the functions
-
--- an answer that counts nothing hands out nothing: the match's last arm, by the places of its variants in the enum
-abbrev others : List ℕ
-others = 0 ∷ 1 ∷ 2 ∷ []
-
-pub none-handed : (a : Answer) → OneOf others (tag_of the_type a) → empty_part ≡ answer_part a
-none-handed (Answer.Refused x) h = refl
-none-handed Answer.Nothing h = refl
-none-handed Answer.Open h = refl
-none-handed (Answer.Counted o w p v) h = absurd (miss others 3 tt h)

@@ -1,10 +1,10 @@
 -- What a rule says of a frame it says of the frame's first 46 octets: two addresses, eight tags and the real field. Assumes nothing.
+use Rattle.std.specs.Prelude.{Option}
 use Prim.Native.Nat.{ℕ, zero, suc, ◌+◌, ◌-◌, ◌*◌, ◌/◌, ◌%◌, ◌≤◌, ◌<◌}
 use native.Mathlib.Omega.{arith}
 use mathlib.Core.Path.{◌≡◌, refl, sym, ap, ap₂, ◌∙◌}
 use mathlib.Core.Bool.{true, false, cond}
 use mathlib.Core.List.{List, [], ◌∷◌}
-use mathlib.Core.Option.{Option}
 use lib.ListN.{length, get_or, take, drop}
 use lib.Seq.{get_or-take, take-take, drop-drop, take-nil, drop-nil}
 use lib.Dec.{eqb, lit<, lit≤}

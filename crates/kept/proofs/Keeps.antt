@@ -1,10 +1,10 @@
 -- What is kept of a run is enough for every rule: `keeps-outcome`, `keeps-told`, `keeps-state`. Assumes nothing.
+use Rattle.std.specs.Prelude.{Option}
 use Prim.Native.Nat.{ℕ, ◌+◌, ◌-◌, ◌*◌, ◌^◌, ◌≤◌}
 use native.Mathlib.Omega.{arith}
 use mathlib.Core.Path.{◌≡◌, refl, sym, ap, ap₂, ◌∙◌, subst}
 use mathlib.Core.Bool.{Bool, true, false, not, ◌&&◌, ◌||◌}
 use mathlib.Core.List.{List, [], ◌++◌}
-use mathlib.Core.Option.{Option}
 use lib.ListN.{length, take, drop, replicate, length-drop}
 use lib.Seq.{take_all, take-take, drop-drop, drop-append-add}
 use lib.Dec.{eqb, ltb, lit≤}

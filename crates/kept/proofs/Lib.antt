@@ -1,3 +1,4 @@
 pub mod Front
 pub mod Keeps
 pub mod Laws
+pub mod Opened

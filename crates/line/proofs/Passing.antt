@@ -1,14 +1,13 @@
 -- Places that a search has passed: one block more, one stretch after another, and what the search then is. Assumes nothing.
+use Rattle.std.specs.Prelude.{Some, None}
 use Prim.Native.Nat.{ℕ, ◌+◌, ◌-◌, ◌≤◌, ◌<◌}
 use native.Mathlib.Omega.{arith}
-use mathlib.Core.Path.{◌≡◌, refl, sym, ap, ◌∙◌, subst}
-use mathlib.Core.Bool.{Bool, true, false, ◌||◌, false≢true}
+use mathlib.Core.Path.{◌≡◌, sym, ap, ◌∙◌, subst}
+use mathlib.Core.Bool.{Bool, true, false}
 use mathlib.Core.List.{List}
 use lib.ListN.{length}
 use lib.Dec.{leb}
-use borrow.Author.Count.{below_more}
 use borrow.Author.Tests.{leb-true, leb-false}
-use Rattle.line.specs.declared.Found.TheVariants.{At, Nothing}
 use Rattle.line.specs.Line.{Symbol, is_control, is_start}
 use Rattle.line.specs.Passed.{Passed, Has}
 use Rattle.line.proofs.Symbols.{by_test}
@@ -16,12 +15,6 @@ use Rattle.line.proofs.Buffers.{symbol_at}
 use Rattle.line.proofs.Search.{from, search_here, search_skip, search_end-octets, search_end-marks, data_tests, no_start-octet}
 
 module _ (P : ℕ → Type 0) where
-  -- a block's test: what held of each place where no flag was up, holds with the next place's flag
-  pub block_more : (at k : ℕ) (any flag : Bool) → (any ≡ false → (j : ℕ) → j < k → P (at + j)) → (flag ≡ false → P (at + k))
-      → any || flag ≡ false → (j : ℕ) → j < k + 1 → P (at + j)
-  block_more at k true flag all here z = absurd (false≢true (sym z))
-  block_more at k false flag all here z = below_more (λ (j : ℕ). P (at + j)) k (all refl) (here z)
-
   pub passed_none : (a e : ℕ) → a ≤ e → Passed P a a e
   passed_none a e h = record { forth = omega arith; within = h; each = λ k l g. absurd (omega arith) }
 
@@ -65,16 +58,16 @@ module _ (test : Symbol → Bool) (os ms : List ℕ) where
       search_skip test os ms (b - a) a (omega arith) (omega arith) (λ k l. p.each (a + k) (omega arith) (omega arith)) ∙ ap (from test os ms) w
 
   -- found where it stopped, or nothing at the end of the shorter buffer
-  pub search_found : (a b e : ℕ) → e ≤ length os → e ≤ length ms → Passed Miss a b e → b < e → test (symbol_at os ms b) ≡ true → At b ≡ from test os ms a
+  pub search_found : (a b e : ℕ) → e ≤ length os → e ≤ length ms → Passed Miss a b e → b < e → test (symbol_at os ms b) ≡ true → Some b ≡ from test os ms a
   search_found a b e h g p l t = sym (passed_search a b e h g p ∙ search_here test os ms b (omega arith) (omega arith) t)
 
-  pub search_none : (a e : ℕ) → (e < length os → e ≡ length ms) → e ≤ a → Nothing ≡ from test os ms a
+  pub search_none : (a e : ℕ) → (e < length os → e ≡ length ms) → e ≤ a → None ≡ from test os ms a
   search_none a e x h =
       by_test (leb (length os) e)
       (λ t. let q = leb-true (length os) e t in sym (search_end-octets test os ms a (omega arith)))
       (λ t. let q = x (leb-false (length os) e t) in sym (search_end-marks test os ms a (omega arith)))
 
-  pub search_ended : (a b e : ℕ) → e ≤ length os → e ≤ length ms → (e < length os → e ≡ length ms) → Passed Miss a b e → e ≤ b → Nothing ≡ from test os ms a
+  pub search_ended : (a b e : ℕ) → e ≤ length os → e ≤ length ms → (e < length os → e ≡ length ms) → Passed Miss a b e → e ≤ b → None ≡ from test os ms a
   search_ended a b e h g x p l = search_none b e x l ∙ sym (passed_search a b e h g p)
 
 -- a mark 0 is no control symbol, and an Idle no Start, whatever its mark

@@ -1,4 +1,5 @@
 -- A search over the two buffers: what one turn of a loop uses, and what a caller learns of the place found. Assumes nothing.
+use Rattle.std.specs.Prelude.{Option, Some, None}
 use Prim.Native.Nat.{ℕ, zero, suc, ◌+◌, ◌≤◌, ◌<◌}
 use native.Mathlib.Omega.{arith}
 use mathlib.Core.Path.{◌≡◌, refl, ap, ap₂, ◌∙◌}
@@ -7,28 +8,26 @@ use mathlib.Core.List.{List}
 use lib.ListN.{length, drop}
 use lib.Dec.{eqb}
 use borrow.Author.Tests.{eq-eqb, ne_eqb}
-use Rattle.line.specs.declared.Found.{Found}
-use Rattle.line.specs.declared.Found.TheVariants.{At, Nothing}
 use Rattle.line.specs.Line.{Symbol, capture, is_data, is_control, is_start, start, first_where}
 use Rattle.line.proofs.Symbols.{where_here, where_later}
 use Rattle.line.proofs.Buffers.{symbol_at, capture-at, capture-end-octets, capture-end-marks}
 
 module _ (test : Symbol → Bool) (os ms : List ℕ) where
   -- the search from a place on
-  abbrev pub from : ℕ → Found
+  abbrev pub from : ℕ → Option ℕ
   from i = first_where test i (drop i (capture os ms))
 
   -- found there, gone on with at the next place, or at its end
-  pub search_here : (i : ℕ) → i < length os → i < length ms → test (symbol_at os ms i) ≡ true → from i ≡ At i
+  pub search_here : (i : ℕ) → i < length os → i < length ms → test (symbol_at os ms i) ≡ true → from i ≡ Some i
   search_here i h g t = ap (first_where test i) (capture-at os ms i h g) ∙ where_here test i (symbol_at os ms i) (drop (i + 1) (capture os ms)) t
 
   pub search_on : (i : ℕ) → i < length os → i < length ms → test (symbol_at os ms i) ≡ false → from i ≡ from (i + 1)
   search_on i h g t = ap (first_where test i) (capture-at os ms i h g) ∙ where_later test i (symbol_at os ms i) (drop (i + 1) (capture os ms)) t
 
-  pub search_end-octets : (i : ℕ) → length os ≤ i → from i ≡ Nothing
+  pub search_end-octets : (i : ℕ) → length os ≤ i → from i ≡ None
   search_end-octets i h = ap (first_where test i) (capture-end-octets os ms i h) ∙ (unfold first_where in refl)
 
-  pub search_end-marks : (i : ℕ) → length ms ≤ i → from i ≡ Nothing
+  pub search_end-marks : (i : ℕ) → length ms ≤ i → from i ≡ None
   search_end-marks i h = ap (first_where test i) (capture-end-marks os ms i h) ∙ (unfold first_where in refl)
 
   -- a run of n places without it is passed at once

@@ -1,12 +1,11 @@
 -- One symbol more: the laws of the definitions that go through a list of symbols, one for each case of a test. Assumes nothing.
+use Rattle.std.specs.Prelude.{Some}
 use Prim.Native.Nat.{ℕ, ◌+◌}
 use mathlib.Core.Path.{◌≡◌, refl, sym, ap, ◌∙◌}
 use mathlib.Core.Bool.{Bool, true, false, not, ◌&&◌, and-false, false≢true}
 use mathlib.Core.List.{List, [], ◌∷◌}
-use mathlib.Core.Option.{some}
 use lib.Dec.{eqb}
 use borrow.Author.Tests.{eqb-true}
-use Rattle.line.specs.declared.Found.TheVariants.{At}
 use Rattle.line.specs.Line.{Symbol, is_data, is_control, is_start, start, first_where, run, ending, after_start, met_starts, start_count}
 
 -- a test is true or false
@@ -55,11 +54,11 @@ pub ending_data : (x : Symbol) (xs : List Symbol) → is_data x ≡ true → end
 unfolding ending
 ending_data x xs h = rw (h, ending)
 
-pub ending_control : (x : Symbol) (xs : List Symbol) → is_data x ≡ false → ending (x ∷ xs) ≡ some x
+pub ending_control : (x : Symbol) (xs : List Symbol) → is_data x ≡ false → ending (x ∷ xs) ≡ Some x
 unfolding ending
 ending_control x xs h = rw (h, ending)
 
-pub where_here : (test : Symbol → Bool) (at : ℕ) (x : Symbol) (xs : List Symbol) → test x ≡ true → first_where test at (x ∷ xs) ≡ At at
+pub where_here : (test : Symbol → Bool) (at : ℕ) (x : Symbol) (xs : List Symbol) → test x ≡ true → first_where test at (x ∷ xs) ≡ Some at
 unfolding first_where
 where_here test at x xs h = rw (h, first_where)
 

@@ -1,7 +1,7 @@
 -- A word of octets, low octet first, and where its first octet stands that is not v. Assumes nothing.
 use Prim.Native.Nat.{ℕ, zero, suc, ◌+◌, ◌-◌, ◌*◌, ◌/◌, ◌%◌, ◌^◌, ◌≤◌, ◌<◌}
 use native.Mathlib.Omega.{arith}
-use native.Mathlib.Nat.{add-zero, pow-suc, pow-succ', mul_assoc, div-one, div-div-eq-div-mul}
+use native.Mathlib.Nat.{add-zero, pow-suc, pow-succ', div-one, div-div-eq-div-mul}
 use lib.Arith.{mod-mul}
 use lib.Pow.{pow_pos}
 use mathlib.Core.Path.{◌≡◌, refl, sym, ap, ap₂, ◌∙◌, subst}
@@ -19,25 +19,6 @@ use Rattle.line.proofs.Symbols.{by_test}
 -- of octets below 256
 abbrev pub Octets : List ℕ → Type 0
 Octets l = (k : ℕ) → get_or l k 0 < 256
-
-pub low_one : (l : List ℕ) (at : ℕ) → low_first l at 1 ≡ get_or l at 0
-unfolding low_first
-low_one l at = omega arith
-
--- a word of two parts
-pub low_add : (l : List ℕ) (a at b : ℕ) → low_first l at (a + b) ≡ low_first l at a + low_first l (at + a) b * 256 ^ a
-unfolding low_first
-low_add l zero at b =
-    ap₂ (low_first l) (let e : at ≡ at + 0 = omega arith in e) (let e : 0 + b ≡ b = omega arith in e) ∙ omega arith
-low_add l (suc a) at b =
-    let x = get_or l at 0 in
-    let y = low_first l (at + 1) a in
-    let z = low_first l (at + suc a) b in
-    let s : low_first l at (suc (a + b)) ≡ low_first l (at + 1) (a + b) * 256 + x = refl in
-    let ih : low_first l (at + 1) (a + b) ≡ y + z * 256 ^ a
-    = low_add l a (at + 1) b ∙ ap (λ (k : ℕ). y + low_first l k b * 256 ^ a) (let e : at + 1 + a ≡ at + suc a = omega arith in e) in
-    let m : z * 256 ^ suc a ≡ z * 256 ^ a * 256 = ap (λ (p : ℕ). z * p) (pow-suc 256 a) ∙ sym (mul_assoc z (256 ^ a) 256) in
-    ap (low_first l at) (let e : suc a + b ≡ suc (a + b) = omega arith in e) ∙ omega arith
 
 -- a word of the octets from a place on
 pub low_drop : (l : List ℕ) (at k n : ℕ) → low_first (drop at l) k n ≡ low_first l (at + k) n

@@ -1,4 +1,8 @@
 -- The claim on a walk that keeps its readings, as a theorem: `walk-keeps`. Assumes nothing.
+use Rattle.std.specs.Prelude.{Err, Ok}
+use Rattle.station.specs.Numbers.{Checked}
+use Rattle.receive.specs.Values.{WalkAnswer}
+use Rattle.receive.specs.Values.{walk_ended}
 use Prim.Native.Nat.{ℕ, zero, suc, ◌+◌, ◌-◌, ◌*◌, ◌≤◌}
 use native.Mathlib.Omega.{arith}
 use mathlib.Core.Path.{◌≡◌, refl, sym, ap, ap₂, ◌∙◌, subst}
@@ -13,7 +17,6 @@ use Rattle.station.specs.declared.State.{State}
 use Rattle.station.specs.declared.Part.{Part}
 use Rattle.station.specs.declared.Outcome.{Outcome}
 use Rattle.station.specs.declared.Refusal.{Refusal}
-use Rattle.station.specs.declared.Checked.{Checked}
 use Rattle.table.specs.declared.Entry.{Entry}
 use Rattle.reading_log.specs.declared.Record.{Record}
 use Rattle.reading_log.specs.Log.{octets_of_record, extent}
@@ -25,8 +28,6 @@ use Rattle.reading_log.proofs.Claims.{zero-filled, counted-nil, counted_yes, cou
 use Rattle.receive.specs.declared.Answer.{Answer}
 use Rattle.receive.specs.declared.Answer.TheVariants.{Counted}
 use Rattle.receive.specs.declared.Reading.{Reading}
-use Rattle.receive.specs.declared.WalkAnswer.{WalkAnswer}
-use Rattle.receive.specs.declared.WalkAnswer.TheVariants.{Ended}
 use Rattle.receive.specs.declared.Walking.{Walking}
 use Rattle.receive.specs.Values.{is_counted, answer_outcome}
 use Rattle.receive.specs.Reading.{read_refusals, reading}
@@ -91,8 +92,8 @@ pub counted_fits : (s : Settings) (job : ℕ) (es : List Entry) → length es �
 counted_fits s job es few st os ms p h = by_checked (first (read_refusals s job es os ms p)) refl
   where
     by_checked : (c : Checked) → first (read_refusals s job es os ms p) ≡ c → Fits (record_of_reading (reading s job es st os ms p))
-    by_checked (Checked.Refused x) e = absurd (false≢true (sym (ap (λ (r : Reading). is_counted r.answer) (read-refused s job es st os ms p x e)) ∙ h))
-    by_checked Checked.Fine e = reading_fits s job es st os ms p e few
+    by_checked (Err x) e = absurd (false≢true (sym (ap (λ (r : Reading). is_counted r.answer) (read-refused s job es st os ms p x e)) ∙ h))
+    by_checked (Ok _) e = reading_fits s job es st os ms p e few
 
 -- ---- what readings come to, behind records that stand there already
 
@@ -110,15 +111,15 @@ module _ (room : ℕ) where
         e (records-last r h)
         ∙ ap₂ (λ (k : ℕ) (us' : List Record). stopped (end_of x) r.state r.next k (filled room us')) (let z : n + 0 ≡ n = omega arith in z) (append-nil us)
 
-    last-refused : (x : Refusal) → r.answer ≡ Answer.Refused x → walk_of n st (r ∷ []) ≡ record { answer = WalkAnswer.Refused x; state = r.state }
+    last-refused : (x : Refusal) → r.answer ≡ Answer.Refused x → walk_of n st (r ∷ []) ≡ record { answer = Err x; state = r.state }
     unfolding walk_of
     last-refused x e = rw e
 
-    last_none : r.answer ≡ Answer.Nothing → walk_of n st (r ∷ []) ≡ record { answer = Ended n false; state = r.state }
+    last_none : r.answer ≡ Answer.Nothing → walk_of n st (r ∷ []) ≡ record { answer = walk_ended n false; state = r.state }
     unfolding walk_of
     last_none e = rw e
 
-    last_open : r.answer ≡ Answer.Open → walk_of n st (r ∷ []) ≡ record { answer = Ended n true; state = r.state }
+    last_open : r.answer ≡ Answer.Open → walk_of n st (r ∷ []) ≡ record { answer = walk_ended n true; state = r.state }
     unfolding walk_of
     last_open e = rw e
 
@@ -167,13 +168,13 @@ module _ (room : ℕ) where
     unfolding AllFit AllCount
     kept_turn few ih (Answer.Refused x) e n us f c h =
         turn_refused s job es st os ms p n (filled room us) (suc most) (omega arith) r refl x e
-        ∙ kept-last n us (WalkAnswer.Refused x) (ap is_counted e) (last-refused n st p us r x e)
+        ∙ kept-last n us (Err x) (ap is_counted e) (last-refused n st p us r x e)
     kept_turn few ih Answer.Nothing e n us f c h =
         turn_none s job es st os ms p n (filled room us) (suc most) (omega arith) r refl e
-        ∙ kept-last n us (Ended n false) (ap is_counted e) (last_none n st p us r e)
+        ∙ kept-last n us (walk_ended n false) (ap is_counted e) (last_none n st p us r e)
     kept_turn few ih Answer.Open e n us f c h =
         turn_open s job es st os ms p n (filled room us) (suc most) (omega arith) r refl e
-        ∙ kept-last n us (Ended n true) (ap is_counted e) (last_open n st p us r e)
+        ∙ kept-last n us (walk_ended n true) (ap is_counted e) (last_open n st p us r e)
     kept_turn few ih (Counted o w q v) e n us f c h =
         let x = record_of_reading r in
         let yes : is_counted r.answer ≡ true = ap is_counted e in
@@ -211,11 +212,11 @@ from_first s job es st os ms p l good = by_checked (first (read_refusals s job e
   where
     by_checked : (c : Checked) → first (read_refusals s job es os ms p) ≡ c
         → walk_logged s job es st os ms p l ≡ keep_from (length os + 1) s job es st os ms p 0 l
-    by_checked (Checked.Refused x) e =
+    by_checked (Err x) e =
         walk_refused s job es st os ms p l (ByReading x) (keep_read s job es os ms p l x e)
         ∙ sym (turn_refused s job es st os ms p 0 l (length os + 1) (omega arith) (record { answer = Answer.Refused x; start = p; next = p; state = st })
         (sym (read-refused s job es st os ms p x e)) x refl)
-    by_checked Checked.Fine e = walk_fine s job es st os ms p l (keep_goes s job es os ms p l good e)
+    by_checked (Ok _) e = walk_fine s job es st os ms p l (keep_goes s job es os ms p l good e)
 
 -- the records of readings have their widths
 module _ (most : ℕ) (s : Settings) (job : ℕ) (es : List Entry) (st : State) (os ms : List ℕ) (p : ℕ) where

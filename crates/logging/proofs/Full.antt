@@ -1,4 +1,6 @@
 -- A walk that keeps its readings and finds the log full, as a theorem: `full-goes_on`. Assumes nothing.
+use Rattle.std.specs.Prelude.{Result, Ok, Err}
+use Rattle.logging.specs.Walks.{KeepChecked}
 use Prim.Native.Nat.{ℕ, zero, suc, ◌+◌, ◌-◌, ◌<◌}
 use native.Mathlib.Omega.{arith}
 use mathlib.Core.Path.{◌≡◌, refl, sym, ap, ◌∙◌, subst}
@@ -11,7 +13,6 @@ use Rattle.station.specs.declared.State.{State}
 use Rattle.table.specs.declared.Entry.{Entry}
 use Rattle.reading_log.specs.declared.LogRefusal.{LogRefusal}
 use Rattle.reading_log.specs.declared.LogRefusal.TheVariants.{BadLog, LogFull, NotUsed}
-use Rattle.reading_log.specs.declared.Logged.{Logged}
 use Rattle.reading_log.specs.Numbers.{log_refusal_number, logged_refusal}
 use Rattle.reading_log.specs.Log.{appending}
 use Rattle.reading_log.specs.Claims.{append_all}
@@ -26,7 +27,6 @@ use Rattle.logging.specs.declared.LogEnd.{LogEnd}
 use Rattle.logging.specs.declared.LogEnd.TheVariants.{Nothing, Open, Full}
 use Rattle.logging.specs.Records.{record_of_reading}
 use Rattle.logging.specs.Walks.{Keeping, stopped, keep_from, keep_refusals, walk_logged}
-use Rattle.logging.specs.declared.KeepChecked.{KeepChecked}
 use Rattle.logging.specs.Claims.{AllCounted, StopsFull}
 use Rattle.logging.proofs.Claims.{readings_on}
 use Rattle.logging.proofs.Turns.{turn_refused, turn_none, turn_open, by-appending, walk_refused, walk_fine}
@@ -61,7 +61,7 @@ module _ (s : Settings) (job : ℕ) (es : List Entry) (os ms : List ℕ) where
     r = reading s job es st os ms p
 
     -- no record is unused: nothing was made
-    stops_here : (n : ℕ) (l : List ℕ) → is_counted r.answer ≡ true → (x : LogRefusal) → (appending l (record_of_reading r)).given ≡ Logged.Refused x
+    stops_here : (n : ℕ) (l : List ℕ) → is_counted r.answer ≡ true → (x : LogRefusal) → (appending l (record_of_reading r)).given ≡ Err x
         → StopsFull (suc most) s job es st os ms p n l (stopped Full st p n l)
     unfolding AllCounted append_all
     stops_here n l is x e =
@@ -75,7 +75,7 @@ module _ (s : Settings) (job : ℕ) (es : List Entry) (os ms : List ℕ) where
           log = refl;
           further = ap (λ (m : ℕ). readings_from m s job es st os ms p) (sym less);
           next = is;
-          full = subst (λ (g : Logged). 0 < logged_refusal g) (sym e) some;
+          full = subst (λ (g : Result (Unit {0}) LogRefusal). 0 < logged_refusal g) (sym e) some;
         }
 
     -- the reading is kept, and the rest stops so
@@ -139,10 +139,10 @@ full-goes_on s job es st os ms p l f = by_checked (first (keep_refusals s job es
   where
     by_checked : (c : KeepChecked) → first (keep_refusals s job es os ms p l) ≡ c
         → StopsFull (length os + 1) s job es st os ms p 0 l (walk_logged s job es st os ms p l)
-    by_checked (KeepChecked.Refused x) e =
+    by_checked (Err x) e =
         absurd (other-end (LogEnd.Refused x) (walk_logged s job es st os ms p l) (unfold is_full in refl)
         (ap (λ (k : Keeping). k.given.end) (walk_refused s job es st os ms p l x e)) f)
-    by_checked KeepChecked.Fine e =
+    by_checked (Ok _) e =
         let h = walk_fine s job es st os ms p l e in
         subst (StopsFull (length os + 1) s job es st os ms p 0 l) (sym h)
         (stops_from s job es os ms (length os + 1) st p 0 l (sym (ap (λ (k : Keeping). k.given.end) h) ∙ f))

@@ -1,16 +1,14 @@
 -- A walk that keeps its readings as its code goes: the record of a Start's frame, and one turn of the loop, by where it finds a Start and the end of its run.
 -- Assumes nothing.
+use Rattle.std.specs.Prelude.{None, Ok, Option, Some}
 use Prim.Native.Nat.{ℕ, ◌+◌, ◌-◌, ◌*◌, ◌/◌, ◌≤◌, ◌<◌}
 use native.Mathlib.Omega.{arith}
 use mathlib.Core.Path.{◌≡◌, refl, sym, ap, ap₂, ◌∙◌, subst}
 use mathlib.Core.Bool.{true, false, false≢true}
 use mathlib.Core.List.{List, [], ◌∷◌}
-use mathlib.Core.Option.{Option}
 use lib.ListN.{length, get_or}
 use denote.Enum.Declared.{tag_of}
 use types.Run.{OneOf}
-use Rattle.line.specs.declared.Found.{Found}
-use Rattle.line.specs.declared.Found.TheVariants.{At}
 use Rattle.line.specs.Limits.{record_size, table_entries}
 use Rattle.line.specs.Line.{capture, find_start, find_control, overwrite}
 use Rattle.line.specs.Octets.{between}
@@ -23,7 +21,6 @@ use Rattle.station.specs.declared.Part.{Part}
 use Rattle.station.specs.declared.Outcome.{Outcome}
 use Rattle.station.specs.declared.Outcome.TheVariants.{Cut, BadPreamble, Undersized, Oversized, WrongFcs, WrongLength, Filtered}
 use Rattle.station.specs.declared.Outcome.TheVariants.{PauseTaken, PfcTaken, ControlDropped, HandedOut}
-use Rattle.station.specs.declared.Checked.TheVariants.{Fine}
 use Rattle.station.specs.Numbers.{by_outcome, outcome_number}
 use Rattle.station.specs.contracts.Outcome.{the_type}
 use Rattle.station.proofs.Arms.{one_to_seven, early}
@@ -101,20 +98,20 @@ module _ (s : Settings) (own : List (Option Address)) (i : ℕ) (f : List ℕ) w
 
 -- ---- one turn of the loop
 
-module _ (s : Settings) (job : ℕ) (es : List Entry) (os ms : List ℕ) (p : ℕ) (fine : first (read_refusals s job es os ms p) ≡ Fine) where
+module _ (s : Settings) (job : ℕ) (es : List Entry) (os ms : List ℕ) (p : ℕ) (fine : first (read_refusals s job es os ms p) ≡ Ok tt) where
   abbrev own : List (Option Address)
   own = mine job es
 
   module _ (st : State) (n : ℕ) (l : List ℕ) (left : ℕ) (more : 0 < left) where
-    pub loop_none : find_start (capture os ms) p ≡ Found.Nothing → keep_from left s job es st os ms p n l ≡ stopped Nothing st (length os) n l
+    pub loop_none : find_start (capture os ms) p ≡ None → keep_from left s job es st os ms p n l ≡ stopped Nothing st (length os) n l
     loop_none h = turn_none s job es st os ms p n l left more _ (sym (read_none s job es st os ms p fine h)) refl
 
-    pub loop_open : (i : ℕ) → find_start (capture os ms) p ≡ At i → find_control (capture os ms) (i + 1) ≡ Found.Nothing
+    pub loop_open : (i : ℕ) → find_start (capture os ms) p ≡ Some i → find_control (capture os ms) (i + 1) ≡ None
         → keep_from left s job es st os ms p n l ≡ stopped Open st i n l
     loop_open i g h = turn_open s job es st os ms p n l left more _ (sym (read_open s job es st os ms p fine i g h)) refl
 
   -- a Start at i whose run is ended at e
-  module _ (i : ℕ) (found : find_start (capture os ms) p ≡ At i) (e : ℕ) (end : find_control (capture os ms) (i + 1) ≡ At e) where
+  module _ (i : ℕ) (found : find_start (capture os ms) p ≡ Some i) (e : ℕ) (end : find_control (capture os ms) (i + 1) ≡ Some e) where
     abbrev run : List ℕ
     run = between os (i + 1) e
 

@@ -1,15 +1,13 @@
 -- A reading of a capture: it moves on, its places lie inside the capture, and its record holds it whole: `reading_whole`. Assumes nothing.
+use Rattle.std.specs.Prelude.{None, Ok, Option, Some}
 use Prim.Native.Nat.{ℕ, ◌+◌, ◌-◌, ◌^◌, ◌≤◌, ◌<◌}
 use native.Mathlib.Omega.{arith}
 use native.Mathlib.Nat.{mod-eq_of_lt, mod-lt}
 use mathlib.Core.Path.{◌≡◌, refl, sym, subst}
 use mathlib.Core.Bool.{Bool, true, false, not, ◌&&◌, false≢true}
 use mathlib.Core.List.{List}
-use mathlib.Core.Option.{Option}
 use lib.ListN.{length, get_or, length-take, length-drop}
 use lib.Dec.{eqb, leb, lit<}
-use Rattle.line.specs.declared.Found.{Found}
-use Rattle.line.specs.declared.Found.TheVariants.{At}
 use Rattle.line.specs.Limits.{most_symbols, table_entries}
 use Rattle.line.specs.Line.{capture, find_start, find_control}
 use Rattle.line.specs.Octets.{between, same_octets}
@@ -21,7 +19,6 @@ use Rattle.station.specs.declared.State.{State}
 use Rattle.station.specs.declared.Outcome.{Outcome}
 use Rattle.station.specs.declared.Outcome.TheVariants.{Cut, BadPreamble, Undersized, Oversized, WrongFcs, WrongLength, Filtered}
 use Rattle.station.specs.declared.Outcome.TheVariants.{PauseTaken, PfcTaken, ControlDropped, HandedOut}
-use Rattle.station.specs.declared.Checked.TheVariants.{Fine}
 use Rattle.station.specs.Numbers.{by_outcome, outcome_number}
 use Rattle.station.specs.Station.{is_group}
 use Rattle.fields.specs.Fields.{destination, data_place, field}
@@ -144,7 +141,7 @@ run_sound s own st os p i run o low high small =
       on = λ z. (omega arith, omega arith);
     }
 
-module _ (s : Settings) (job : ℕ) (es : List Entry) (st : State) (os ms : List ℕ) (p : ℕ) (fine : first (read_refusals s job es os ms p) ≡ Fine) where
+module _ (s : Settings) (job : ℕ) (es : List Entry) (st : State) (os ms : List ℕ) (p : ℕ) (fine : first (read_refusals s job es os ms p) ≡ Ok tt) where
   abbrev own : List (Option Address)
   own = mine job es
 
@@ -154,14 +151,14 @@ module _ (s : Settings) (job : ℕ) (es : List Entry) (st : State) (os ms : List
       k : Passed s job es os ms p
       k = passed s job es os ms p fine
 
-      by_end : (i : ℕ) → find_start (capture os ms) p ≡ At i → (f : Found) → find_control (capture os ms) (i + 1) ≡ f
+      by_end : (i : ℕ) → find_start (capture os ms) p ≡ Some i → (f : Option ℕ) → find_control (capture os ms) (i + 1) ≡ f
           → Sound own os p (reading s job es st os ms p)
-      by_end i g Found.Nothing h =
+      by_end i g None h =
           let b = start_found_lem os ms k.even p i g in
           let small = k.small in
           subst (Sound own os p) (sym (read_open s job es st os ms p fine i g h))
           (record { place = omega arith; handed = omega arith; status = lit< tt; way = λ _. lit< tt; refused = refl; on = λ z. absurd (false≢true z) })
-      by_end i g (At e) h =
+      by_end i g (Some e) h =
           let b = start_found_lem os ms k.even p i g in
           let d = control_found os ms k.even (i + 1) e h in
           let small = k.small in
@@ -170,12 +167,12 @@ module _ (s : Settings) (job : ℕ) (es : List Entry) (st : State) (os ms : List
           subst (Sound own os p) (sym (read-ended s job es st os ms p fine i g e h))
           (run_sound s own st os p i run (outcome s own run (get_or os e 0)) (omega arith) (omega arith) (omega arith))
 
-      by-start : (f : Found) → find_start (capture os ms) p ≡ f → Sound own os p (reading s job es st os ms p)
-      by-start Found.Nothing g =
+      by-start : (f : Option ℕ) → find_start (capture os ms) p ≡ f → Sound own os p (reading s job es st os ms p)
+      by-start None g =
           let small = k.small in
           subst (Sound own os p) (sym (read_none s job es st os ms p fine g))
           (record { place = omega arith; handed = omega arith; status = lit< tt; way = λ _. lit< tt; refused = refl; on = λ z. absurd (false≢true z) })
-      by-start (At i) g = by_end i g (find_control (capture os ms) (i + 1)) refl
+      by-start (Some i) g = by_end i g (find_control (capture os ms) (i + 1)) refl
 
   -- nothing of it is cut off
   pub reading_whole : Whole (reading s job es st os ms p)

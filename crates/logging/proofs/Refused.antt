@@ -1,4 +1,6 @@
 -- The exact refusals of a walk that keeps its readings, as a theorem: `walk_refuses`. Assumes nothing.
+use Rattle.std.specs.Prelude.{Err, Ok}
+use Rattle.station.specs.Numbers.{Checked}
 use Prim.Native.Nat.{ℕ, zero, suc, ◌+◌, ◌-◌, ◌<◌}
 use native.Mathlib.Omega.{arith}
 use mathlib.Core.Path.{◌≡◌, refl, sym, ap, ◌∙◌, subst}
@@ -11,7 +13,6 @@ use Rattle.station.specs.declared.Settings.{Settings}
 use Rattle.station.specs.declared.State.{State}
 use Rattle.station.specs.declared.Refusal.{Refusal}
 use Rattle.station.specs.declared.Refusal.TheVariants.{BadSettings, BadBuffers, BadPlace, OtherFlow, BadClass, BadType, LongData, NoRoom, Held, ManyTags, BadJob, HoldsTwelve, AllInUse, AlreadyListed, NotListed, HighDeficit, BadTable, WrongTotals, HighTotal}
-use Rattle.station.specs.declared.Checked.{Checked}
 use Rattle.station.specs.Numbers.{refusal_number}
 use Rattle.table.specs.declared.Entry.{Entry}
 use Rattle.reading_log.specs.declared.LogRefusal.TheVariants.{BadLog}
@@ -64,7 +65,7 @@ module _ (s : Settings) (job : ℕ) (es : List Entry) (os ms : List ℕ) where
   abbrev GoesFrom : ℕ → State → ℕ → Type 0
   GoesFrom most st p = (n : ℕ) (l : List ℕ) → Goes (keep_from most s job es st os ms p n l)
 
-  goes_turn : (most : ℕ) (st : State) (p : ℕ) → first (read_refusals s job es os ms p) ≡ Checked.Fine
+  goes_turn : (most : ℕ) (st : State) (p : ℕ) → first (read_refusals s job es os ms p) ≡ Ok tt
       → (is_counted (reading s job es st os ms p).answer ≡ true → GoesFrom most (reading s job es st os ms p).state (reading s job es st os ms p).next)
       → (a : Answer) → (reading s job es st os ms p).answer ≡ a → GoesFrom (suc most) st p
   goes_turn most st p fine ih (Answer.Refused x) e n l =
@@ -82,7 +83,7 @@ module _ (s : Settings) (job : ℕ) (es : List Entry) (os ms : List ℕ) where
       by-appending s job es st os ms p n l (suc most) (omega arith) r refl o w q v e Goes
       (subst (λ (k : ℕ). Goes (keep_from k s job es r.state os ms r.next (n + 1) m)) (sym less) (ih (ap is_counted e) (n + 1) m)) (λ x _. refl)
 
-  goes-from : (most : ℕ) (st : State) (p : ℕ) → first (read_refusals s job es os ms p) ≡ Checked.Fine → GoesFrom most st p
+  goes-from : (most : ℕ) (st : State) (p : ℕ) → first (read_refusals s job es os ms p) ≡ Ok tt → GoesFrom most st p
   goes-from zero st p fine = λ n l. (unfold keep_from in refl)
   goes-from (suc most) st p fine =
       let r = reading s job es st os ms p in
@@ -102,7 +103,7 @@ walk_refuses s job es st os ms p l = by_checked (first (read_refusals s job es o
     refused_as e h = h ∙ ap (λ (x : LogEnd). stopped x st p 0 l) (sym (ap (λ (k : Keeping). k.given.end) h))
 
     by_checked : (c : Checked) → first (read_refusals s job es os ms p) ≡ c → WalksOrRefuses s job es st os ms p l
-    by_checked (Checked.Refused x) e =
+    by_checked (Err x) e =
         let h = walk_refused s job es st os ms p l (ByReading x) (keep_read s job es os ms p l x e) in
         let n : end_refusal (walk_logged s job es st os ms p l).given.end ≡ refusal_number x = ap (λ (k : Keeping). end_refusal k.given.end) h in
         let a : answer_refusal (reading s job es st os ms p).answer ≡ refusal_number x
@@ -114,7 +115,7 @@ walk_refuses s job es st os ms p l = by_checked (first (read_refusals s job es o
           goes = λ z _. absurd (let w : ⊥ = omega arith in w);
           refused = λ _. refused_as _ h;
         }
-    by_checked Checked.Fine e =
+    by_checked (Ok _) e =
         let a = (reading_sound s job es st os ms p e).refused in
         by_test (bad_log l)
         (λ b. let h = walk_refused s job es st os ms p l (ByLog BadLog) (keep_bad s job es os ms p l e b) in

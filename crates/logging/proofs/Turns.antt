@@ -1,4 +1,6 @@
 -- One turn of a walk that keeps its readings, by what the reading answers and whether the log has room. Assumes nothing.
+use Rattle.std.specs.Prelude.{Result, Ok, Err}
+use Rattle.logging.specs.Walks.{KeepChecked}
 use Prim.Native.Nat.{ℕ, suc, ◌+◌, ◌-◌, ◌*◌, ◌/◌, ◌<◌}
 use native.Mathlib.Omega.{arith}
 use mathlib.Core.Path.{◌≡◌, refl, sym, ap, ◌∙◌, subst}
@@ -17,7 +19,6 @@ use Rattle.station.specs.declared.Refusal.{Refusal}
 use Rattle.station.specs.Numbers.{outcome_number}
 use Rattle.table.specs.declared.Entry.{Entry}
 use Rattle.reading_log.specs.declared.LogRefusal.{LogRefusal}
-use Rattle.reading_log.specs.declared.Logged.{Logged}
 use Rattle.reading_log.specs.Log.{octets_of_record, extent, roomy, Logging, appending}
 use Rattle.reading_log.specs.Claims.{IsMultiple}
 use Rattle.reading_log.proofs.Records.{counts_so}
@@ -30,8 +31,6 @@ use Rattle.receive.specs.Values.{answer_outcome}
 use Rattle.receive.specs.Reading.{reading}
 use Rattle.logging.specs.declared.KeepRefusal.{KeepRefusal}
 use Rattle.logging.specs.declared.KeepRefusal.TheVariants.{ByReading}
-use Rattle.logging.specs.declared.KeepChecked.{KeepChecked}
-use Rattle.logging.specs.declared.KeepChecked.TheVariants.{Fine, Refused}
 use Rattle.logging.specs.declared.LogEnd.{LogEnd}
 use Rattle.logging.specs.declared.LogEnd.TheVariants.{Nothing, Open, Full}
 use Rattle.logging.specs.Records.{record_of_reading}
@@ -64,8 +63,8 @@ module _ (s : Settings) (job : ℕ) (es : List Entry) (st : State) (os ms : List
   abbrev given : Reading → Logging → Keeping
   given r a =
       elim a.given [
-        | Logged.Fine ↦ keep_from (left - 1) s job es r.state os ms r.next (n + 1) a.log
-        | Logged.Refused x ↦ stopped Full st p n l
+        | Ok _ ↦ keep_from (left - 1) s job es r.state os ms r.next (n + 1) a.log
+        | Err x ↦ stopped Full st p n l
       ]
 
   abbrev follows : Reading → Keeping
@@ -101,20 +100,20 @@ module _ (s : Settings) (job : ℕ) (es : List Entry) (st : State) (os ms : List
       -- what the appending gives decides
       pub by-appending : (P : Keeping → Type 0) → let a : Logging = appending l (record_of_reading r) in
           P (keep_from (left - 1) s job es r.state os ms r.next (n + 1) a.log)
-          → ((x : LogRefusal) → a.given ≡ Logged.Refused x → P (stopped Full st p n l))
+          → ((x : LogRefusal) → a.given ≡ Err x → P (stopped Full st p n l))
           → P (keep_from left s job es st os ms p n l)
       by-appending P on full = subst P (sym counted) (by_logged a.given refl)
         where
           a : Logging
           a = appending l (record_of_reading r)
 
-          branch : Logged → Keeping
+          branch : Result (Unit {0}) LogRefusal → Keeping
           branch g =
-              elim g [ Logged.Fine ↦ keep_from (left - 1) s job es r.state os ms r.next (n + 1) a.log | Logged.Refused x ↦ stopped Full st p n l ]
+              elim g [ Ok _ ↦ keep_from (left - 1) s job es r.state os ms r.next (n + 1) a.log | Err x ↦ stopped Full st p n l ]
 
-          by_logged : (g : Logged) → a.given ≡ g → P (branch a.given)
-          by_logged Logged.Fine e = subst (λ (g : Logged). P (branch g)) (sym e) on
-          by_logged (Logged.Refused x) e = subst (λ (g : Logged). P (branch g)) (sym e) (full x e)
+          by_logged : (g : Result (Unit {0}) LogRefusal) → a.given ≡ g → P (branch a.given)
+          by_logged (Ok _) e = subst (λ (g : Result (Unit {0}) LogRefusal). P (branch g)) (sym e) on
+          by_logged (Err x) e = subst (λ (g : Result (Unit {0}) LogRefusal). P (branch g)) (sym e) (full x e)
 
       -- there is no room behind the last used record, or a record is written there
       pub turn_full : IsMultiple l → extent (roomy l) ≡ length l / record_size → keep_from left s job es st os ms p n l ≡ stopped Full st p n l
@@ -131,11 +130,11 @@ module _ (s : Settings) (job : ℕ) (es : List Entry) (st : State) (os ms : List
 -- ---- the whole walk
 
 module _ (s : Settings) (job : ℕ) (es : List Entry) (st : State) (os ms : List ℕ) (p : ℕ) (l : List ℕ) where
-  pub walk_refused : (x : KeepRefusal) → first (keep_refusals s job es os ms p l) ≡ Refused x
+  pub walk_refused : (x : KeepRefusal) → first (keep_refusals s job es os ms p l) ≡ Err x
       → walk_logged s job es st os ms p l ≡ stopped (LogEnd.Refused x) st p 0 l
   unfolding walk_logged keep_checked
   walk_refused x h = ap (λ (k : KeepChecked). keep_checked k s job es st os ms p l) h
 
-  pub walk_fine : first (keep_refusals s job es os ms p l) ≡ Fine → walk_logged s job es st os ms p l ≡ keep_from (length os + 1) s job es st os ms p 0 l
+  pub walk_fine : first (keep_refusals s job es os ms p l) ≡ Ok tt → walk_logged s job es st os ms p l ≡ keep_from (length os + 1) s job es st os ms p 0 l
   unfolding walk_logged keep_checked
   walk_fine h = ap (λ (k : KeepChecked). keep_checked k s job es st os ms p l) h

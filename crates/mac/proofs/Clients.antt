@@ -1,9 +1,9 @@
 -- What the Starts of a capture hand out, as a list over them, and that the calls of a walk hand out just that: `walk-hands`. Assumes nothing.
+use Rattle.std.specs.Prelude.{None, Option, Some}
 use Prim.Native.Nat.{ℕ, ◌+◌}
 use native.Mathlib.Omega.{arith}
 use mathlib.Core.Path.{◌≡◌, refl, sym, ap, ap₂, ◌∙◌, subst}
 use mathlib.Core.List.{List, [], ◌∷◌, ◌++◌}
-use mathlib.Core.Option.{Option, none, some}
 use lib.ListN.{length, drop}
 use Rattle.line.specs.Limits.{lead_size}
 use Rattle.line.specs.Line.{Symbol, capture, is_start, run, ending, AfterStart, unended, ended, ended_by, after_start, MetStart, met_starts}
@@ -55,8 +55,8 @@ placed c at (x ∷ xs) e =
 -- a run that follows a Start in the capture is the run there
 pub same-run : (r : List ℕ) (by : ℕ) (l : List Symbol) (e : Option Symbol) → ending l ≡ e → ended r by ≡ ended_by (run l) e → r ≡ run l
 unfolding ended_by
-same-run r by l none h q = let bad : ◌≡◌ {A = ℕ} 0 1 = cc in absurd (omega arith)
-same-run r by l (some y) h q = cc
+same-run r by l None h q = let bad : ◌≡◌ {A = ℕ} 0 1 = cc in absurd (omega arith)
+same-run r by l (Some y) h q = cc
 
 module _ (s : Settings) (job : ℕ) (es : List Entry) (os ms : List ℕ) where
   -- what the job has of the table

@@ -1,18 +1,17 @@
 -- Claim 2, demand 1: each call ends with a reading, symbols written or a refusal out of exactly its list, the first that holds; a refusal leaves
 -- state and both buffers as they were. The statements are `reading_refuses`, `walk_refuses`, `client_refuses`, `pause_refuses`, `pfc_refuses`
 -- and `idle_refuses`. Assumes nothing.
+use Rattle.std.specs.Prelude.{Err, None, Ok, Option, Some}
+use Rattle.station.specs.Numbers.{Checked}
 use Prim.Native.Nat.{ℕ, ◌+◌, ◌<◌}
 use native.Mathlib.Omega.{arith}
 use mathlib.Core.Path.{◌≡◌, refl, sym, ap, ◌∙◌, subst₂}
 use mathlib.Core.Bool.{Bool, true, false, not, ◌||◌, true≢false, and-false}
 use mathlib.Core.Logic.{◌↔◌}
 use mathlib.Core.List.{List, [], ◌∷◌}
-use mathlib.Core.Option.{Option}
 use lib.Dec.{eqb}
 use borrow.Author.Tests.{eq-eqb, ne_eqb, eqb-true, not-false, le-ltb}
 use lib.ListN.{length, drop}
-use Rattle.line.specs.declared.Found.{Found}
-use Rattle.line.specs.declared.Found.TheVariants.{At}
 use Rattle.line.specs.Line.{Symbol, capture, find_start, AfterStart, unended, ended, after_start, MetStart, met_starts}
 use Rattle.line.specs.Table.{Row, Table, otherwise, ◌∣◌, first}
 use Rattle.line.proofs.Symbols.{by_test}
@@ -22,8 +21,6 @@ use Rattle.station.specs.declared.Settings.{Settings}
 use Rattle.station.specs.declared.Port.{Port}
 use Rattle.station.specs.declared.State.{State}
 use Rattle.station.specs.declared.Quanta.{Quanta}
-use Rattle.station.specs.declared.Checked.{Checked}
-use Rattle.station.specs.declared.Checked.TheVariants.{Fine, Refused}
 use Rattle.station.specs.Numbers.{checked_number}
 use Rattle.station.proofs.Refusals.{or-false}
 use Rattle.station.specs.Station.{is_pause_mode, is_pfc_mode, bad_place}
@@ -159,21 +156,21 @@ not-refused s own st c place = found (find_start c place)
     start i unended = unfold read_start in refl
     start i (ended r by) = unfold read_start read_run in refl
 
-    found : (f : Found) → answer_refusal (read_found s own st c f).answer ≡ 0
-    found Found.Nothing = unfold read_found in refl
-    found (At i) = unfold read_found in start i (after_start (drop (i + 1) c))
+    found : (f : Option ℕ) → answer_refusal (read_found s own st c f).answer ≡ 0
+    found None = unfold read_found in refl
+    found (Some i) = unfold read_found in start i (after_start (drop (i + 1) c))
 
 read_number : (k : Checked) (s : Settings) (own : List (Option Address)) (st : State) (os ms : List ℕ) (place : ℕ)
     → answer_refusal (read_checked k s own st os ms place).answer ≡ checked_number k
 unfolding read_checked
-read_number (Refused x) s own st os ms place = refl
-read_number Fine s own st os ms place = not-refused s own st (capture os ms) place
+read_number (Err x) s own st os ms place = refl
+read_number (Ok _) s own st os ms place = not-refused s own st (capture os ms) place
 
 read_kept : (k : Checked) (s : Settings) (own : List (Option Address)) (st : State) (os ms : List ℕ) (place : ℕ)
     → 0 < checked_number k → ReadRefused st place (read_checked k s own st os ms place)
 unfolding read_checked
-read_kept (Refused x) s own st os ms place h = record { word = refl; part = refl; start = refl; next = refl; state = refl }
-read_kept Fine s own st os ms place h = absurd (omega arith)
+read_kept (Err x) s own st os ms place h = record { word = refl; part = refl; start = refl; next = refl; state = refl }
+read_kept (Ok _) s own st os ms place h = absurd (omega arith)
 
 read-listed : (s : Settings) (job : ℕ) (es : List Entry) (os ms : List ℕ) (place : ℕ) → Listed (read_refusals s job es os ms place) (1 ∷ 14 ∷ 2 ∷ 3 ∷ 20 ∷ [])
 unfolding read_refusals numbers_of repeats is_in
@@ -206,10 +203,10 @@ through-none s own n k st (m ∷ ms) = one m.follows (λ st'. through-none s own
 walk-number : (s : Settings) (job : ℕ) (es : List Entry) (st : State) (os ms : List ℕ) (k : Checked) → first (read_refusals s job es os ms 0) ≡ k
     → (walk_refusal (walked s job es st os ms).answer ≡ checked_number k) × (0 < checked_number k → (walked s job es st os ms).state ≡ st)
 unfolding walked
-walk-number s job es st os ms (Refused x) e =
+walk-number s job es st os ms (Err x) e =
     let r = walked-refused s job es st os ms x e in
     (ap (λ (w : Walking). walk_refusal w.answer) r, λ h. ap (λ (w : Walking). w.state) r)
-walk-number s job es st os ms Fine e = (
+walk-number s job es st os ms (Ok _) e = (
   ap (λ (l : List Reading). walk_refusal (walk_of 0 st l).answer) (walk_through s job es os ms e st)
       ∙ through-none s (mine job es) (length (capture os ms)) 0 st (met_starts 0 (capture os ms)),
   λ h. absurd (omega arith),
@@ -236,14 +233,14 @@ walk_refuses s job es st os ms =
 send_number : (k : Checked) (st : State) (os ms : List ℕ) (place : ℕ) (new : List Symbol) (count : ℕ)
     → send_refusal (send_checked k st os ms place new count).given.answer ≡ checked_number k
 unfolding send_checked
-send_number (Refused x) st os ms place new count = refl
-send_number Fine st os ms place new count = refl
+send_number (Err x) st os ms place new count = refl
+send_number (Ok _) st os ms place new count = refl
 
 send_kept : (k : Checked) (st : State) (os ms : List ℕ) (place : ℕ) (new : List Symbol) (count : ℕ)
     → 0 < checked_number k → SendRefused st os ms place (send_checked k st os ms place new count)
 unfolding send_checked
-send_kept (Refused x) st os ms place new count h = record { at = refl; state = refl; octets = refl; marks = refl }
-send_kept Fine st os ms place new count h = absurd (omega arith)
+send_kept (Err x) st os ms place new count h = record { at = refl; state = refl; octets = refl; marks = refl }
+send_kept (Ok _) st os ms place new count h = absurd (omega arith)
 
 -- a call is its table, the symbols it would write and the deficit count after them
 send_refuses : {rows : Table Checked} {numbers : List ℕ} → Listed rows numbers → (st : State) (os ms : List ℕ) (place : ℕ) (new : List Symbol) (count : ℕ)

@@ -1,12 +1,12 @@
 -- Claim 5, demand 3, for the calls as they are made: any symbols, then any number of client frames back to back, with any number of Idles behind
 -- the Terminate of each; the readings from place 0, each at the next place of the one before, hand out what the damaged part hands out by itself, and
 -- then the frames' data in order, each once. The statements are `demand3` and, with anything after the frames, `demand3_within`. Assumes nothing.
+use Rattle.std.specs.Prelude.{Option}
 use Prim.Native.Nat.{ℕ, zero, suc, ◌+◌, ◌≤◌}
 use native.Mathlib.Omega.{arith}
 use mathlib.Core.Path.{◌≡◌, refl, sym, ap, ap₂, ◌∙◌}
 use mathlib.Core.Bool.{Bool, true}
 use mathlib.Core.List.{List, [], ◌∷◌, ◌++◌, map, append_assoc, append-nil}
-use mathlib.Core.Option.{Option}
 use lib.ListN.{length, replicate, length-append}
 use Rattle.line.specs.Line.{Symbol, capture, octets_of, marks_of, is_control, as_data, as_control, idle, start, terminate, preamble, is_data, is_start, AfterStart, ended, after_start, MetStart, met_starts}
 use Rattle.line.proofs.Symbols.{met_start}

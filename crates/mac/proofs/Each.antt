@@ -1,9 +1,9 @@
 -- Demand 2: a walk is a reading for each Start, in order, which gets its outcome, counter, status word and client data: `each_start`. Assumes nothing.
+use Rattle.std.specs.Prelude.{Option}
 use Prim.Native.Nat.{ℕ, ◌+◌}
 use native.Mathlib.Omega.{arith}
 use mathlib.Core.Path.{◌≡◌, refl, sym, ◌∙◌, subst}
 use mathlib.Core.List.{List, [], ◌∷◌}
-use mathlib.Core.Option.{Option}
 use lib.ListN.{length, drop}
 use Rattle.line.specs.Limits.{lead_size}
 use Rattle.line.specs.Line.{Symbol, capture, run, ending, AfterStart, unended, ended, after_start, MetStart, met_starts}

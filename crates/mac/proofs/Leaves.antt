@@ -1,5 +1,7 @@
 -- The symbols that claim 7 counts are those that the very call leaves in its buffers, from its place on, and its place rises by their number: `call_leaves`.
 -- Assumes nothing.
+use Rattle.std.specs.Prelude.{Err, Ok}
+use Rattle.station.specs.Numbers.{Checked}
 use Prim.Native.Nat.{ℕ}
 use native.Mathlib.Omega.{arith}
 use mathlib.Core.Path.{◌≡◌, refl, sym, subst}
@@ -7,8 +9,6 @@ use mathlib.Core.List.{List}
 use Rattle.line.specs.Line.{Symbol, octets_of, marks_of}
 use Rattle.line.proofs.Overwrite.{overwrite-none}
 use Rattle.station.specs.declared.State.{State}
-use Rattle.station.specs.declared.Checked.{Checked}
-use Rattle.station.specs.declared.Checked.TheVariants.{Fine, Refused}
 use Rattle.send.specs.Sending.{SendCall, written, send_checked}
 use Rattle.counting.specs.Claims.{place_of, sending_of, counting_of}
 use Rattle.counting.proofs.Claims.{sent-by, counted-sent}
@@ -17,8 +17,8 @@ use Rattle.mac.specs.Calls.{Call, reads, walks, keeps, takes, sends, counts, wri
 leaves : (r : Checked) (st : State) (os ms : List ℕ) (p : ℕ) (new : List Symbol) (count : ℕ)
     → Leaves os ms p (written r new) (send_checked r st os ms p new count)
 unfolding send_checked written octets_of marks_of
-leaves (Refused x) st os ms p new count = record { octets = sym (overwrite-none os p); marks = sym (overwrite-none ms p); at = omega arith }
-leaves Fine st os ms p new count = record { octets = refl; marks = refl; at = refl }
+leaves (Err x) st os ms p new count = record { octets = sym (overwrite-none os p); marks = sym (overwrite-none ms p); at = omega arith }
+leaves (Ok _) st os ms p new count = record { octets = refl; marks = refl; at = refl }
 
 leaves_by : (r : Checked) (st : State) (os ms : List ℕ) (p : ℕ) (new : List Symbol) (count : ℕ) (x : SendCall) → x ≡ send_checked r st os ms p new count
     → Leaves os ms p (written r new) x

@@ -1,17 +1,15 @@
 -- Claim 3, the line: "Any other control octet, Sequence 0x9C included, is treated like Error". With Error in its place each reading, the octets that
 -- it hands out, and the walk are the same. The statements are `like_error_lem`, `like_error_data` and `like_error-walk`. Assumes nothing.
+use Rattle.std.specs.Prelude.{Option, Some, None, Ok, Err, option_map}
+use Rattle.station.specs.Numbers.{Checked}
 use Prim.Native.Nat.{ℕ, zero, suc, ◌+◌}
 use native.Mathlib.Omega.{arith}
 use mathlib.Core.Path.{◌≡◌, refl, sym, ap, ap₂, ◌∙◌}
 use mathlib.Core.Bool.{Bool, true, false, not, ◌&&◌, ◌||◌, false≢true}
 use mathlib.Core.List.{List, [], ◌∷◌, map}
-use mathlib.Core.Option
-use mathlib.Core.Option.{Option, none, some}
 use lib.Dec.{eqb}
 use lib.ListN.{length, drop, length-map}
 use borrow.Author.Tests.{not-true}
-use Rattle.line.specs.declared.Found.{Found}
-use Rattle.line.specs.declared.Found.TheVariants.{At}
 use Rattle.line.specs.Limits.{lead_size}
 use Rattle.line.specs.Line.{Symbol, capture, is_data, is_control, is_start, idle, start, terminate, first_where, find_start, run, ending, ended_by, after_start}
 use Rattle.line.specs.Table.{Table, first}
@@ -22,8 +20,6 @@ use Rattle.station.specs.declared.State.{State}
 use Rattle.station.specs.declared.Part.{Part}
 use Rattle.station.specs.declared.Outcome.{Outcome}
 use Rattle.station.specs.declared.Outcome.TheVariants.{Cut, BadPreamble, Undersized, Oversized, WrongFcs, WrongLength, Filtered, PauseTaken, PfcTaken, ControlDropped, HandedOut}
-use Rattle.station.specs.declared.Checked.{Checked}
-use Rattle.station.specs.declared.Checked.TheVariants.{Fine, Refused}
 use Rattle.station.specs.Station.{bad_buffers, bad_place}
 use Rattle.station.proofs.Refusals.{or-false}
 use Rattle.fields.specs.Fields.{data_place}
@@ -101,7 +97,7 @@ drop-map (suc n) (x ∷ xs) = drop-map n xs
 same_found : (at : ℕ) (l : List Symbol) → first_where is_start at (map treated l) ≡ first_where is_start at l
 unfolding first_where
 same_found at [] = refl
-same_found at (x ∷ xs) = ap₂ (λ (b : Bool) (f : Found). elim b [ true ↦ At at | false ↦ f ]) (same_start x) (same_found (at + 1) xs)
+same_found at (x ∷ xs) = ap₂ (λ (b : Bool) (f : Option ℕ). elim b [ true ↦ Some at | false ↦ f ]) (same_start x) (same_found (at + 1) xs)
 
 same-run : (l : List Symbol) → run (map treated l) ≡ run l
 unfolding run
@@ -111,13 +107,13 @@ same-run (x ∷ xs) =
     (λ h. run_data (treated x) (map treated xs) (same_data x ∙ h) ∙ ap₂ (λ (o : ℕ) (r : List ℕ). o ∷ r) (data_stays x h) (same-run xs) ∙ sym (run_data x xs h))
     (λ h. run_control (treated x) (map treated xs) (same_data x ∙ h) ∙ sym (run_control x xs h))
 
-same-ending : (l : List Symbol) → ending (map treated l) ≡ Option.map treated (ending l)
+same-ending : (l : List Symbol) → ending (map treated l) ≡ option_map treated (ending l)
 unfolding ending
 same-ending [] = refl
 same-ending (x ∷ xs) =
     by_test (is_data x)
-    (λ h. ending_data (treated x) (map treated xs) (same_data x ∙ h) ∙ same-ending xs ∙ ap (Option.map treated) (sym (ending_data x xs h)))
-    (λ h. ending_control (treated x) (map treated xs) (same_data x ∙ h) ∙ ap (Option.map treated) (sym (ending_control x xs h)))
+    (λ h. ending_data (treated x) (map treated xs) (same_data x ∙ h) ∙ same-ending xs ∙ ap (option_map treated) (sym (ending_data x xs h)))
+    (λ h. ending_control (treated x) (map treated xs) (same_data x ∙ h) ∙ ap (option_map treated) (sym (ending_control x xs h)))
 
 -- ---- a reading
 
@@ -127,19 +123,19 @@ module _ (s : Settings) (own : List (Option Address)) (st : State) where
   unfolding outcome outcomes
   same_outcome r x = rw (same-cut x)
 
-  same_ended : (i : ℕ) (r : List ℕ) (e : Option Symbol) → read_start s own st i (ended_by r (Option.map treated e)) ≡ read_start s own st i (ended_by r e)
+  same_ended : (i : ℕ) (r : List ℕ) (e : Option Symbol) → read_start s own st i (ended_by r (option_map treated e)) ≡ read_start s own st i (ended_by r e)
   unfolding ended_by read_start
-  same_ended i r none = refl
-  same_ended i r (some x) = ap (read_run s own st i r) (same_outcome r x)
+  same_ended i r None = refl
+  same_ended i r (Some x) = ap (read_run s own st i r) (same_outcome r x)
 
   same_after : (i : ℕ) (l : List Symbol) → read_start s own st i (after_start (map treated l)) ≡ read_start s own st i (after_start l)
   unfolding after_start
   same_after i l = ap₂ (λ (r : List ℕ) (e : Option Symbol). read_start s own st i (ended_by r e)) (same-run l) (same-ending l) ∙ same_ended i (run l) (ending l)
 
-  same-reading : (c : List Symbol) (f : Found) → read_found s own st (map treated c) f ≡ read_found s own st c f
+  same-reading : (c : List Symbol) (f : Option ℕ) → read_found s own st (map treated c) f ≡ read_found s own st c f
   unfolding read_found
-  same-reading c Found.Nothing = rw (length-map c treated)
-  same-reading c (At i) = ap (λ (l : List Symbol). read_start s own st i (after_start l)) (drop-map (i + 1) c) ∙ same_after i (drop (i + 1) c)
+  same-reading c None = rw (length-map c treated)
+  same-reading c (Some i) = ap (λ (l : List Symbol). read_start s own st i (after_start l)) (drop-map (i + 1) c) ∙ same_after i (drop (i + 1) c)
 
   same_at : (c : List Symbol) (place : ℕ) → read_at s own st (map treated c) place ≡ read_at s own st c place
   unfolding read_at find_start
@@ -149,8 +145,8 @@ module _ (s : Settings) (own : List (Option Address)) (st : State) where
 
   same_checked : (k : Checked) (os ms : List ℕ) (place : ℕ) → read_checked k s own st (like_error os ms) ms place ≡ read_checked k s own st os ms place
   unfolding read_checked
-  same_checked (Refused x) os ms place = refl
-  same_checked Fine os ms place = ap (λ (c : List Symbol). read_at s own st c place) (capture_like os ms) ∙ same_at (capture os ms) place
+  same_checked (Err x) os ms place = refl
+  same_checked (Ok _) os ms place = ap (λ (c : List Symbol). read_at s own st c place) (capture_like os ms) ∙ same_at (capture os ms) place
 
 module _ (s : Settings) (job : ℕ) (es : List Entry) (st : State) where
   same_refusals : (os ms : List ℕ) (place : ℕ) → read_refusals s job es (like_error os ms) ms place ≡ read_refusals s job es os ms place
@@ -200,18 +196,18 @@ module _ (s : Settings) (own : List (Option Address)) (st : State) (os ms : List
 
   same_answer : (i : ℕ) (e : Option Symbol) → Same (answer_part (read_start s own st i (ended_by (run (drop (i + 1) c)) e)).answer)
   unfolding ended_by read_start read_run
-  same_answer i none = same_empty
-  same_answer i (some x) = same-handed i (outcome s own (run (drop (i + 1) c)) x.octet)
+  same_answer i None = same_empty
+  same_answer i (Some x) = same-handed i (outcome s own (run (drop (i + 1) c)) x.octet)
 
-  same_in_found : (f : Found) → Same (answer_part (read_found s own st c f).answer)
+  same_in_found : (f : Option ℕ) → Same (answer_part (read_found s own st c f).answer)
   unfolding read_found after_start
-  same_in_found Found.Nothing = same_empty
-  same_in_found (At i) = same_answer i (ending (drop (i + 1) c))
+  same_in_found None = same_empty
+  same_in_found (Some i) = same_answer i (ending (drop (i + 1) c))
 
   same_in_checked : (k : Checked) (place : ℕ) → Same (answer_part (read_checked k s own st os ms place).answer)
   unfolding read_checked read_at
-  same_in_checked (Refused x) place = same_empty
-  same_in_checked Fine place = same_in_found (find_start c place)
+  same_in_checked (Err x) place = same_empty
+  same_in_checked (Ok _) place = same_in_found (find_start c place)
 
 -- the part that a reading answers holds the same octets
 pub like_error_data : (s : Settings) (job : ℕ) (es : List Entry) (st : State) (os ms : List ℕ) (place : ℕ)

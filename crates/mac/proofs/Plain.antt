@@ -1,17 +1,16 @@
 -- Claim 2, demand 1, of the plain reader (document 02, item 12): a symbol, in any state, is refused by exactly 1, 14, 20 and 2, the first that holds, and
 -- refused it leaves the state: `symbol_refuses`. Assumes nothing.
+use Rattle.std.specs.Prelude.{Err, Ok, Option}
+use Rattle.station.specs.Numbers.{Checked}
 use Prim.Native.Nat.{ℕ, ◌<◌}
 use native.Mathlib.Omega.{arith}
 use mathlib.Core.Path.{◌≡◌, refl}
 use mathlib.Core.Bool.{Bool, true, false, cond}
 use mathlib.Core.List.{List, [], ◌∷◌}
-use mathlib.Core.Option.{Option}
 use Rattle.line.specs.Line.{Symbol, is_data}
 use Rattle.line.specs.Table.{first}
 use Rattle.station.specs.declared.Address.{Address}
 use Rattle.station.specs.declared.Settings.{Settings}
-use Rattle.station.specs.declared.Checked.{Checked}
-use Rattle.station.specs.declared.Checked.TheVariants.{Fine, Refused}
 use Rattle.station.specs.Numbers.{checked_number}
 use Rattle.table.specs.declared.Entry.{Entry}
 use Rattle.table.specs.Entries.{mine}
@@ -38,15 +37,15 @@ counted-or_quiet false t h = refl
 module _ (s : Settings) (own : List (Option Address)) (p : Plain) (y : Symbol) where
   step-number : (k : Checked) → told_refusal (step_checked k s own p y).told ≡ checked_number k
   unfolding step_checked after_data after_control kept_told
-  step-number (Refused x) = refl
-  step-number Fine =
+  step-number (Err x) = refl
+  step-number (Ok _) =
       either (is_data y) (after_data p y.octet) (after_control s own p y.octet) refl
       (counted-or_quiet p.running (kept_told s own (kept_outcome s own p.run y.octet) p.run) refl)
 
   step_kept : (k : Checked) → 0 < checked_number k → (step_checked k s own p y).plain ≡ p
   unfolding step_checked
-  step_kept (Refused x) h = refl
-  step_kept Fine h = absurd (omega arith)
+  step_kept (Err x) h = refl
+  step_kept (Ok _) h = absurd (omega arith)
 
 module _ (s : Settings) (job : ℕ) (es : List Entry) (p : Plain) (y : Symbol) where
   -- "Refusals: 1, 14, 20 as in reading, then 2"

@@ -2,6 +2,8 @@
 -- deficit count what it is short of 12 (`frame_on_port`, and of its Starts alone `starts-aligned`); no other call changes the count (`only_this_port`).
 -- Over any calls, refused ones and frames of the other port among them, the count is exactly what the gaps of this port are short of 12 each
 -- (`deficit_is`), and from a count of 0, n gaps together lie between 12 × n - 3 and 12 × n (`gaps_between`). Assumes nothing.
+use Rattle.std.specs.Prelude.{Err, Ok}
+use Rattle.station.specs.Numbers.{Checked}
 use Prim.Native.Nat.{ℕ, zero, suc, ◌+◌, ◌-◌, ◌*◌, ◌%◌, ◌≤◌}
 use native.Mathlib.Omega.{arith}
 use mathlib.Core.Path.{◌≡◌, refl, sym, ap, ◌∙◌, subst}
@@ -18,8 +20,6 @@ use Rattle.fcs.specs.Fcs.{fcs}
 use Rattle.station.specs.declared.Port.TheVariants.{Plain, FourLane}
 use Rattle.station.specs.declared.Settings.{Settings}
 use Rattle.station.specs.declared.State.{State}
-use Rattle.station.specs.declared.Checked.{Checked}
-use Rattle.station.specs.declared.Checked.TheVariants.{Fine, Refused}
 use Rattle.station.specs.Station.{total}
 use Rattle.receive.specs.Reading.{state_after}
 use Rattle.writing.specs.Frames.{client_body, pause_body, pfc_body, gap, on_line}
@@ -96,7 +96,7 @@ of_frame : {s : Settings} {count place : ℕ} {os ms body : List ℕ} → Framed
 of_frame {s} {count} {place} {os} k = (divisible os place k.starts, deficit_to_3 count k.low)
 
 -- of such a frame's call, once its table has answered
-port-aligned : (st : State) (os ms : List ℕ) (c : Sends) → on_four_lanes c ≡ true → first (refusals_of st os ms c) ≡ Fine
+port-aligned : (st : State) (os ms : List ℕ) (c : Sends) → on_four_lanes c ≡ true → first (refusals_of st os ms c) ≡ Ok tt
     → (place_of c % lanes ≡ 0) × (st.deficit ≤ most_deficit)
 unfolding on_four_lanes refusals_of client_checked
 port-aligned st os ms (sends_client s Plain p c d) h = absurd (false≢true h)
@@ -118,12 +118,12 @@ asked_out st n (sends_pfc s Plain p k) h = absurd (false≢true h)
 asked_out st n (sends_pfc s FourLane p k) h = goes_out st n p (pfc_body s k)
 asked_out st n (fills_idle p m) h = absurd (false≢true h)
 
-out_or-not : (k : Checked) (st : State) (os ms : List ℕ) (c : Sends) → on_four_lanes c ≡ true → (k ≡ Fine → (place_of c % lanes ≡ 0) × (st.deficit ≤ most_deficit))
+out_or-not : (k : Checked) (st : State) (os ms : List ℕ) (c : Sends) → on_four_lanes c ≡ true → (k ≡ Ok tt → (place_of c % lanes ≡ 0) × (st.deficit ≤ most_deficit))
     → (x : SendCall) → x ≡ send_checked k st os ms (place_of c) (symbols_asked st c) (count_after st c)
     → ((written k (symbols_asked st c) ≡ []) × (x.given.state ≡ st)) ⊎ GoesOut st (place_of c) (written k (symbols_asked st c)) x.given.state
 unfolding send_checked written
-out_or-not (Refused y) st os ms c h f x e = inl (refl, ap (λ (z : SendCall). z.given.state) e)
-out_or-not Fine st os ms c h f x e =
+out_or-not (Err y) st os ms c h f x e = inl (refl, ap (λ (z : SendCall). z.given.state) e)
+out_or-not (Ok _) st os ms c h f x e =
     let w = f refl in
     inr (subst (λ (z : SendCall). GoesOut st (place_of c) (symbols_asked st c) z.given.state) (sym e) (asked_out st _ c h w.0 w.1))
 
@@ -168,8 +168,8 @@ asked_keeps st (fills_idle p n) h = refl
 sent-keeps : (k : Checked) (st : State) (os ms : List ℕ) (p : ℕ) (new : List Symbol) (count : ℕ) → count ≡ st.deficit
     → (send_checked k st os ms p new count).given.state.deficit ≡ st.deficit
 unfolding send_checked state_sent
-sent-keeps (Refused x) st os ms p new count e = refl
-sent-keeps Fine st os ms p new count e = e
+sent-keeps (Err x) st os ms p new count e = refl
+sent-keeps (Ok _) st os ms p new count e = e
 
 -- "only frames sent on this port change it"
 pub only_this_port : (st : State) (c : Call) → on_port c ≡ false → (after_call st c).deficit ≡ st.deficit

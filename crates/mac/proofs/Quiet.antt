@@ -2,6 +2,8 @@
 -- `call_leaves` (proofs/Leaves.antt) and `one-start`; and what holds a class is the timer of the state: `events-timer`. "Control frames and other classes may
 -- start": `may_start`. "A frame written before the reading isn't touched": `events-append`, and `sets_or-writes` (proofs/Timers.antt). Demand 2, sending
 -- "starts no client frame while its class timer runs": `held_quiet`. Assumes nothing.
+use Rattle.std.specs.Prelude.{Err, Ok}
+use Rattle.station.specs.Numbers.{Checked}
 use Prim.Native.Nat.{ℕ, zero, suc, ◌+◌, ◌-◌, ◌*◌, ◌<◌}
 use native.Mathlib.Omega.{arith}
 use mathlib.Core.Path.{◌≡◌, refl, sym, ap, ap₂, ◌∙◌, subst}
@@ -25,8 +27,6 @@ use Rattle.station.specs.declared.Quanta.{Quanta}
 use Rattle.station.specs.declared.Slots.{Slots}
 use Rattle.station.specs.declared.Refusal.{Refusal}
 use Rattle.station.specs.declared.Refusal.TheVariants.{BadSettings, BadBuffers, BadPlace, BadClass, BadType, LongData, NoRoom, Held, ManyTags, HighDeficit}
-use Rattle.station.specs.declared.Checked.{Checked}
-use Rattle.station.specs.declared.Checked.TheVariants.{Fine, Refused}
 use Rattle.flow.specs.Timers.{timer}
 use Rattle.writing.specs.declared.Client.{Client}
 use Rattle.writing.specs.Frames.{client_body, pause_body, pfc_body, gap, on_line}
@@ -43,38 +43,38 @@ use Rattle.mac.proofs.Timers.{call_keeps, call_timer, sets_or-writes}
 -- ---- while a class is held, no call for a client frame of it writes anything
 
 -- a table that refuses goes on refusing with a row in front
-still : (b : Bool) (x : Refusal) (rows : Table Checked) → ((y : Refusal) × (first rows ≡ Refused y))
-    → (y : Refusal) × (first (b ⇒ Refused x ∣ rows) ≡ Refused y)
-still true x rows h = (x, first-here (Refused x) rows refl)
-still false x rows h = (h.0, first_next (Refused x) rows refl ∙ h.1)
+still : (b : Bool) (x : Refusal) (rows : Table Checked) → ((y : Refusal) × (first rows ≡ Err y))
+    → (y : Refusal) × (first (b ⇒ Err x ∣ rows) ≡ Err y)
+still true x rows h = (x, first-here (Err x) rows refl)
+still false x rows h = (h.0, first_next (Err x) rows refl ∙ h.1)
 
 held-refused : (s : Settings) (st : State) (port : Port) (os ms : List ℕ) (p : ℕ) (c : Client) (d : List ℕ) → held st c.class ≡ true
-    → (y : Refusal) × (first (client_refusals s st port os ms p c d) ≡ Refused y)
+    → (y : Refusal) × (first (client_refusals s st port os ms p c d) ≡ Err y)
 unfolding client_refusals
 held-refused s st port os ms p c d h =
     still _ BadSettings _
     (still _ BadBuffers _
     (still _ BadPlace _
     (still _ HighDeficit _
-    (still _ BadClass _ (still _ BadType _ (still _ ManyTags _ (still _ LongData _ (still _ NoRoom _ (Held, first-here (Refused Held) _ h)))))))))
+    (still _ BadClass _ (still _ BadType _ (still _ ManyTags _ (still _ LongData _ (still _ NoRoom _ (Held, first-here (Err Held) _ h)))))))))
 
 held-not_fine : (st : State) (k : ℕ) → 0 < (timer st.timers k).0 → (os ms : List ℕ) (x : Sends) → asks_for k x ≡ true
-    → first (refusals_of st os ms x) ≡ Fine → ⊥
+    → first (refusals_of st os ms x) ≡ Ok tt → ⊥
 unfolding asks_for refusals_of held
 held-not_fine st k h os ms (sends_client s port p c d) e f =
     let above : 0 < (timer st.timers c.class).0 = subst (λ (i : ℕ). 0 < (timer st.timers i).0) (sym (eqb-true c.class k e)) h in
     let refused = held-refused s st port os ms p c d (lt-ltb 0 (timer st.timers c.class).0 above) in
-    let both : Fine ≡ Refused refused.0 = sym f ∙ refused.1 in
+    let both : Ok tt ≡ Err refused.0 = sym f ∙ refused.1 in
     let bad : ◌≡◌ {A = ℕ} 0 1 = cc in
     omega arith
 held-not_fine st k h os ms (sends_pause s port p q) e f = absurd (false≢true e)
 held-not_fine st k h os ms (sends_pfc s port p c) e f = absurd (false≢true e)
 held-not_fine st k h os ms (fills_idle p n) e f = absurd (false≢true e)
 
-not_written : (r : Checked) (l : List Symbol) → (r ≡ Fine → ⊥) → written r l ≡ []
+not_written : (r : Checked) (l : List Symbol) → (r ≡ Ok tt → ⊥) → written r l ≡ []
 unfolding written
-not_written (Refused y) l f = refl
-not_written Fine l f = absurd (f refl)
+not_written (Err y) l f = refl
+not_written (Ok _) l f = absurd (f refl)
 
 held-writes-none : (st : State) (k : ℕ) → 0 < (timer st.timers k).0 → (c : Call) → is_client_of k c ≡ true → writes st c ≡ []
 unfolding is_client_of

@@ -1,12 +1,13 @@
 -- Claim 6, sending in a row: client calls that are not refused, each on its own port and at the place the one before gave, leave the frames' symbols
 -- back to back and every other symbol as it was (`row`); and read back they hand out the frames' data (`sent-then-read`), which closes demand 3 from the
 -- sending calls to the readings. Assumes nothing.
+use Rattle.std.specs.Prelude.{Ok, Option}
+use Rattle.station.specs.Numbers.{Checked}
 use Prim.Native.Nat.{ℕ, ◌+◌, ◌≤◌}
 use native.Mathlib.Omega.{arith}
 use mathlib.Core.Path.{◌≡◌, refl, sym, ap, ap₂, ◌∙◌}
 use mathlib.Core.Bool.{true, false}
 use mathlib.Core.List.{List, [], ◌∷◌, ◌++◌, append_assoc}
-use mathlib.Core.Option.{Option}
 use lib.ListN.{length, length-append}
 use Rattle.line.specs.Line.{Symbol, capture, octets_of, marks_of, overwrite}
 use Rattle.line.proofs.Buffers.{length-octets_of, length-marks_of, octets_of-append, marks_of-append}
@@ -14,8 +15,6 @@ use Rattle.line.proofs.Overwrite.{overwrite-none, overwrite-overwrite, length-ov
 use Rattle.station.specs.declared.Address.{Address}
 use Rattle.station.specs.declared.Settings.{Settings}
 use Rattle.station.specs.declared.State.{State}
-use Rattle.station.specs.declared.Checked.{Checked}
-use Rattle.station.specs.declared.Checked.TheVariants.{Fine}
 use Rattle.station.specs.Station.{bad_settings}
 use Rattle.table.specs.declared.Entry.{Entry}
 use Rattle.table.specs.Entries.{mine}
@@ -51,8 +50,8 @@ module _ (tx : Settings) where
   count_of x a = (gap_on a.port x.given.state.deficit x.given.place (body_of a)).count
 
   -- the call
-  next-is : (x : SendCall) (a : Asked) → client_checked tx x.given.state a.port x.octets x.marks x.given.place a.client a.octets ≡ Fine
-      → send_next tx x a ≡ send_checked Fine x.given.state x.octets x.marks x.given.place (symbols_of x a) (count_of x a)
+  next-is : (x : SendCall) (a : Asked) → client_checked tx x.given.state a.port x.octets x.marks x.given.place a.client a.octets ≡ Ok tt
+      → send_next tx x a ≡ send_checked (Ok tt) x.given.state x.octets x.marks x.given.place (symbols_of x a) (count_of x a)
   unfolding send_next client_sending frame_sending
   next-is x a h = ap (λ (k : Checked). send_checked k x.given.state x.octets x.marks x.given.place (symbols_of x a) (count_of x a)) h
 

@@ -1,10 +1,10 @@
 -- What a walk hands out of two stretches of line, the second of which begins with a Start. Assumes nothing.
+use Rattle.std.specs.Prelude.{None, Option, Some}
 use Prim.Native.Nat.{ℕ, suc, ◌+◌}
 use native.Mathlib.Omega.{arith}
 use native.Mathlib.Nat.{add-zero}
 use mathlib.Core.Path.{◌≡◌, refl, sym, ap, ap₂, ◌∙◌}
 use mathlib.Core.List.{List, [], ◌∷◌, ◌++◌, append_assoc}
-use mathlib.Core.Option.{Option, none, some}
 use lib.ListN.{length}
 use Rattle.line.specs.Line.{Symbol, is_start, start, run, ending, ended, ended_by, after_start, MetStart, met_starts}
 use Rattle.line.specs.Table.{first}
@@ -25,11 +25,11 @@ module _ (s : Settings) (own : List (Option Address)) where
   same-run : (xs ys : List Symbol) → Begins ys → (e : Option Symbol) → ending xs ≡ e
       → data_handed s own (after_start (xs ++ ys)) ≡ data_handed s own (ended_by (run xs) e)
   unfolding after_start ended_by data_handed ending Begins
-  same-run xs ys b (some y) h =
+  same-run xs ys b (Some y) h =
       let k = run-ended xs ys y h in
       ap₂ (λ (r : List ℕ) (o : Option Symbol). data_handed s own (ended_by r o)) k.0 k.1
-  same-run xs [] b none h = ap (λ (o : Option Symbol). data_handed s own (ended_by (run (xs ++ [])) o)) (run_open xs [] h)
-  same-run xs (y ∷ ys) b none h =
+  same-run xs [] b None h = ap (λ (o : Option Symbol). data_handed s own (ended_by (run (xs ++ [])) o)) (run_open xs [] h)
+  same-run xs (y ∷ ys) b None h =
       ap (λ (o : Option Symbol). data_handed s own (ended_by (run (xs ++ y ∷ ys)) o))
       (run_open xs (y ∷ ys) h ∙ ending_control y ys (start-not_data y b))
       ∙ ap (λ (o : ℕ). data_handed s own (ended (run (xs ++ y ∷ ys)) o)) (start-octet y b)

@@ -1,10 +1,11 @@
 -- Document 02, item 13: "All bands together equal the rise of those four counters, modulo 2^64". The statement is `sizes_rise`. Assumes nothing.
+use Rattle.std.specs.Prelude.{Err, Ok, Option}
+use Rattle.station.specs.Numbers.{Checked}
 use Prim.Native.Nat.{ℕ, ◌+◌, ◌%◌}
 use native.Mathlib.Omega.{arith}
 use native.Mathlib.Nat.{mod-add-mod, add-mod-mod}
 use mathlib.Core.Path.{◌≡◌, refl, sym, ap, ap₂, ◌∙◌}
 use mathlib.Core.List.{List, [], ◌∷◌}
-use mathlib.Core.Option.{Option}
 use lib.ListN.{length, length-append}
 use lib.Dec.{eqb}
 use Rattle.line.specs.Line.{capture, AfterStart, unended, ended, MetStart, met_starts}
@@ -12,9 +13,7 @@ use Rattle.line.specs.Table.{first}
 use Rattle.station.specs.declared.Address.{Address}
 use Rattle.station.specs.declared.Settings.{Settings}
 use Rattle.station.specs.declared.State.{State}
-use Rattle.station.specs.declared.Checked.{Checked}
 use Rattle.station.specs.declared.Refusal.{Refusal}
-use Rattle.station.specs.declared.Checked.TheVariants.{Fine, Refused}
 use Rattle.station.specs.declared.Outcome.{Outcome}
 use Rattle.station.specs.declared.Outcome.TheVariants.{Cut, BadPreamble, Undersized, Oversized, WrongFcs, WrongLength, Filtered}
 use Rattle.station.specs.declared.Outcome.TheVariants.{PauseTaken, PfcTaken, ControlDropped, HandedOut}
@@ -113,13 +112,13 @@ module _ (t : SizeTable) (s : Settings) (job : ℕ) (es : List Entry) (st : Stat
   Rises = (total (adding t s job es os ms).sizes.frames + four_counters st.counters) % counter_size
       ≡ (total t.frames + four_counters (walked s job es st os ms).state.counters) % counter_size
 
-  refused : (x : Refusal) → first (read_refusals s job es os ms 0) ≡ Refused x → Rises
+  refused : (x : Refusal) → first (read_refusals s job es os ms 0) ≡ Err x → Rises
   refused x h =
       ap₂ (λ (a b : ℕ). (a + b) % counter_size)
       (ap (λ (r : Added). total r.sizes.frames) (add-refused s job es os ms t x h))
       (ap (λ (r : Walking). four_counters r.state.counters) (sym (walked-refused s job es st os ms x h)))
 
-  fine : first (read_refusals s job es os ms 0) ≡ Fine → Rises
+  fine : first (read_refusals s job es os ms 0) ≡ Ok tt → Rises
   unfolding four_counters four_with
   fine h =
       let own : List (Option Address) = mine job es in
@@ -148,5 +147,5 @@ module _ (t : SizeTable) (s : Settings) (job : ℕ) (es : List Entry) (st : Stat
   sizes_rise = by (first (read_refusals s job es os ms 0)) refl
     where
       by : (k : Checked) → first (read_refusals s job es os ms 0) ≡ k → Rises
-      by Fine h = fine h
-      by (Refused x) h = refused x h
+      by (Ok _) h = fine h
+      by (Err x) h = refused x h

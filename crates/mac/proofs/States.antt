@@ -1,15 +1,15 @@
 -- What a call does with the state, said once for all calls: one that reads leaves what the frames that it read make of it, and writes nothing; one that
 -- sends leaves what sending leaves, and reads nothing. The statement is `does`. Assumes nothing.
+use Rattle.std.specs.Prelude.{Err, None, Ok, Option, Some}
+use Rattle.station.specs.Numbers.{Checked}
+use Rattle.logging.specs.Walks.{KeepChecked}
 use Prim.Native.Nat.{ℕ, zero, suc, ◌+◌, ◌-◌}
 use native.Mathlib.Omega.{arith}
 use mathlib.Core.Path.{◌≡◌, refl, sym, ap, ap₂, ◌∙◌, subst}
 use mathlib.Core.Bool.{Bool, true, false, cond}
 use mathlib.Core.List.{List, [], ◌∷◌, ◌++◌, append-nil}
-use mathlib.Core.Option.{Option, none, some}
 use lib.ListN.{length, take, drop}
 use lib.Seq.{drop-drop}
-use Rattle.line.specs.declared.Found.{Found}
-use Rattle.line.specs.declared.Found.TheVariants.{At, Nothing}
 use Rattle.line.specs.Line.{Symbol, capture, is_data, find_start, run, ending, AfterStart, unended, ended, ended_by, after_start, MetStart, met_starts}
 use Rattle.line.specs.Table.{first}
 use Rattle.line.proofs.Starts.{skip_run, met_found}
@@ -17,8 +17,6 @@ use Rattle.station.specs.declared.Address.{Address}
 use Rattle.station.specs.declared.Settings.{Settings}
 use Rattle.station.specs.declared.State.{State}
 use Rattle.station.specs.declared.Outcome.{Outcome}
-use Rattle.station.specs.declared.Checked.{Checked}
-use Rattle.station.specs.declared.Checked.TheVariants.{Fine, Refused}
 use Rattle.reading_log.specs.Log.{appending}
 use Rattle.table.specs.declared.Entry.{Entry}
 use Rattle.table.specs.Entries.{mine}
@@ -31,7 +29,6 @@ use Rattle.kept.specs.declared.Told.{Told}
 use Rattle.kept.specs.Kept.{front_of, kept_outcome, kept_told, symbol_refusals}
 use Rattle.plain.specs.declared.Plain.{Plain}
 use Rattle.plain.specs.Plain.{after_data, after_control, step_checked, step}
-use Rattle.logging.specs.declared.KeepChecked.{KeepChecked}
 use Rattle.logging.specs.Records.{record_of_reading}
 use Rattle.logging.specs.Walks.{Keeping, keep_from, keep_refusals, walk_logged}
 use Rattle.logging.proofs.Turns.{turn_refused, turn_none, turn_open, by-appending, walk_refused, walk_fine}
@@ -56,18 +53,18 @@ start-state s own st i (ended run by) = refl
 
 -- ---- a reading
 
-found_state : (s : Settings) (own : List (Option Address)) (st : State) (c : List Symbol) (f : Found)
+found_state : (s : Settings) (own : List (Option Address)) (st : State) (c : List Symbol) (f : Option ℕ)
     → (read_found s own st c f).state ≡ after_reads st (reads_of s own (start_found c f))
 unfolding read_found start_found reads_of
-found_state s own st c Nothing = unfold after_reads in refl
-found_state s own st c (At i) =
+found_state s own st c None = unfold after_reads in refl
+found_state s own st c (Some i) =
     let f : AfterStart = after_start (drop (i + 1) c) in start-state s own st i f ∙ sym (ap (after_reads st) (append-nil (read_of s own f)))
 
 read-state : (s : Settings) (own : List (Option Address)) (st : State) (os ms : List ℕ) (p : ℕ) (r : Checked)
     → (read_checked r s own st os ms p).state ≡ after_reads st (reads_of s own (unless_refused r (start_found (capture os ms) (find_start (capture os ms) p))))
 unfolding read_checked read_at unless_refused
-read-state s own st os ms p (Refused x) = unfold after_reads reads_of in refl
-read-state s own st os ms p Fine = found_state s own st (capture os ms) (find_start (capture os ms) p)
+read-state s own st os ms p (Err x) = unfold after_reads reads_of in refl
+read-state s own st os ms p (Ok _) = found_state s own st (capture os ms) (find_start (capture os ms) p)
 
 -- ---- a walk
 
@@ -86,8 +83,8 @@ through-state s own k n st (m ∷ l) w = one m.follows w.0 (λ st'. through-stat
 walk-state : (s : Settings) (job : ℕ) (es : List Entry) (st : State) (os ms : List ℕ) (r : Checked) → first (read_refusals s job es os ms 0) ≡ r
     → (walked s job es st os ms).state ≡ after_reads st (reads_of s (mine job es) (unless_refused r (met_starts 0 (capture os ms))))
 unfolding unless_refused
-walk-state s job es st os ms (Refused x) e = ap (λ (w : Walking). w.state) (walked-refused s job es st os ms x e) ∙ (unfold after_reads reads_of in refl)
-walk-state s job es st os ms Fine e =
+walk-state s job es st os ms (Err x) e = ap (λ (w : Walking). w.state) (walked-refused s job es st os ms x e) ∙ (unfold after_reads reads_of in refl)
+walk-state s job es st os ms (Ok _) e =
     let c : List Symbol = capture os ms in
     sym (ap (λ (w : Walking). w.state) (walked_from s job es st os ms e)) ∙ through-state s (mine job es) 0 (length c) st (met_starts 0 c) (open_last 0 c)
 
@@ -111,7 +108,7 @@ module _ (s : Settings) (job : ℕ) (es : List Entry) (os ms : List ℕ) where
   kept-none st p n k h e = record { more = 0; kept = omega arith; state = e }
 
   -- a Start whose run is ended, and those behind that run
-  met_next : (p i : ℕ) → find_start c p ≡ At i → (f : AfterStart) → after_start (drop (i + 1) c) ≡ f
+  met_next : (p i : ℕ) → find_start c p ≡ Some i → (f : AfterStart) → after_start (drop (i + 1) c) ≡ f
       → met_from os ms p ≡ record { place = i; follows = f } ∷ met_from os ms (i + 1 + length (run (drop (i + 1) c)))
   unfolding find_start
   met_next p i found f e =
@@ -128,13 +125,13 @@ module _ (s : Settings) (job : ℕ) (es : List Entry) (os ms : List ℕ) where
     none-by : (k : Keeping) → now ≡ k → k.given.kept ≡ n → k.given.state ≡ st → Kept st p n now
     none-by k e h g = kept-none st p n now (ap (λ (x : Keeping). x.given.kept) e ∙ h) (ap (λ (x : Keeping). x.given.state) e ∙ g)
 
-    kept-start : (i : ℕ) → find_start c p ≡ At i → (e : Option Symbol) → ending (drop (i + 1) c) ≡ e
+    kept-start : (i : ℕ) → find_start c p ≡ Some i → (e : Option Symbol) → ending (drop (i + 1) c) ≡ e
         → read_start s own st i (ended_by (run (drop (i + 1) c)) e) ≡ reading s job es st os ms p
         → Kept st p n now
     unfolding ended_by after_start read_start read_run read_of reads_of after_reads
-    kept-start i found none h is =
+    kept-start i found None h is =
         none-by _ (turn_open s job es st os ms p n l (suc most) (omega arith) _ is refl) refl refl
-    kept-start i found (some y) h is =
+    kept-start i found (Some y) h is =
         let t : List Symbol = drop (i + 1) c in
         let f : AfterStart = ended (run t) y.octet in
         let r : Reading = read_start s own st i f in
@@ -154,15 +151,15 @@ module _ (s : Settings) (job : ℕ) (es : List Entry) (os ms : List ℕ) where
         }))
         (λ x _. kept-none st p n _ refl refl)
 
-    kept_found : (f : Found) → find_start c p ≡ f → read_found s own st c f ≡ reading s job es st os ms p → Kept st p n now
+    kept_found : (f : Option ℕ) → find_start c p ≡ f → read_found s own st c f ≡ reading s job es st os ms p → Kept st p n now
     unfolding read_found after_start
-    kept_found Nothing found is = none-by _ (turn_none s job es st os ms p n l (suc most) (omega arith) _ is refl) refl refl
-    kept_found (At i) found is = kept-start i found (ending (drop (i + 1) c)) refl is
+    kept_found None found is = none-by _ (turn_none s job es st os ms p n l (suc most) (omega arith) _ is refl) refl refl
+    kept_found (Some i) found is = kept-start i found (ending (drop (i + 1) c)) refl is
 
     kept_turn : (k : Checked) → read_checked k s own st os ms p ≡ reading s job es st os ms p → Kept st p n now
     unfolding read_checked read_at
-    kept_turn (Refused x) is = none-by _ (turn_refused s job es st os ms p n l (suc most) (omega arith) _ is x refl) refl refl
-    kept_turn Fine is = kept_found (find_start c p) refl is
+    kept_turn (Err x) is = none-by _ (turn_refused s job es st os ms p n l (suc most) (omega arith) _ is x refl) refl refl
+    kept_turn (Ok _) is = kept_found (find_start c p) refl is
 
   kept_from : (most : ℕ) (st : State) (p n : ℕ) (l : List ℕ) → Kept st p n (keep_from most s job es st os ms p n l)
   unfolding keep_from
@@ -179,16 +176,16 @@ module _ (s : Settings) (job : ℕ) (es : List Entry) (os ms : List ℕ) where
       k.state ∙ ap (λ (m : ℕ). after_reads st (reads_of s own (take m (met_from os ms p)))) all
     where
       by_checked : (k : KeepChecked) → first (keep_refusals s job es os ms p l) ≡ k → Kept st p 0 (walk_logged s job es st os ms p l)
-      by_checked (KeepChecked.Refused x) e = subst (Kept st p 0) (sym (walk_refused s job es st os ms p l x e)) (kept-none st p 0 _ refl refl)
-      by_checked KeepChecked.Fine e = subst (Kept st p 0) (sym (walk_fine s job es st os ms p l e)) (kept_from (length os + 1) st p 0 l)
+      by_checked (Err x) e = subst (Kept st p 0) (sym (walk_refused s job es st os ms p l x e)) (kept-none st p 0 _ refl refl)
+      by_checked (Ok _) e = subst (Kept st p 0) (sym (walk_fine s job es st os ms p l e)) (kept_from (length os + 1) st p 0 l)
 
 -- ---- a symbol that the plain reader takes
 
 symbol_state : (s : Settings) (own : List (Option Address)) (p : Plain) (x : Symbol) (k : Checked)
     → (step_checked k s own p x).plain.state ≡ after_reads p.state (read_told (step_checked k s own p x).told p.run)
 unfolding step_checked after_data after_control kept_told read_told after_reads
-symbol_state s own p x (Refused y) = refl
-symbol_state s own p x Fine = by-mark (is_data x)
+symbol_state s own p x (Err y) = refl
+symbol_state s own p x (Ok _) = by-mark (is_data x)
   where
     by-run : (b : Bool) (o : Outcome)
         → cond b (state_after o (front_of p.run) p.state) p.state
@@ -207,7 +204,7 @@ symbol_state s own p x Fine = by-mark (is_data x)
 pub data Does (st : State) (c : Call) : Type 0 where
   by-reading : ((test : Sends → Bool) → asks_such test c ≡ false) → writes st c ≡ [] → after_call st c ≡ after_reads st (read_by st c) → Does st c
   by_sending : (k : Checked) (os ms : List ℕ) (x : Sends) → ((test : Sends → Bool) → asks_such test c ≡ test x) → read_by st c ≡ []
-      → (k ≡ Fine → first (refusals_of st os ms x) ≡ Fine) → writes st c ≡ written k (symbols_asked st x)
+      → (k ≡ Ok tt → first (refusals_of st os ms x) ≡ Ok tt) → writes st c ≡ written k (symbols_asked st x)
       → after_call st c ≡ (send_checked k st os ms (place_of x) (symbols_asked st x) (count_after st x)).given.state
       → Does st c
 

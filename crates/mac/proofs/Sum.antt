@@ -1,13 +1,14 @@
 -- Claim 4, demand 2: after a walk the eleven counters together have risen by the number of Start symbols, less one if open, modulo 2^64, and each
 -- counter by the number of Starts with its outcome, on the screen modulo 2^32. The statements are `walk-counts`, `counters_rise`, `counter-rises` and
 -- `screen_rises`. Assumes nothing.
+use Rattle.std.specs.Prelude.{Option}
+use Rattle.receive.specs.Values.{walk_ended}
 use Prim.Native.Nat.{ℕ, zero, suc, ◌+◌, ◌-◌, ◌%◌, ◌≤◌, ◌<◌}
 use native.Mathlib.Omega.{arith}
 use native.Mathlib.Nat.{not-suc-le-zero, le_of_suc-le-suc, mod-add-mod}
 use mathlib.Core.Path.{◌≡◌, refl, sym, ap, ap₂, ◌∙◌, subst}
 use mathlib.Core.Bool.{Bool, true, false, cond}
 use mathlib.Core.List.{List, [], ◌∷◌}
-use mathlib.Core.Option.{Option}
 use lib.ListN.{length, get_or, set, length-set}
 use lib.Seq.{get_or-set_same, get_or-set_other}
 use lib.Dec.{eqb}
@@ -26,7 +27,6 @@ use Rattle.station.proofs.Shown.{shown-sum, counter-shown}
 use Rattle.table.specs.declared.Entry.{Entry}
 use Rattle.table.specs.Entries.{mine}
 use Rattle.receive.specs.declared.Reading.{Reading}
-use Rattle.receive.specs.declared.WalkAnswer.TheVariants.{Ended}
 use Rattle.receive.specs.declared.Walking.{Walking}
 use Rattle.outcome.specs.Outcomes.{outcome, frame_of}
 use Rattle.receive.specs.Reading.{state_after, read_run, read_start}
@@ -106,7 +106,7 @@ ones_ended i r by ms =
 
 -- what one walk over these Starts leaves: how many were counted, the sum of the counters, and the counter of each outcome
 record Rises (s : Settings) (own : List (Option Address)) (k : ℕ) (st : State) (ms : List MetStart) (w : Walking) : Type 0 where
-  count : w.answer ≡ Ended (k + counted_ones ms) (last_unended ms)
+  count : w.answer ≡ walk_ended (k + counted_ones ms) (last_unended ms)
   sum : total w.state.counters % counter_size ≡ (total st.counters + counted_ones ms) % counter_size
   each : (o : Outcome) → counter o w.state.counters % counter_size ≡ (counter o st.counters + starts_with s own o ms) % counter_size
 
@@ -118,7 +118,7 @@ module _ (s : Settings) (own : List (Option Address)) (n : ℕ) where
   one k st i unended [] e l ih =
       let none : counted_ones (record { place = i; follows = unended } ∷ []) ≡ 0 = (unfold counted_ones last_unended is_unended one_if in refl) in
       record {
-        count = ap (λ (j : ℕ). Ended j true) (let z : k ≡ k + counted_ones (record { place = i; follows = unended } ∷ []) = omega arith in z);
+        count = ap (λ (j : ℕ). walk_ended j true) (let z : k ≡ k + counted_ones (record { place = i; follows = unended } ∷ []) = omega arith in z);
         sum = ap (λ (j : ℕ). j % counter_size) (let z : total st.counters ≡ total st.counters + counted_ones (record { place = i; follows = unended } ∷ []) = omega arith in z);
         each = λ o. ap (λ (j : ℕ). j % counter_size) (let z : counter o st.counters ≡ counter o st.counters + 0 = omega arith in z);
       }
@@ -129,7 +129,7 @@ module _ (s : Settings) (own : List (Option Address)) (n : ℕ) where
       let x = ih st' (unfold counted in simp length-set e) in
       let ones = ones_ended i r by ms in
       record {
-        count = x.count ∙ ap₂ Ended (let z : k + 1 + counted_ones ms ≡ k + counted_ones (record { place = i; follows = ended r by } ∷ ms) = omega arith in z) (sym (last-ended i r by ms));
+        count = x.count ∙ ap₂ walk_ended (let z : k + 1 + counted_ones ms ≡ k + counted_ones (record { place = i; follows = ended r by } ∷ ms) = omega arith in z) (sym (last-ended i r by ms));
         sum =
             chain counter_size (total st.counters) (total st'.counters) (total (walk_of (k + 1) st' (through s own st' n ms)).state.counters)
             1 (counted_ones ms)
@@ -148,7 +148,7 @@ module _ (s : Settings) (own : List (Option Address)) (n : ℕ) where
   all k st [] e w =
       let none : counted_ones [] ≡ 0 = (unfold counted_ones last_unended one_if in refl) in
       record {
-        count = ap (λ (j : ℕ). Ended j false) (let z : k ≡ k + counted_ones [] = omega arith in z);
+        count = ap (λ (j : ℕ). walk_ended j false) (let z : k ≡ k + counted_ones [] = omega arith in z);
         sum = ap (λ (j : ℕ). j % counter_size) (let z : total st.counters ≡ total st.counters + counted_ones [] = omega arith in z);
         each = λ o. ap (λ (j : ℕ). j % counter_size) (let z : counter o st.counters ≡ counter o st.counters + 0 = omega arith in z);
       }
@@ -178,8 +178,8 @@ module _ (s : Settings) (job : ℕ) (es : List Entry) (st : State) (os ms : List
   ones = ap (λ (n : ℕ). n - one_if (last_unended met)) (met-starts 0 c)
 
   -- the walk in one call says how many Starts it counted, and whether it ended `open`
-  pub walk-counts : (walked s job es st os ms).answer ≡ Ended (start_count c - one_if (last_unended met)) (last_unended met)
-  walk-counts = rises.count ∙ ap (λ (n : ℕ). Ended n (last_unended met)) (let e : 0 + counted_ones met ≡ counted_ones met = omega arith in e ∙ ones)
+  pub walk-counts : (walked s job es st os ms).answer ≡ walk_ended (start_count c - one_if (last_unended met)) (last_unended met)
+  walk-counts = rises.count ∙ ap (λ (n : ℕ). walk_ended n (last_unended met)) (let e : 0 + counted_ones met ≡ counted_ones met = omega arith in e ∙ ones)
 
   -- "the eleven counters together have risen … by the number of Start symbols in the capture, less one if the walk ended `open`"; document 02, item 6:
   -- "Demand 2 and the sum over Starts then hold modulo 2^64"

@@ -1,17 +1,15 @@
 -- Claim 2, demand 1, of the table calls (document 02, item 10): each refuses by exactly the numbers of its list, the first that holds, and refused it leaves
 -- every octet of the table. The statements are `adding_refuses` and `removing_refuses`. Assumes nothing.
+use Rattle.std.specs.Prelude.{Err, None, Ok, Option, Some}
+use Rattle.station.specs.Numbers.{Checked}
 use Prim.Native.Nat.{ℕ, ◌<◌}
 use native.Mathlib.Omega.{arith}
 use mathlib.Core.Path.{◌≡◌, refl}
 use mathlib.Core.Bool.{false, not, true≢false}
 use mathlib.Core.List.{List, [], ◌∷◌}
-use Rattle.line.specs.declared.Found.{Found}
-use Rattle.line.specs.declared.Found.TheVariants.{At, Nothing}
 use Rattle.line.specs.Table.{Table, first}
 use Rattle.station.specs.declared.Address.{Address}
 use Rattle.station.specs.declared.Refusal.TheVariants.{BadJob, HoldsTwelve, AllInUse, AlreadyListed, NotListed, BadTable}
-use Rattle.station.specs.declared.Checked.{Checked}
-use Rattle.station.specs.declared.Checked.TheVariants.{Fine, Refused}
 use Rattle.station.specs.Numbers.{checked_number}
 use Rattle.station.proofs.Refusals.{fine_row}
 use Rattle.table.specs.declared.Entry.{Entry}
@@ -24,20 +22,20 @@ use Rattle.mac.proofs.Demand1.{is_in, repeats, Listed, exactly}
 
 -- ---- any call on a table: where nothing refuses, its search found an entry
 
-call_number : (k : Checked) (f : Found) (t : List ℕ) (e : Entry) → (k ≡ Fine → not (is_found f) ≡ false)
+call_number : (k : Checked) (f : Option ℕ) (t : List ℕ) (e : Entry) → (k ≡ Ok tt → not (is_found f) ≡ false)
     → placed_refusal (changed k f t e).answer ≡ checked_number k
 unfolding changed put_at
-call_number (Refused x) f t e found = refl
-call_number Fine (At i) t e found = refl
-call_number Fine Nothing t e found = absurd (true≢false (found refl))
+call_number (Err x) f t e found = refl
+call_number (Ok _) (Some i) t e found = refl
+call_number (Ok _) None t e found = absurd (true≢false (found refl))
 
-call_kept : (k : Checked) (f : Found) (t : List ℕ) (e : Entry) → 0 < checked_number k → (changed k f t e).table ≡ t
+call_kept : (k : Checked) (f : Option ℕ) (t : List ℕ) (e : Entry) → 0 < checked_number k → (changed k f t e).table ≡ t
 unfolding changed
-call_kept (Refused x) f t e h = refl
-call_kept Fine f t e h = absurd (omega arith)
+call_kept (Err x) f t e h = refl
+call_kept (Ok _) f t e h = absurd (omega arith)
 
-call_refuses : {rows : Table Checked} {numbers : List ℕ} → Listed rows numbers → (f : Found) (t : List ℕ) (e : Entry)
-    → (first rows ≡ Fine → not (is_found f) ≡ false) → ChangesOrRefuses rows numbers t (changed (first rows) f t e)
+call_refuses : {rows : Table Checked} {numbers : List ℕ} → Listed rows numbers → (f : Option ℕ) (t : List ℕ) (e : Entry)
+    → (first rows ≡ Ok tt → not (is_found f) ≡ false) → ChangesOrRefuses rows numbers t (changed (first rows) f t e)
 call_refuses {rows} w f t e found =
     let n = call_number (first rows) f t e found in
     record {
@@ -52,7 +50,7 @@ module _ (job : ℕ) (es : List Entry) (a : Address) where
   unfolding add_refusals numbers_of repeats is_in
   add-listed = (refl, refl)
 
-  add_found : first (add_refusals job es a) ≡ Fine → not (is_found (free_entry es)) ≡ false
+  add_found : first (add_refusals job es a) ≡ Ok tt → not (is_found (free_entry es)) ≡ false
   unfolding add_refusals
   add_found h =
       let one = fine_row BadJob _ h in
@@ -67,7 +65,7 @@ module _ (job : ℕ) (es : List Entry) (a : Address) where
   unfolding remove_refusals numbers_of repeats is_in
   remove_listed = (refl, refl)
 
-  remove_found : first (remove_refusals job es a) ≡ Fine → not (is_found (first_mine a.0 0 (mine job es))) ≡ false
+  remove_found : first (remove_refusals job es a) ≡ Ok tt → not (is_found (first_mine a.0 0 (mine job es))) ≡ false
   unfolding remove_refusals
   remove_found h =
       let one = fine_row BadJob _ h in

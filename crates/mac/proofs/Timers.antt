@@ -2,6 +2,8 @@
 -- it is set only by reading (`timer-set`), and falls only by sending and by exactly the symbols written (`call_lowers`, `timer_falls`); a client frame is
 -- refused by 9 exactly while its timer is above zero and no refusal tested before it holds (`held-exactly`); one refused at t slots isn't refused for it once
 -- t more are written, if no reading set it meanwhile (`released`); zero quanta let the class go at once (`let_go`). Assumes nothing.
+use Rattle.std.specs.Prelude.{Err, Ok}
+use Rattle.station.specs.Numbers.{Checked}
 use Prim.Native.Nat.{ℕ, zero, suc, ◌-◌, ◌*◌, ◌/◌, ◌%◌, ◌≤◌, ◌<◌}
 use native.Mathlib.Omega.{arith}
 use native.Mathlib.Nat.{not-suc-le-zero, le_of_suc-le-suc}
@@ -20,8 +22,6 @@ use Rattle.station.specs.declared.Port.{Port}
 use Rattle.station.specs.declared.State.{State}
 use Rattle.station.specs.declared.Quanta.{Quanta}
 use Rattle.station.specs.declared.Slots.{Slots}
-use Rattle.station.specs.declared.Checked.{Checked}
-use Rattle.station.specs.declared.Checked.TheVariants.{Fine, Refused}
 use Rattle.station.specs.declared.Outcome.{Outcome}
 use Rattle.station.specs.declared.Outcome.TheVariants.{Cut, BadPreamble, Undersized, Oversized, WrongFcs, WrongLength, Filtered, PauseTaken, PfcTaken}
 use Rattle.station.specs.declared.Outcome.TheVariants.{ControlDropped, HandedOut}
@@ -103,14 +103,14 @@ reads-set k st (r ∷ l) h =
 sent_lowers : (r : Checked) (st : State) (os ms : List ℕ) (p : ℕ) (new : List Symbol) (count k : ℕ)
     → (timer (send_checked r st os ms p new count).given.state.timers k).0 ≡ (timer st.timers k).0 - length (written r new)
 unfolding send_checked state_sent written
-sent_lowers (Refused x) st os ms p new count k = omega arith
-sent_lowers Fine st os ms p new count k = lowered-timer (length new) st.timers k
+sent_lowers (Err x) st os ms p new count k = omega arith
+sent_lowers (Ok _) st os ms p new count k = lowered-timer (length new) st.timers k
 
 sent-keeps : (r : Checked) (st : State) (os ms : List ℕ) (p : ℕ) (new : List Symbol) (count : ℕ)
     → length (send_checked r st os ms p new count).given.state.timers ≡ length st.timers
 unfolding send_checked state_sent
-sent-keeps (Refused x) st os ms p new count = refl
-sent-keeps Fine st os ms p new count = length-lowered (length new) st.timers
+sent-keeps (Err x) st os ms p new count = refl
+sent-keeps (Ok _) st os ms p new count = length-lowered (length new) st.timers
 
 -- ---- a call: what its readings set last, less the symbols that it writes
 

@@ -1,12 +1,12 @@
 -- Claim 2, demand 1, of the calls with totals (document 02, item 9): each refuses by exactly the numbers of its list, the first that holds, and refused it
 -- changes nothing. The statements are `counting_refuses`, over the four sending calls, `question_refuses` and `filling_refuses`. Assumes nothing.
+use Rattle.std.specs.Prelude.{Err, Ok}
+use Rattle.station.specs.Numbers.{Checked}
 use Prim.Native.Nat.{ℕ}
 use mathlib.Core.Path.{◌≡◌, refl}
 use mathlib.Core.List.{List, [], ◌∷◌}
 use Rattle.line.specs.Table.{first}
 use Rattle.station.specs.declared.State.{State}
-use Rattle.station.specs.declared.Checked.{Checked}
-use Rattle.station.specs.declared.Checked.TheVariants.{Fine, Refused}
 use Rattle.station.specs.Numbers.{checked_number}
 use Rattle.send.specs.Sending.{client_refusals, control_refusals, idle_refusals}
 use Rattle.totals.specs.Totals.{before_refusals, fill_refusals, before_checked, before_place, fill_checked, filled, count_refusal}
@@ -34,8 +34,8 @@ counting_refuses st l c = record { exactly = exactly (counting-listed st l c) (n
 
 question_number : (k : Checked) (os ms : List ℕ) (place : ℕ) (ts : List ℕ) → count_refusal (before_checked k os ms place ts) ≡ checked_number k
 unfolding before_checked
-question_number (Refused x) os ms place ts = refl
-question_number Fine os ms place ts = refl
+question_number (Err x) os ms place ts = refl
+question_number (Ok _) os ms place ts = refl
 
 question_listed : (os ms : List ℕ) (place : ℕ) (ts : List ℕ) → Listed (before_refusals os ms place ts) (2 ∷ 3 ∷ 21 ∷ 22 ∷ [])
 unfolding before_refusals numbers_of repeats is_in
@@ -49,8 +49,8 @@ question_refuses os ms place ts = exactly (question_listed os ms place ts) (ques
 
 filling-number : (k : Checked) (os ms ts : List ℕ) → checked_number (fill_checked k os ms ts).given ≡ checked_number k
 unfolding fill_checked
-filling-number (Refused x) os ms ts = refl
-filling-number Fine os ms ts = refl
+filling-number (Err x) os ms ts = refl
+filling-number (Ok _) os ms ts = refl
 
 filling-listed : (os ms ts : List ℕ) → Listed (fill_refusals os ms ts) (2 ∷ 21 ∷ [])
 unfolding fill_refusals numbers_of repeats is_in

@@ -1,10 +1,10 @@
 -- Claim 3, demand 2: a walk by next places from place 0 meets every Start symbol once and in order, each but a last open one is counted, and it
 -- ends with `none` or `open`. The statements are `walk_meets`, `walk_whole` and `walk-opens`. Assumes nothing.
+use Rattle.std.specs.Prelude.{None, Option, Some}
 use Prim.Native.Nat.{ℕ, ◌+◌}
 use native.Mathlib.Omega.{arith}
 use mathlib.Core.Path.{◌≡◌, refl, sym, ap, ◌∙◌, subst}
 use mathlib.Core.List.{List, [], ◌∷◌}
-use mathlib.Core.Option.{Option, none, some}
 use lib.ListN.{length}
 use Rattle.line.specs.Limits.{lead_size}
 use Rattle.line.specs.Line.{Symbol, capture, run, ending, AfterStart, unended, ended, ended_by, after_start, is_start, MetStart, met_starts}
@@ -34,8 +34,8 @@ not-unended r by h = let bad : ◌≡◌ {A = ℕ} 0 1 = cc in absurd (omega ari
 
 one_open : (at : ℕ) (xs : List Symbol) (e : Option Symbol) → ending xs ≡ e → ended_by (run xs) e ≡ unended → met_starts at xs ≡ []
 unfolding ended_by
-one_open at xs none h u = open_none at xs h
-one_open at xs (some y) h u = not-unended (run xs) y.octet u
+one_open at xs None h u = open_none at xs h
+one_open at xs (Some y) h u = not-unended (run xs) y.octet u
 
 pub open_last : (at : ℕ) (l : List Symbol) → OpenLast (met_starts at l)
 unfolding OpenLast met_starts after_start

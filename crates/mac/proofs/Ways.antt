@@ -1,16 +1,15 @@
 -- Document 02, item 7: "Accepted and refused stay as they are" (`accepts_stays`, `passes_stays`, and of a reading `reading-way`), and nothing else of a
 -- reading moved (`nothing_moved`). Assumes nothing.
+use Rattle.std.specs.Prelude.{Err, None, Ok, Option, Some}
+use Rattle.station.specs.Numbers.{Checked}
 use Prim.Native.Nat.{ℕ, ◌+◌, ◌≤◌, ◌<◌}
 use native.Mathlib.Omega.{arith}
 use mathlib.Core.Path.{◌≡◌, refl, sym, ap, ◌∙◌, subst}
 use mathlib.Core.Bool.{Bool, true, false, not}
 use mathlib.Core.Logic.{◌↔◌}
 use mathlib.Core.List.{List}
-use mathlib.Core.Option.{Option}
 use lib.ListN.{get_or, drop}
 use borrow.Author.Tests.{ltb-true, lt-ltb}
-use Rattle.line.specs.declared.Found.{Found}
-use Rattle.line.specs.declared.Found.TheVariants.{At}
 use Rattle.line.specs.Line.{capture, find_start, find_control, AfterStart, unended, ended, after_start}
 use Rattle.line.specs.Octets.{between}
 use Rattle.line.specs.Table.{Table, ◌⇒◌, ◌∣◌, first}
@@ -21,8 +20,6 @@ use Rattle.station.specs.declared.Settings.{Settings}
 use Rattle.station.specs.declared.State.{State}
 use Rattle.station.specs.declared.Outcome.{Outcome}
 use Rattle.station.specs.declared.Outcome.TheVariants.{Cut, BadPreamble, Undersized, Oversized, WrongFcs, WrongLength, Filtered, PauseTaken, PfcTaken, ControlDropped, HandedOut}
-use Rattle.station.specs.declared.Checked.{Checked}
-use Rattle.station.specs.declared.Checked.TheVariants.{Fine}
 use Rattle.station.specs.Numbers.{outcome_number}
 use Rattle.station.specs.Station.{bad_settings}
 use Rattle.table.specs.declared.Entry.{Entry}
@@ -110,40 +107,40 @@ module _ (s : Settings) (job : ℕ) (es : List Entry) (st : State) (os ms : List
   pub reading-way : (0 < answer_way (reading s job es st os ms p).answer) ↔ (8 ≤ answer_outcome (reading s job es st os ms p).answer)
   reading-way = by_checked (first (read_refusals s job es os ms p)) refl
     where
-      by_end : first (read_refusals s job es os ms p) ≡ Fine → (i : ℕ) → find_start (capture os ms) p ≡ At i → (f : Found)
+      by_end : first (read_refusals s job es os ms p) ≡ Ok tt → (i : ℕ) → find_start (capture os ms) p ≡ Some i → (f : Option ℕ)
           → find_control (capture os ms) (i + 1) ≡ f → Says (reading s job es st os ms p)
-      by_end fine i g Found.Nothing h = subst Says (sym (read_open s job es st os ms p fine i g h)) (neither refl refl)
-      by_end fine i g (At e) h =
+      by_end fine i g None h = subst Says (sym (read_open s job es st os ms p fine i g h)) (neither refl refl)
+      by_end fine i g (Some e) h =
           subst Says (sym (read-ended s job es st os ms p fine i g e h)) (run_says (passed s job es os ms p fine).valid i (between os (i + 1) e) (get_or os e 0))
 
-      by-start : first (read_refusals s job es os ms p) ≡ Fine → (f : Found) → find_start (capture os ms) p ≡ f → Says (reading s job es st os ms p)
-      by-start fine Found.Nothing g = subst Says (sym (read_none s job es st os ms p fine g)) (neither refl refl)
-      by-start fine (At i) g = by_end fine i g (find_control (capture os ms) (i + 1)) refl
+      by-start : first (read_refusals s job es os ms p) ≡ Ok tt → (f : Option ℕ) → find_start (capture os ms) p ≡ f → Says (reading s job es st os ms p)
+      by-start fine None g = subst Says (sym (read_none s job es st os ms p fine g)) (neither refl refl)
+      by-start fine (Some i) g = by_end fine i g (find_control (capture os ms) (i + 1)) refl
 
       by_checked : (k : Checked) → first (read_refusals s job es os ms p) ≡ k → Says (reading s job es st os ms p)
-      by_checked (Checked.Refused x) e = subst Says (sym (read-refused s job es st os ms p x e)) (neither refl refl)
-      by_checked Fine e = by-start e (find_start (capture os ms) p) refl
+      by_checked (Err x) e = subst Says (sym (read-refused s job es st os ms p x e)) (neither refl refl)
+      by_checked (Ok _) e = by-start e (find_start (capture os ms) p) refl
 
   -- ---- nothing else of a reading moved: without the number it is the reading of before
 
   abbrev Stays : Type 0
   Stays = unnumbered (reading s job es st os ms p) ≡ reading_before s job es st os ms p
 
-  after_stays : first (read_refusals s job es os ms p) ≡ Fine → (i : ℕ) → find_start (capture os ms) p ≡ At i → (f : AfterStart)
+  after_stays : first (read_refusals s job es os ms p) ≡ Ok tt → (i : ℕ) → find_start (capture os ms) p ≡ Some i → (f : AfterStart)
       → after_start (drop (i + 1) (capture os ms)) ≡ f → Stays
   unfolding reading read_checked read_at read_found read_start read_run run_before reading_before
   after_stays fine i g unended h = rw (fine, g, h, read_start, reading_before)
   after_stays fine i g (ended run by) h = rw (fine, g, h, read_start, reading_before)
 
-  found_stays : first (read_refusals s job es os ms p) ≡ Fine → (f : Found) → find_start (capture os ms) p ≡ f → Stays
+  found_stays : first (read_refusals s job es os ms p) ≡ Ok tt → (f : Option ℕ) → find_start (capture os ms) p ≡ f → Stays
   unfolding reading read_checked read_at read_found reading_before
-  found_stays fine Found.Nothing g = rw (fine, g, read_found, reading_before)
-  found_stays fine (At i) g = after_stays fine i g (after_start (drop (i + 1) (capture os ms))) refl
+  found_stays fine None g = rw (fine, g, read_found, reading_before)
+  found_stays fine (Some i) g = after_stays fine i g (after_start (drop (i + 1) (capture os ms))) refl
 
   checked_stays : (k : Checked) → first (read_refusals s job es os ms p) ≡ k → Stays
   unfolding reading read_checked reading_before
-  checked_stays (Checked.Refused x) e = rw (e, read_checked, reading_before)
-  checked_stays Fine e = found_stays e (find_start (capture os ms) p) refl
+  checked_stays (Err x) e = rw (e, read_checked, reading_before)
+  checked_stays (Ok _) e = found_stays e (find_start (capture os ms) p) refl
 
   pub nothing_moved : unnumbered (reading s job es st os ms p) ≡ reading_before s job es st os ms p
   nothing_moved = checked_stays (first (read_refusals s job es os ms p)) refl

@@ -1,11 +1,11 @@
 -- What becomes of a plain frame, by the rules' own definitions: rules 1 to 4 and 6 to 10 do not hold of it, and so rule 5 decides (`plain_judged_lem`). And what
 -- the code looks for. Assumes nothing.
+use Rattle.std.specs.Prelude.{Option}
 use Prim.Native.Nat.{ℕ, ◌+◌, ◌-◌, ◌*◌, ◌%◌, ◌≤◌, ◌<◌}
 use native.Mathlib.Omega.{arith}
 use mathlib.Core.Path.{◌≡◌, refl, sym, ap, ap₂, ◌∙◌}
 use mathlib.Core.Bool.{Bool, true, false, not, ◌||◌, ◌&&◌, and-false, cond}
 use mathlib.Core.List.{List, ◌++◌}
-use mathlib.Core.Option.{Option}
 use lib.ListN.{length, get_or, take, drop, length-drop}
 use lib.Seq.{take-add, drop_at, take_at, length-take-le, get_or-take, get_or-drop, drop-drop, ext_get_or}
 use lib.Dec.{eqb, ltb}

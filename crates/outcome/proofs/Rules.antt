@@ -1,16 +1,20 @@
 -- Rules 1 and 2, a table row by row, and the table of outcomes in the steps that the code takes. Assumes nothing.
+use Rattle.std.specs.Prelude.{None, Option, Some}
+use Rattle.std.specs.Bool.{Decides}
 use Prim.Native.Nat.{ℕ, zero, suc, ◌≤◌, ◌<◌}
 use native.Mathlib.Omega.{arith}
 use mathlib.Core.Path.{◌≡◌, refl, sym, ap, ap₂, ◌∙◌, subst}
-use mathlib.Core.Bool.{Bool, true, false, not, ◌||◌}
+use mathlib.Core.Bool.{Bool, true, false, not, ◌||◌, false≢true}
+use Rattle.std.proofs.Math.Bool.{or-true}
 use mathlib.Core.List.{List, []}
-use mathlib.Core.Option.{Option}
-use lib.ListN.{length, get_or, drop_of_length-le}
-use borrow.Author.Tests.{lt-ltb, le-ltb, eq-eqb, ne_eqb}
+use lib.ListN.{length, take, drop_of_length-le}
+use lib.Dec.{ltb}
+use borrow.Author.Tests.{le-ltb, eq-eqb, ne_eqb}
 use Rattle.line.specs.Limits.{preamble_size}
 use Rattle.line.specs.Line.{preamble, terminate}
 use Rattle.line.specs.Table.{Table, otherwise, ◌∣◌, ◌⇒◌, first}
-use Rattle.line.proofs.Octets.{front_differs, front_same}
+use Rattle.line.proofs.Octets.{same_octets-refl, same_octets-not}
+use Rattle.line.specs.Octets.{same_octets}
 use Rattle.line.proofs.Tables.{first-here, first_next, first-other}
 use Rattle.station.specs.declared.Address.{Address}
 use Rattle.station.specs.declared.Settings.{Settings}
@@ -22,8 +26,6 @@ use Rattle.fields.specs.Places.{layout_of}
 use Rattle.frame.specs.Frame.{undersized, oversized, covered, wrong_fcs}
 use Rattle.frame.specs.Length.{wrong_length}
 use Rattle.control.specs.Control.{filtered, takes_pause, takes_pfc, drops_control}
-use Rattle.outcome.specs.declared.Early.{Early}
-use Rattle.outcome.specs.declared.Early.TheVariants.{Decided, Framed}
 use Rattle.outcome.specs.declared.Judged.{Judged}
 use Rattle.outcome.specs.Outcomes.{cut, bad_preamble, frame_of, outcomes, outcome, check_made, judged}
 use Rattle.outcome.specs.Steps.{early_outcomes, late_outcomes}
@@ -40,22 +42,14 @@ not-cut by h = ap not (eq-eqb by terminate h)
 
 -- ---- rule 2
 
-pub preamble-short : (r : List ℕ) → length r < preamble_size → bad_preamble r ≡ true
+-- by one comparison with the first octets: what starts with the preamble is long enough
+pub preamble_told : (r : List ℕ) (b : Bool) → (b ≡ true → preamble_size ≤ length r) → Decides b (preamble ≡ take preamble_size r) → not b ≡ bad_preamble r
 unfolding bad_preamble
-preamble-short r h = rw (lt-ltb (length r) preamble_size h)
-
-module _ (r right : List ℕ) (e : right ≡ preamble) (long : preamble_size ≤ length r) where
-  pub preamble_differs : (k : ℕ) → k < preamble_size → (get_or r k 0 ≡ get_or right k 0 → ⊥) → bad_preamble r ≡ true
-  unfolding bad_preamble
-  preamble_differs k h d =
-      ap₂ (λ (a b : Bool). a || not b) (le-ltb (length r) preamble_size long)
-      (front_differs preamble_size r preamble k h (λ q. d (q ∙ ap (λ (l : List ℕ). get_or l k 0) (sym e))))
-
-  pub preamble_right : ((k : ℕ) → k < preamble_size → get_or r k 0 ≡ get_or right k 0) → bad_preamble r ≡ false
-  unfolding bad_preamble
-  preamble_right s =
-      ap₂ (λ (a b : Bool). a || not b) (le-ltb (length r) preamble_size long)
-      (front_same preamble_size r preamble long (unfold preamble in refl) (λ k h. s k h ∙ ap (λ (l : List ℕ). get_or l k 0) e))
+preamble_told r true l d =
+    sym (ap₂ (λ (a b : Bool). a || not b) (le-ltb (length r) preamble_size (l refl))
+    (ap (λ (f : List ℕ). same_octets f preamble) (sym (d.0 refl)) ∙ same_octets-refl preamble))
+preamble_told r false l d =
+    sym (ap (λ (b : Bool). ltb (length r) preamble_size || not b) (same_octets-not (take preamble_size r) preamble (λ q. false≢true (d.1 (sym q)))) ∙ or-true _)
 
 -- ---- the frame of a run
 
@@ -80,27 +74,27 @@ module _ {A : Type 0} where
 
 -- ---- the table in steps: e decides as t does, or leaves the rows of k
 
-record Agrees (e : Table Early) (t k : Table Outcome) : Type 0 where
-  decided : (o : Outcome) → first e ≡ Decided o → first t ≡ o
-  framed : first e ≡ Framed → first t ≡ first k
+record Agrees (e : Table (Option Outcome)) (t k : Table Outcome) : Type 0 where
+  decided : (o : Outcome) → first e ≡ Some o → first t ≡ o
+  framed : first e ≡ None → first t ≡ first k
 
-agrees_end : (k : Table Outcome) → Agrees (otherwise Framed) k k
+agrees_end : (k : Table Outcome) → Agrees (otherwise None) k k
 agrees_end k =
     record {
-      decided = λ o h. let z : Framed ≡ Decided o = sym (first-other Framed) ∙ h in let bad : ◌≡◌ {A = ℕ} 0 1 = cc in absurd (omega arith);
+      decided = λ o h. let z : None ≡ Some o = sym (first-other None) ∙ h in let bad : ◌≡◌ {A = ℕ} 0 1 = cc in absurd (omega arith);
       framed = λ h. refl;
     }
 
-agrees_row : (b : Bool) (o : Outcome) (e : Table Early) (t k : Table Outcome) → Agrees e t k → Agrees (b ⇒ Decided o ∣ e) (b ⇒ o ∣ t) k
+agrees_row : (b : Bool) (o : Outcome) (e : Table (Option Outcome)) (t k : Table Outcome) → Agrees e t k → Agrees (b ⇒ Some o ∣ e) (b ⇒ o ∣ t) k
 agrees_row true o e t k w =
     record {
-      decided = λ p h. let z : Decided o ≡ Decided p = sym (first-here (Decided o) e refl) ∙ h in let q : o ≡ p = cc in first-here o t refl ∙ q;
-      framed = λ h. let z : Decided o ≡ Framed = sym (first-here (Decided o) e refl) ∙ h in let bad : ◌≡◌ {A = ℕ} 0 1 = cc in absurd (omega arith);
+      decided = λ p h. let z : Some o ≡ Some p = sym (first-here (Some o) e refl) ∙ h in let q : o ≡ p = cc in first-here o t refl ∙ q;
+      framed = λ h. let z : Some o ≡ None = sym (first-here (Some o) e refl) ∙ h in let bad : ◌≡◌ {A = ℕ} 0 1 = cc in absurd (omega arith);
     }
 agrees_row false o e t k w =
     record {
-      decided = λ p h. first_next o t refl ∙ w.decided p (sym (first_next (Decided o) e refl) ∙ h);
-      framed = λ h. first_next o t refl ∙ w.framed (sym (first_next (Decided o) e refl) ∙ h);
+      decided = λ p h. first_next o t refl ∙ w.decided p (sym (first_next (Some o) e refl) ∙ h);
+      framed = λ h. first_next o t refl ∙ w.framed (sym (first_next (Some o) e refl) ∙ h);
     }
 
 module _ (s : Settings) (own : List (Option Address)) (run : List ℕ) (by : ℕ) where
@@ -116,11 +110,11 @@ module _ (s : Settings) (own : List (Option Address)) (run : List ℕ) (by : ℕ
   agrees =
       agrees_row (cut by) Cut _ _ late (agrees_row (bad_preamble run) BadPreamble _ _ late (agrees_row (undersized f) Undersized _ _ late (agrees_end late)))
 
-  pub outcome_decided : (o : Outcome) → first (early_outcomes run by) ≡ Decided o → outcome s own run by ≡ o
+  pub outcome_decided : (o : Outcome) → first (early_outcomes run by) ≡ Some o → outcome s own run by ≡ o
   unfolding outcome
   outcome_decided o h = agrees.decided o h
 
-  pub outcome_framed : first (early_outcomes run by) ≡ Framed → outcome s own run by ≡ first late
+  pub outcome_framed : first (early_outcomes run by) ≡ None → outcome s own run by ≡ first late
   unfolding outcome
   outcome_framed h = agrees.framed h
 
@@ -142,11 +136,11 @@ module _ {A : Type 0} (P : A → Type 0) where
   gives-first (r ∣ rows) h = gives_either r.holds r.gives (first rows) h.0 (gives-first rows h.1)
 
 -- what rules 1 to 3 leave made no check
-abbrev NoneMade : List ℕ → Early → Type 0
-NoneMade f (Decided o) = 0 ≡ check_made o f
-NoneMade f Framed = Unit {0}
+abbrev NoneMade : List ℕ → Option Outcome → Type 0
+NoneMade f (Some o) = 0 ≡ check_made o f
+NoneMade f None = Unit {0}
 
-pub early-made : (run : List ℕ) (by : ℕ) (o : Outcome) (f : List ℕ) → first (early_outcomes run by) ≡ Decided o → 0 ≡ check_made o f
+pub early-made : (run : List ℕ) (by : ℕ) (o : Outcome) (f : List ℕ) → first (early_outcomes run by) ≡ Some o → 0 ≡ check_made o f
 early-made run by o g h =
     subst (NoneMade g) h
     (gives-first (NoneMade g) (early_outcomes run by) (unfold Gives early_outcomes check_made in (refl, (refl, (refl, tt)))))

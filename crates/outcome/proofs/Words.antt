@@ -1,9 +1,8 @@
 -- The status word, for the arms that share a value; the group bit. Assumes nothing.
-use Prim.Native.Nat.{ℕ, ◌%◌, ◌≤◌}
-use mathlib.Core.Path.{◌≡◌, ap, ◌∙◌}
-use mathlib.Core.Bool.{false}
+use Prim.Native.Nat.{ℕ, ◌%◌}
+use mathlib.Core.Path.{◌≡◌, ap}
 use mathlib.Core.List.{List}
-use lib.ListN.{length, get_or, get_or-eq_default}
+use lib.ListN.{get_or}
 use lib.Seq.{get_or-take}
 use lib.Dec.{eqb, lit<}
 use denote.Enum.Declared.{tag_of}
@@ -32,6 +31,3 @@ word_of_lem o w e t a h = cc
 pub group-octet : (f : List ℕ) → is_group (destination f) ≡ eqb (get_or f 0 0 % 2) 1
 unfolding is_group destination
 group-octet f = ap (λ (o : ℕ). eqb (o % 2) 1) (get_or-take 6 f 0 0 (lit< tt))
-
-pub group-none : (f : List ℕ) → length f ≤ 0 → is_group (destination f) ≡ false
-group-none f h = group-octet f ∙ ap (λ (o : ℕ). eqb (o % 2) 1) (get_or-eq_default f 0 {n = 0} h)

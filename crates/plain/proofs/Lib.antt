@@ -1,2 +1,3 @@
 pub mod Growth
+pub mod Opened
 pub mod Walk

@@ -2,8 +2,10 @@
 -- order, each with its state, and at the end `none` or `open`: `plain_walks`. So it tells what the walk's readings say (`plain_tells`), ends with the walk's
 -- counters and timers, and has a run in progress exactly when the walk ended `open` (`plain_ends`). It has then taken as many symbols as there are, so that
 -- refusal 2 is for the symbol after 65,536 of them (`plain_place`). Assumes nothing.
+use Rattle.std.specs.Prelude.{Ok, Option}
+use Rattle.station.specs.Numbers.{Checked}
+use Rattle.receive.specs.Values.{walk_ended}
 use Rattle.std.proofs.Common.{◌≡◌, ℕ, ◌+◌, ◌<◌, ◌≤◌, true, false, eqb, List, [], ◌∷◌, ◌++◌, length, sym, refl, ap, ◌∙◌, subst, ap₂, append_assoc, append-nil, arith, length-append}
-use mathlib.Core.Option.{Option}
 use Rattle.line.specs.Limits.{most_symbols}
 use Rattle.line.specs.Line.{Symbol, capture, is_data, is_control, is_start, start, run, ending, ended_by, after_start, met_starts}
 use Rattle.line.specs.Table.{first}
@@ -14,8 +16,6 @@ use Rattle.station.specs.declared.Settings.{Settings}
 use Rattle.station.specs.declared.State.{State}
 use Rattle.station.specs.declared.Part.{Part}
 use Rattle.station.specs.declared.Outcome.{Outcome}
-use Rattle.station.specs.declared.Checked.{Checked}
-use Rattle.station.specs.declared.Checked.TheVariants.{Fine}
 use Rattle.station.specs.Station.{bad_settings}
 use Rattle.table.specs.declared.Entry.{Entry}
 use Rattle.table.specs.Entries.{mine}
@@ -26,7 +26,6 @@ use Rattle.outcome.specs.Outcomes.{outcome, frame_of}
 use Rattle.outcome.specs.Status.{status}
 use Rattle.receive.specs.declared.Answer.TheVariants.{Counted}
 use Rattle.receive.specs.declared.Reading.{Reading}
-use Rattle.receive.specs.declared.WalkAnswer.TheVariants.{Ended}
 use Rattle.receive.specs.Reading.{state_after, handed_part, read_run, read_start, read_refusals}
 use Rattle.receive.specs.Walk.{walk, walk_of, walked}
 use Rattle.receive.proofs.Refusals.{own-single, passed}
@@ -108,7 +107,7 @@ module _ (s : Settings) (job : ℕ) (es : List Entry) where
 
   module _ (valid : bad_settings s ≡ false) (known : bad_job job ≡ false) (sound : bad_table es ≡ false) where
     -- a symbol that is not refused
-    steps : (p : Plain) (x : Symbol) → p.place < most_symbols → step s job es p x ≡ step_checked Fine s own p x
+    steps : (p : Plain) (x : Symbol) → p.place < most_symbols → step s job es p x ≡ step_checked (Ok tt) s own p x
     unfolding step
     steps p x h = ap (λ (k : Checked). step_checked k s own p x) (symbol_fine s job es p.place valid known sound h)
 
@@ -151,7 +150,7 @@ module _ (s : Settings) (job : ℕ) (es : List Entry) where
                 record {
                   reads = (let e : at ≡ n = omega arith in rw e);
                   tells = refl;
-                  ends = λ m st'. ap (λ (k : ℕ). record { answer = Ended k false; state = st }) (none m);
+                  ends = λ m st'. ap (λ (k : ℕ). record { answer = walk_ended k false; state = st }) (none m);
                   taken = omega arith;
                 };
             inside =
@@ -159,7 +158,7 @@ module _ (s : Settings) (job : ℕ) (es : List Entry) where
                 record {
                   reads = refl;
                   tells = refl;
-                  ends = λ m st'. ap (λ (k : ℕ). record { answer = Ended k true; state = st }) (none m);
+                  ends = λ m st'. ap (λ (k : ℕ). record { answer = walk_ended k true; state = st }) (none m);
                   taken = omega arith;
                 };
           }
@@ -251,7 +250,7 @@ module _ (s : Settings) (job : ℕ) (es : List Entry) where
 -- ---- the claims
 
 module _ (s : Settings) (job : ℕ) (es : List Entry) (st : State) (os ms : List ℕ)
-    (fine : first (read_refusals s job es os ms 0) ≡ Fine) (eight : length st.timers ≡ 8) where
+    (fine : first (read_refusals s job es os ms 0) ≡ Ok tt) (eight : length st.timers ≡ 8) where
   abbrev c : List Symbol
   c = capture os ms
 

@@ -1,4 +1,5 @@
 -- What one step of the plain reader adds to the lines, and that all of them are those of the walk. Assumes nothing.
+use Rattle.std.specs.Prelude.{Ok}
 use Prim.Native.Nat.{ℕ, ◌+◌, ◌≤◌, ◌<◌}
 use native.Mathlib.Omega.{arith}
 use mathlib.Core.Path.{◌≡◌, refl, sym, ap, ap₂, ◌∙◌}
@@ -12,7 +13,6 @@ use Rattle.station.specs.declared.Settings.{Settings}
 use Rattle.station.specs.declared.Part.{Part}
 use Rattle.station.specs.declared.Outcome.{Outcome}
 use Rattle.station.specs.declared.Refusal.{Refusal}
-use Rattle.station.specs.declared.Checked.TheVariants.{Fine}
 use Rattle.station.specs.Numbers.{outcome_number}
 use Rattle.station.specs.Station.{is_group, bad_settings, fresh}
 use Rattle.table.specs.declared.Entry.{Entry}
@@ -94,7 +94,7 @@ module _ (n : ℕ) (s : Settings) (job : ℕ) (es : List Entry) (p : Plain) (k :
 -- ---- all of them
 
 -- no symbol of the program is refused
-program_fine : (l : List ℕ) → bad_input l ≡ false → first (read_refusals program_settings 0 program_table (record_octets l) (record_marks l) 0) ≡ Fine
+program_fine : (l : List ℕ) → bad_input l ≡ false → first (read_refusals program_settings 0 program_table (record_octets l) (record_marks l) 0) ≡ Ok tt
 program_fine l h =
     let short = good_short l h in
     let few = no_longer l in

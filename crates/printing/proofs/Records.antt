@@ -61,7 +61,3 @@ good_short l h = ltb-false (2 * most_records) (length l) (or-false (eqb (length 
 pub good_printed : (l : List ℕ) → bad_input l ≡ false → capture_lines (record_octets l) (record_marks l) ≡ printed l
 unfolding printed
 good_printed l h = rw h
-
-pub bad_printed : (l : List ℕ) → bad_input l ≡ true → (98 ∷ 97 ∷ 100 ∷ 32 ∷ 105 ∷ 110 ∷ 112 ∷ 117 ∷ 116 ∷ 10 ∷ []) ≡ printed l
-unfolding printed
-bad_printed l h = rw h

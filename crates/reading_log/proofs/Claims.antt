@@ -14,13 +14,13 @@ use lib.Seq.{take_at, take_all}
 use lib.Dec.{eqb}
 use borrow.Author.Tests.{eqb-false}
 use denote.Ref.{Bor}
+use Rattle.std.specs.Prelude.{Result, Ok, Err}
 use Rattle.line.specs.Limits.{record_size}
 use Rattle.line.proofs.Symbols.{by_test}
 use Rattle.reading_log.specs.declared.Record.{Record}
+use Rattle.reading_log.specs.declared.LogRefusal.{LogRefusal}
 use Rattle.reading_log.specs.declared.Reader.{Reader}
 use Rattle.reading_log.specs.declared.LogRefusal.TheVariants.{BadLog, NotUsed}
-use Rattle.reading_log.specs.declared.LogRead.{LogRead}
-use Rattle.reading_log.specs.declared.LogRead.TheVariants.{Holds}
 use Rattle.reading_log.specs.Numbers.{logged_refusal, log_read_refusal, log_read_record}
 use Rattle.reading_log.specs.Log.{record_of, is_used, counts, slot_at, slots, all_used, used_ones, remaining, joined, at_front, bad_log}
 use Rattle.reading_log.specs.Log.{Logging, appending, record_read}
@@ -196,31 +196,31 @@ at_record l k = record { log = l; at = k }
 
 module _ (l : Bor (List ℕ)) (at : ℕ) where
   -- what is handed out by what is read of record k
-  abbrev by_read : LogRead → ℕ → Handing
+  abbrev by_read : Result Record LogRefusal → ℕ → Handing
   by_read x k = handing (step_of x at k).read (at_record l (step_of x at k).at)
 
-  hand_read : (x : LogRead) → record_read l.now (next_used l.now at) ≡ x → hand_out (at_record l at) ≡ by_read x (next_used l.now at)
+  hand_read : (x : Result Record LogRefusal) → record_read l.now (next_used l.now at) ≡ x → hand_out (at_record l at) ≡ by_read x (next_used l.now at)
   unfolding hand_out next_step
-  hand_read x e = ap (λ (y : LogRead). by_read y (next_used l.now at)) e
+  hand_read x e = ap (λ (y : Result Record LogRefusal). by_read y (next_used l.now at)) e
 
-  hand_bad : bad_log l.now ≡ true → hand_out (at_record l at) ≡ handing (LogRead.Refused BadLog) (at_record l at)
+  hand_bad : bad_log l.now ≡ true → hand_out (at_record l at) ≡ handing (Err BadLog) (at_record l at)
   unfolding step_of
-  hand_bad b = hand_read (LogRead.Refused BadLog) (read_bad l.now _ b)
+  hand_bad b = hand_read (Err BadLog) (read_bad l.now _ b)
 
   module _ (good : IsMultiple l.now) where
     -- "The reader skips deleted records"
-    hand_next : (k : ℕ) → IsNextUsed l.now at k → hand_out (at_record l at) ≡ handing (Holds (record_of (slot_at l.now k))) (at_record l (k + 1))
+    hand_next : (k : ℕ) → IsNextUsed l.now at k → hand_out (at_record l at) ≡ handing (Ok (record_of (slot_at l.now k))) (at_record l (k + 1))
     unfolding step_of
     hand_next k h =
         let e = next-is l.now at k good h in
-        hand_read (Holds (record_of (slot_at l.now k))) (ap (record_read l.now) e ∙ read-used l.now k (good_log l.now good) h.1)
-        ∙ ap (λ (i : ℕ). handing (Holds (record_of (slot_at l.now k))) (at_record l (i + 1))) e
+        hand_read (Ok (record_of (slot_at l.now k))) (ap (record_read l.now) e ∙ read-used l.now k (good_log l.now good) h.1)
+        ∙ ap (λ (i : ℕ). handing (Ok (record_of (slot_at l.now k))) (at_record l (i + 1))) e
 
-    hand_none : length l.now / record_size ≤ next_used l.now at → hand_out (at_record l at) ≡ handing (LogRead.Refused NotUsed) (at_record l at)
+    hand_none : length l.now / record_size ≤ next_used l.now at → hand_out (at_record l at) ≡ handing (Err NotUsed) (at_record l at)
     unfolding step_of
     hand_none h =
         let k = next_used l.now at in
-        hand_read (LogRead.Refused NotUsed)
+        hand_read (Err NotUsed)
         (read-unused l.now k (good_log l.now good) (not-used l.now k (λ u. let i = inside l.now k good u in let z : ⊥ = omega arith in z)))
 
 -- from record k on it hands out those that remain there

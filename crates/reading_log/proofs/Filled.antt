@@ -10,12 +10,12 @@ use lib.ListN.{length, take, drop, replicate, length-append, length-drop, length
 use lib.Seq.{take_at, drop_at, drop-append-add, length-take-le}
 use lib.Dec.{eqb, ltb}
 use borrow.Author.Tests.{eqb-true, eqb-false}
+use Rattle.std.specs.Prelude.{Ok}
 use Rattle.line.specs.Limits.{record_size}
 use Rattle.line.specs.Line.{overwrite}
 use Rattle.line.proofs.Symbols.{by_test}
 use Rattle.reading_log.specs.declared.Record.{Record}
 use Rattle.reading_log.specs.Log.{octets_of_record, record_of, is_used, counts, slots_in, slots, all_used, used_ones, used_count, remaining, up_to_last, extent}
-use Rattle.reading_log.specs.declared.Logged.TheVariants.{Fine}
 use Rattle.reading_log.specs.Log.{joined, at_front, compacted, roomy, Logging, logging, appending}
 use Rattle.reading_log.specs.Claims.{filled, Fits, AllFit, IsMultiple}
 use Rattle.reading_log.proofs.Records.{length_record, record_back, counts_so, used-counts}
@@ -334,22 +334,22 @@ module _ (l : List ℕ) (good : IsMultiple l) where
   -- ---- appending, where there is room
 
   module _ (r : Record) (some : r.outcome ≡ 0 → ⊥) where
-    pub append-roomy : (k : ℕ) → k ≡ extent (roomy l) → k < n → appending l r ≡ logging Fine (overwrite (roomy l) (record_size * k) (octets_of_record r))
+    pub append-roomy : (k : ℕ) → k ≡ extent (roomy l) → k < n → appending l r ≡ logging (Ok tt) (overwrite (roomy l) (record_size * k) (octets_of_record r))
     append-roomy k e h =
         append-room l r (good_log l good) (counts_so r some) (room-some (λ q. let z : ⊥ = omega arith in z))
-        ∙ ap (λ (i : ℕ). logging Fine (overwrite (roomy l) (record_size * i) (octets_of_record r))) (sym e)
+        ∙ ap (λ (i : ℕ). logging (Ok tt) (overwrite (roomy l) (record_size * i) (octets_of_record r))) (sym e)
 
-    pub append-behind : (k : ℕ) → k ≡ extent l → k < n → appending l r ≡ logging Fine (overwrite l (record_size * k) (octets_of_record r))
+    pub append-behind : (k : ℕ) → k ≡ extent l → k < n → appending l r ≡ logging (Ok tt) (overwrite l (record_size * k) (octets_of_record r))
     append-behind k e h =
         let stays : roomy l ≡ l = behind-room (omega arith) in
-        append-roomy k (e ∙ ap extent (sym stays)) h ∙ ap (λ (m : List ℕ). logging Fine (overwrite m (record_size * k) (octets_of_record r))) stays
+        append-roomy k (e ∙ ap extent (sym stays)) h ∙ ap (λ (m : List ℕ). logging (Ok tt) (overwrite m (record_size * k) (octets_of_record r))) stays
 
     pub append-compacts : extent l ≡ n → all_used (slots l) ≡ false
-        → appending l r ≡ logging Fine (overwrite (compacted l) (record_size * used_count l) (octets_of_record r))
+        → appending l r ≡ logging (Ok tt) (overwrite (compacted l) (record_size * used_count l) (octets_of_record r))
     append-compacts e u =
         append-room l r (good_log l good) (counts_so r some) u
-        ∙ ap (λ (m : List ℕ). logging Fine (overwrite m (record_size * extent m) (octets_of_record r))) (roomy-compacts l e)
-        ∙ ap (λ (i : ℕ). logging Fine (overwrite (compacted l) (record_size * i) (octets_of_record r))) extent-compacted
+        ∙ ap (λ (m : List ℕ). logging (Ok tt) (overwrite m (record_size * extent m) (octets_of_record r))) (roomy-compacts l e)
+        ∙ ap (λ (i : ℕ). logging (Ok tt) (overwrite (compacted l) (record_size * i) (octets_of_record r))) extent-compacted
 
     pub length-appended : all_used (slots l) ≡ false → length (appending l r).log ≡ length l
     length-appended u =

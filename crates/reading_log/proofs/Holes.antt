@@ -26,7 +26,8 @@ inside l k good u = let h = used-inside l k u in omega arith
 -- ---- the next used record
 
 -- where it is
-next-from : (l : List ℕ) (m at : ℕ) → at + m < length l / record_size → Used l (at + m) → ((j : ℕ) → at ≤ j → j < at + m → Used l j → ⊥) → next_used l at ≡ at + m
+next-from : (l : List ℕ) (m at : ℕ) → at + m < length l / record_size → Used l (at + m) → ((j : ℕ) → at ≤ j → j < at + m → Used l j → ⊥)
+    → next_used l at ≡ at + m
 next-from l zero at h u none =
     let e : at + 0 ≡ at = omega arith in
     next_stop l at (omega arith) (ap (λ (k : ℕ). is_used (slot_at l k)) (sym e) ∙ u) ∙ sym e
@@ -107,7 +108,8 @@ first-behind l k whole h = (
 )
 
 -- the records up to the first unused one are those that remain
-front-cons : (n : ℕ) (l : List ℕ) → is_used (take record_size l) ≡ true → front (slots_in (suc n) l) ≡ take record_size l ∷ front (slots_in n (drop record_size l))
+front-cons : (n : ℕ) (l : List ℕ) → is_used (take record_size l) ≡ true
+    → front (slots_in (suc n) l) ≡ take record_size l ∷ front (slots_in n (drop record_size l))
 unfolding slots_in front
 front-cons n l h = rw (slots_in, front, h)
 

@@ -4,17 +4,16 @@ use native.Mathlib.Omega.{arith}
 use mathlib.Core.Path.{◌≡◌, refl, sym, ap, ap₂, ◌∙◌}
 use mathlib.Core.Bool.{true, false, not, ◌&&◌}
 use mathlib.Core.List.{List, [], ◌∷◌, ◌++◌, append_assoc, append-nil}
-use lib.ListN.{length, get_or, take, drop, set, replicate, length-replicate, drop_of_length-le}
+use lib.ListN.{length, get_or, take, drop, set, replicate, length-drop, drop_of_length-le}
 use lib.Seq.{take_all, take-add, take-set-le, take-set-lt, drop-set-lt, drop-set-add, length-take-le}
 use lib.Dec.{eqb, lit<}
 use borrow.Author.Tests.{eq-eqb, ne_eqb}
+use borrow.Rule.Slice.PartMut.{mid_of, put_mid}
+use Rattle.std.specs.Prelude.{Ok}
 use Rattle.line.specs.Limits.{record_size}
 use Rattle.line.specs.Line.{overwrite}
 use Rattle.line.proofs.Symbols.{by_test}
 use Rattle.line.proofs.Overwrite.{length-overwrite}
-use Rattle.splice.specs.Written.{Put}
-use Rattle.splice.proofs.Laws.{put-overwrite}
-use Rattle.reading_log.specs.declared.LogNumber.TheVariants.{Number}
 use Rattle.reading_log.specs.Log.{is_used, slot_at, slots_in, slots, used_ones, used_count, joined, at_front, compacted}
 use Rattle.reading_log.specs.Room.{has_outcome, deleted_all, count_of, numbered}
 use Rattle.reading_log.specs.Steps.{moved_log, moved_count}
@@ -92,29 +91,30 @@ module _ (l : List ℕ) (n k j : ℕ) (h : k < n) (g : j ≤ k) (i : record_size
       (λ u. let m = moved_used l k j u in rw (e ∙ m.0, f ∙ m.1) (turn_used u))
       (λ u. let m = moved_unused l k j u in rw (e ∙ m.0, f ∙ m.1) (turn_unused u))
 
--- the end: zero octets are written behind what is kept
-pub kept-end : (l₀ l l' : List ℕ) (n j r : ℕ) → IsMultiple l₀ → length l ≡ length l₀ → record_size * j ≤ length l
+-- the end: what stands behind what is kept becomes zero octets
+pub kept-end : (l₀ l z : List ℕ) (n j : ℕ) → IsMultiple l₀ → length l ≡ length l₀ → record_size * j ≤ length l
     → kept_from l n n j ≡ joined (used_ones (slots l₀))
-    → Put l (record_size * j) (replicate (length l - record_size * j) 0) r l'
-    → (l' ≡ compacted l₀) × (j ≡ used_count l₀)
-unfolding kept_from slots_in used_ones joined used_count compacted at_front overwrite
-kept-end l₀ l l' n j r good same room kept p =
+    → z ≡ replicate (length (mid_of (record_size * j) (length l - record_size * j) l)) 0
+    → (put_mid (record_size * j) (length l - record_size * j) l z ≡ compacted l₀) × (j ≡ used_count l₀)
+unfolding kept_from slots_in used_ones joined used_count compacted at_front
+kept-end l₀ l z n j good same room kept zeros =
     let us = used_ones (slots l₀) in
     let front : take (record_size * j) l ≡ joined us
     = sym (append-nil (take (record_size * j) l))
     ∙ ap (λ (m : ℕ). take (record_size * j) l ++ joined (used_ones (slots_in m (drop (record_size * n) l)))) (let e : 0 ≡ n - n = omega arith in e)
     ∙ kept in
     let many : length (joined us) ≡ record_size * j = ap length (sym front) ∙ length-take-le (record_size * j) l room in
-    let z = length-replicate {A = ℕ} (length l - record_size * j) 0 in
-    let all : drop (record_size * j + length (replicate {A = ℕ} (length l - record_size * j) 0)) l ≡ []
-    = drop_of_length-le l {i = record_size * j + length (replicate {A = ℕ} (length l - record_size * j) 0)} (omega arith) in
+    let d = length-drop (record_size * j) l in
+    let behind : length (mid_of (record_size * j) (length l - record_size * j) l) ≡ length l - record_size * j
+    = length-take-le (length l - record_size * j) (drop (record_size * j) l) (omega arith) in
+    let none : drop (length l - record_size * j) (drop (record_size * j) l) ≡ []
+    = drop_of_length-le (drop (record_size * j) l) {i = length l - record_size * j} (omega arith) in
     let w = length-joined us (whole_used (slots l₀) (whole_slots l₀ good)) in
     let m : j ≡ length us = omega arith in (
-      put-overwrite p (omega arith)
-          ∙ ap₂ (λ (x y : List ℕ). x ++ replicate (length l - record_size * j) 0 ++ y) front all
-          ∙ append-nil (joined us ++ replicate (length l - record_size * j) 0)
+      ap₂ (λ (x y : List ℕ). x ++ (z ++ y)) front none
+          ∙ ap (λ (x : List ℕ). joined us ++ x) (append-nil z ∙ zeros)
           ∙ ap (λ (i : ℕ). joined us ++ replicate i 0)
-          (let e : length l - record_size * j ≡ record_size * (length l₀ / record_size - length us) = omega arith in e),
+          (behind ∙ (let e : length l - record_size * j ≡ record_size * (length l₀ / record_size - length us) = omega arith in e)),
       m,
     )
 
@@ -179,7 +179,8 @@ module _ (o : ℕ) (l : List ℕ) where
     unfolding left_from count_from joined slot_at
     left_other d = (
       ap (λ (x : List ℕ). x ++ joined (deleted_all o behind))
-          (ap (λ (i : ℕ). take i l) (let e : record_size * (k + 1) ≡ record_size * k + record_size = omega arith in e) ∙ take-add (record_size * k) record_size l)
+          (ap (λ (i : ℕ). take i l) (let e : record_size * (k + 1) ≡ record_size * k + record_size = omega arith in e)
+          ∙ take-add (record_size * k) record_size l)
           ∙ append_assoc (take (record_size * k) l) here (joined (deleted_all o behind))
           ∙ ap (λ (x : List (List ℕ)). take (record_size * k) l ++ joined x) (sym (ap (deleted_all o) (slots_on n k l h) ∙ deleted_no o here behind d)),
       sym (ap (count_of o) (slots_on n k l h) ∙ count_no o here behind d),
@@ -223,7 +224,7 @@ zero-kept (s ∷ ss) =
     let h = zero-kept ss in
     (count_no 0 s ss (zero-other s) ∙ h.0, deleted_no 0 s ss (zero-other s) ∙ ap (λ (x : List (List ℕ)). s ∷ x) h.1)
 
-pub none-deleted : (l : List ℕ) → IsMultiple l → numbered (Number (count_of 0 (slots l))) (joined (deleted_all 0 (slots l))) ≡ numbered (Number 0) l
+pub none-deleted : (l : List ℕ) → IsMultiple l → numbered (Ok (count_of 0 (slots l))) (joined (deleted_all 0 (slots l))) ≡ numbered (Ok 0) l
 none-deleted l good =
     let h = zero-kept (slots l) in
-    ap₂ (λ (d : ℕ) (x : List ℕ). numbered (Number d) x) h.0 (ap joined h.1 ∙ joined-slots l good)
+    ap₂ (λ (d : ℕ) (x : List ℕ). numbered (Ok d) x) h.0 (ap joined h.1 ∙ joined-slots l good)

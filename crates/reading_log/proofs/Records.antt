@@ -1,7 +1,7 @@
 -- One record: numbers low octet first, written and read, and the octets of the five fields. Assumes nothing.
 use Prim.Native.Nat.{ℕ, zero, suc, ◌+◌, ◌-◌, ◌*◌, ◌/◌, ◌%◌, ◌^◌, ◌≤◌, ◌<◌}
 use native.Mathlib.Omega.{arith}
-use native.Mathlib.Nat.{pow-suc, pow-le-pow_right, div-lt_iff_lt-mul, div-add-mod', mod-eq_of_lt}
+use native.Mathlib.Nat.{pow-suc, div-lt_iff_lt-mul, div-add-mod', mod-eq_of_lt}
 use mathlib.Core.Path.{◌≡◌, refl, sym, ap, ap₂, ◌∙◌}
 use mathlib.Core.Bool.{true, false, not}
 use mathlib.Core.List.{List, [], ◌∷◌, ◌++◌, append_assoc, append-nil}
@@ -31,19 +31,6 @@ low_turn d at j n y h =
     let e : n - j ≡ suc (n - (j + 1)) = omega arith in
     let g : at + (j + 1) ≡ suc (at + j) = omega arith in
     rw (e, g)
-
--- one octet more is read, below those read: the turn of a loop that reads
-pub low_first_turn : (s : List ℕ) (at k n : ℕ) → 0 < k → k ≤ n
-    → low_first s (at + (k - 1)) (n - (k - 1)) ≡ low_first s (at + k) (n - k) * 256 + get_or s (at + (k - 1)) 0
-unfolding low_first
-low_first_turn s at k n h g =
-    let e : n - (k - 1) ≡ suc (n - k) = omega arith in
-    let i : at + (k - 1) + 1 ≡ at + k = omega arith in
-    rw (e, low_first, i)
-
--- seven octets leave room for one more
-pub small-pow : (m : ℕ) → m ≤ 7 → 256 ^ m ≤ 72057594037927936
-small-pow m h = pow-le-pow_right {n = 256} (lit< tt) {i = m} {j = 7} h
 
 -- a number is read where it was written, between any octets
 low_back : (h : List ℕ) (n x : ℕ) (t : List ℕ) (at : ℕ) → length h ≡ at → x < 256 ^ n → low_first (h ++ (low_octets n x ++ t)) at n ≡ x

@@ -95,7 +95,8 @@ slots_more (suc n) l =
     ap (λ (x : List (List ℕ)). take record_size l ∷ x) (slots_more n (drop record_size l))
     ∙ ap (λ (s : List ℕ). take record_size l ∷ (slots_in n (drop record_size l) ++ (s ∷ []))) (slot_next l n)
 
-pub slots_on : (n k : ℕ) (l : List ℕ) → k < n → slots_in (n - k) (drop (record_size * k) l) ≡ slot_at l k ∷ slots_in (n - (k + 1)) (drop (record_size * (k + 1)) l)
+pub slots_on : (n k : ℕ) (l : List ℕ) → k < n
+    → slots_in (n - k) (drop (record_size * k) l) ≡ slot_at l k ∷ slots_in (n - (k + 1)) (drop (record_size * (k + 1)) l)
 unfolding slots_in slot_at
 slots_on n k l h =
     let e : n - k ≡ suc (n - (k + 1)) = omega arith in
@@ -204,7 +205,8 @@ in_every : (n : ℕ) (l : List ℕ) → ((k : ℕ) → k < n → Used l k) → a
 unfolding slots_in all_used
 in_every zero l h = refl
 in_every (suc n) l h =
-    ap₂ ◌&&◌ (ap is_used (sym (slot_first l)) ∙ h 0 (omega arith)) (in_every n (drop record_size l) (λ k lt. ap is_used (slot_next l k) ∙ h (suc k) (omega arith)))
+    ap₂ ◌&&◌ (ap is_used (sym (slot_first l)) ∙ h 0 (omega arith))
+    (in_every n (drop record_size l) (λ k lt. ap is_used (slot_next l k) ∙ h (suc k) (omega arith)))
 
 pub every_used : (l : List ℕ) → all_used (slots l) ≡ true → EveryUsed l
 unfolding slots

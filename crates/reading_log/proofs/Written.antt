@@ -73,7 +73,8 @@ slots-over (suc n) (suc k) l s h i e =
     = ap (λ (j : ℕ). drop record_size (overwrite l j s)) (let g : record_size * suc k ≡ record_size + record_size * k = omega arith in g)
     ∙ drop-before l record_size (record_size * k) s (omega arith) in
     ap₂ (λ (x y : List ℕ). x ∷ slots_in n y) t d
-    ∙ ap (λ (x : List (List ℕ)). take record_size l ∷ x) (slots-over n k (drop record_size l) s (omega arith) (let m = length-drop record_size l in omega arith) e)
+    ∙ ap (λ (x : List (List ℕ)). take record_size l ∷ x)
+    (slots-over n k (drop record_size l) s (omega arith) (let m = length-drop record_size l in omega arith) e)
 
 module _ (l : List ℕ) (k : ℕ) (s : List ℕ) (n : length s ≡ record_size) (inside : record_size * k + record_size ≤ length l) where
   abbrev after : List ℕ

@@ -83,7 +83,7 @@ case_length_broken = refl
 case_not_for_us : explained (settings Off) 0 (entries_of nobody)
     ((251 ∷ []) ++ replicate 6 85 ++ (213 ∷ 2 ∷ 0 ∷ 0 ∷ 0 ∷ 0 ∷ 153 ∷ 2 ∷ 0 ∷ 0 ∷ 0 ∷ 0 ∷ 7 ∷ 8 ∷ []) ++ replicate 47 0 ++ (168 ∷ 162 ∷ 14 ∷ 193 ∷ 253 ∷ []))
     ((1 ∷ []) ++ replicate 71 0 ++ (1 ∷ [])) 0
-    ≡ record { answer = Because (NotForUs (record { 0 = 2; 1 = 0; 2 = 0; 3 = 0; 4 = 0; 5 = 153 })); start = 0; next = 72 }
+    ≡ record { answer = Because (NotForUs (record { 0 = 2 ∷ 0 ∷ 0 ∷ 0 ∷ 0 ∷ 153 ∷ [] })); start = 0; next = 72 }
 unfolding computed
 case_not_for_us = refl
 

@@ -1,16 +1,15 @@
 -- The claims of document 02, item 8, as theorems: `reason_true`, `explain_reads`, `explain_true`, `reason_for_each`. Assumes nothing.
+use Rattle.std.specs.Prelude.{Err, None, Ok, Option, Some}
+use Rattle.station.specs.Numbers.{Checked}
 use Prim.Native.Nat.{ℕ, zero, suc, ◌+◌, ◌-◌, ◌*◌, ◌≤◌, ◌<◌}
 use native.Mathlib.Omega.{arith}
 use mathlib.Core.Path.{◌≡◌, refl, sym, ap, ◌∙◌, subst}
 use mathlib.Core.Bool.{Bool, true, false, not, false≢true, true≢false}
 use mathlib.Core.List.{List, [], ◌∷◌, ◌++◌}
-use mathlib.Core.Option.{Option, none, some}
 use lib.ListN.{length, get_or, take, drop, replicate}
 use lib.Seq.{take-suc, get_or-drop}
 use lib.Dec.{eqb, ltb}
 use borrow.Author.Tests.{eqb-true, eqb-false, eq-eqb, ltb-true, ltb-false, not-true}
-use Rattle.line.specs.declared.Found.{Found}
-use Rattle.line.specs.declared.Found.TheVariants.{At}
 use Rattle.line.specs.Limits.{preamble_size, lead_size, least_frame, tag_size, fcs_size}
 use Rattle.line.specs.Line.{Symbol, capture, find_start, preamble, is_data, run, ending, AfterStart, unended, ended, ended_by, after_start}
 use Rattle.line.specs.Octets.{same_octets}
@@ -24,8 +23,6 @@ use Rattle.station.specs.declared.Settings.{Settings}
 use Rattle.station.specs.declared.State.{State}
 use Rattle.station.specs.declared.Outcome.{Outcome}
 use Rattle.station.specs.declared.Outcome.TheVariants.{Cut, BadPreamble, Undersized, Oversized, WrongFcs, WrongLength, Filtered, PauseTaken, PfcTaken, ControlDropped, HandedOut}
-use Rattle.station.specs.declared.Checked.{Checked}
-use Rattle.station.specs.declared.Checked.TheVariants.{Fine, Refused}
 use Rattle.station.specs.Numbers.{outcome_number}
 use Rattle.fields.specs.Tags.{tag_count}
 use Rattle.fields.specs.Fields.{destination}
@@ -34,7 +31,7 @@ use Rattle.frame.specs.Frame.{undersized, over_limit, oversized, wrong_fcs, cove
 use Rattle.frame.specs.Length.{breaks_length, wrong_length}
 use Rattle.frame.proofs.Fcs.{last-number, wrong-by}
 use Rattle.table.specs.declared.Entry.{Entry}
-use Rattle.table.specs.Entries.{mine}
+use Rattle.table.specs.Entries.{mine, address_at}
 use Rattle.control.specs.Control.{filtered, takes_pause, takes_pfc, drops_control}
 use Rattle.outcome.proofs.Rules.{not-cut}
 use Rattle.outcome.specs.Outcomes.{cut, bad_preamble, frame_of, outcomes, outcome}
@@ -42,9 +39,9 @@ use Rattle.receive.specs.Reading.{empty_part, handed_part, read_run, read_start,
 use Rattle.reason.specs.declared.Reason.{Reason}
 use Rattle.reason.specs.declared.Reason.TheVariants.{ShortRun, WrongOctet}
 use Rattle.reason.specs.declared.Why.TheVariants.{Because}
-use Rattle.reason.specs.Reasons.{right_ones, preamble_reason, received, six_of, long_reason, fcs_reason, length_reason, handed_reason, reason_for, reason_of, explain_start, explain_found, explain_checked, explained}
+use Rattle.reason.specs.Reasons.{right_ones, preamble_reason, received, long_reason, fcs_reason, length_reason, handed_reason, reason_for, reason_of, explain_start, explain_found, explain_checked, explained}
 use Rattle.reason.specs.Values.{reason_number, part_in}
-use Rattle.reason.specs.Claims.{AllOctets, octets_in, Fact, tests, IsTrue, Shown, SameAs}
+use Rattle.reason.specs.Claims.{AllOctets, Fact, tests, IsTrue, Shown, SameAs}
 use Rattle.reason.proofs.Laws.{preamble-short, preamble-long}
 
 -- ---- the number of a reason is that of its outcome: a reason "must be given for each outcome"
@@ -207,8 +204,8 @@ module _ (s : Settings) (own : List (Option Address)) (i : ℕ) (run : List ℕ)
   unfolding Fact reason_for length_reason wrong_length breaks_length layout_of frame_data
   length-fact h = by_test s.checking (λ t. (refl, refl, t, not-true _ (rw t at h))) (λ t. absurd (false≢true (rw t at h)))
 
-  six-fact : 6 ≤ length f → octets_in (six_of f) ≡ destination f
-  unfolding six_of destination
+  six-fact : 6 ≤ length f → (address_at f 0).0 ≡ destination f
+  unfolding address_at destination
   six-fact h =
       sym (take-suc f 5 0 (omega arith)
       ∙ ap (λ (l : List ℕ). l ++ (get_or f 5 0 ∷ []))
@@ -316,16 +313,16 @@ same_start s own st i (ended run by) =
       part = unfold reason_of in part_for_each s i run by (outcome s own run by);
     }
 
-same_found : (s : Settings) (own : List (Option Address)) (st : State) (c : List Symbol) (x : Found) → SameAs (explain_found s own c x) (read_found s own st c x)
+same_found : (s : Settings) (own : List (Option Address)) (st : State) (c : List Symbol) (x : Option ℕ) → SameAs (explain_found s own c x) (read_found s own st c x)
 unfolding explain_found read_found
-same_found s own st c Found.Nothing = record { start = refl; next = refl; given = refl; outcome = refl; refusal = refl; part = refl }
-same_found s own st c (At i) = same_start s own st i (after_start (drop (i + 1) c))
+same_found s own st c None = record { start = refl; next = refl; given = refl; outcome = refl; refusal = refl; part = refl }
+same_found s own st c (Some i) = same_start s own st i (after_start (drop (i + 1) c))
 
 same_checked : (k : Checked) (s : Settings) (own : List (Option Address)) (st : State) (os ms : List ℕ) (p : ℕ)
     → SameAs (explain_checked k s own os ms p) (read_checked k s own st os ms p)
 unfolding explain_checked read_checked read_at
-same_checked Fine s own st os ms p = same_found s own st (capture os ms) (find_start (capture os ms) p)
-same_checked (Refused x) s own st os ms p = record { start = refl; next = refl; given = refl; outcome = refl; refusal = refl; part = refl }
+same_checked (Ok _) s own st os ms p = same_found s own st (capture os ms) (find_start (capture os ms) p)
+same_checked (Err x) s own st os ms p = record { start = refl; next = refl; given = refl; outcome = refl; refusal = refl; part = refl }
 
 pub explain_reads : (s : Settings) (job : ℕ) (es : List Entry) (st : State) (os ms : List ℕ) (p : ℕ)
     → SameAs (explained s job es os ms p) (reading s job es st os ms p)
@@ -374,8 +371,8 @@ unfolding after_start
 ended-run l r by h = go (ending l) h
   where
     go : (e : Option Symbol) → ended_by (run l) e ≡ ended r by → run l ≡ r
-    go none q = unfold ended_by in (let z : ◌≡◌ {A = ℕ} 0 1 = cc in absurd (let x : ⊥ = omega arith in x))
-    go (some y) q = unfold ended_by in cc
+    go None q = unfold ended_by in (let z : ◌≡◌ {A = ℕ} 0 1 = cc in absurd (let x : ⊥ = omega arith in x))
+    go (Some y) q = unfold ended_by in cc
 
 module _ (s : Settings) (own : List (Option Address)) (os ms : List ℕ) (o : AllOctets os) where
   shown-start : (i : ℕ) (a : AfterStart) (r : Reason) → after_start (drop (i + 1) (capture os ms)) ≡ a → (explain_start s own i a).answer ≡ Because r
@@ -388,17 +385,17 @@ module _ (s : Settings) (own : List (Option Address)) (os ms : List ℕ) (o : Al
       let small : Octets run = subst Octets (ended-run rest run by f) (run-octets rest (drop-small (i + 1) (capture os ms) (capture-small os ms o))) in
       record { run = run; by = by; follows = f; is_true = subst (IsTrue s own i run by) e (reason_true s own i run by small) }
 
-  shown_found : (x : Found) (r : Reason) → (explain_found s own (capture os ms) x).answer ≡ Because r
+  shown_found : (x : Option ℕ) (r : Reason) → (explain_found s own (capture os ms) x).answer ≡ Because r
       → Shown s own os ms (explain_found s own (capture os ms) x).start r
   unfolding explain_found
-  shown_found Found.Nothing r h = let z : ◌≡◌ {A = ℕ} 0 1 = cc in absurd (let x : ⊥ = omega arith in x)
-  shown_found (At i) r h = shown-start i (after_start (drop (i + 1) (capture os ms))) r refl h
+  shown_found None r h = let z : ◌≡◌ {A = ℕ} 0 1 = cc in absurd (let x : ⊥ = omega arith in x)
+  shown_found (Some i) r h = shown-start i (after_start (drop (i + 1) (capture os ms))) r refl h
 
   shown_checked : (k : Checked) (p : ℕ) (r : Reason) → (explain_checked k s own os ms p).answer ≡ Because r
       → Shown s own os ms (explain_checked k s own os ms p).start r
   unfolding explain_checked
-  shown_checked Fine p r h = shown_found (find_start (capture os ms) p) r h
-  shown_checked (Refused x) p r h = let z : ◌≡◌ {A = ℕ} 0 1 = cc in absurd (let y : ⊥ = omega arith in y)
+  shown_checked (Ok _) p r h = shown_found (find_start (capture os ms) p) r h
+  shown_checked (Err x) p r h = let z : ◌≡◌ {A = ℕ} 0 1 = cc in absurd (let y : ⊥ = omega arith in y)
 
 pub explain_true : (s : Settings) (job : ℕ) (es : List Entry) (os ms : List ℕ) → AllOctets os → (p : ℕ) (r : Reason)
     → (explained s job es os ms p).answer ≡ Because r → Shown s (mine job es) os ms (explained s job es os ms p).start r

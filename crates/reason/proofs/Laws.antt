@@ -1,15 +1,14 @@
 -- Laws of specs/Reasons.antt that the functions' proofs cite. Assumes nothing.
+use Rattle.std.specs.Prelude.{Err, None, Ok, Option, Some}
+use Rattle.station.specs.Numbers.{Checked}
 use Prim.Native.Nat.{ℕ, suc, ◌+◌, ◌*◌, ◌≤◌, ◌<◌}
 use native.Mathlib.Omega.{arith}
 use native.Mathlib.Numerals.{add-one}
 use mathlib.Core.Path.{◌≡◌, refl, ap, ◌∙◌}
 use mathlib.Core.List.{List, [], ◌∷◌}
-use mathlib.Core.Option.{Option}
 use lib.ListN.{length, get_or, drop, drop_of_length-le}
 use lib.Seq.{drop-cons}
 use borrow.Author.Tests.{eq-eqb, ne_eqb, lt-ltb, le-ltb}
-use Rattle.line.specs.declared.Found.{Found}
-use Rattle.line.specs.declared.Found.TheVariants.{At}
 use Rattle.line.specs.Limits.{preamble_size}
 use Rattle.line.specs.Line.{capture, find_start, find_control, preamble}
 use Rattle.line.specs.Octets.{between}
@@ -20,8 +19,6 @@ use Rattle.line.proofs.Places.{after_found, after_nothing}
 use Rattle.station.specs.declared.Address.{Address}
 use Rattle.station.specs.declared.Settings.{Settings}
 use Rattle.station.specs.declared.Refusal.{Refusal}
-use Rattle.station.specs.declared.Checked.{Checked}
-use Rattle.station.specs.declared.Checked.TheVariants.{Fine, Refused}
 use Rattle.table.specs.declared.Entry.{Entry}
 use Rattle.table.specs.Entries.{mine}
 use Rattle.receive.specs.Reading.{read_refusals}
@@ -72,7 +69,8 @@ preamble-long at run h = rw (le-ltb (length run) preamble_size h, preamble_reaso
 
 -- ---- four octets, low octet first
 
-pub low_four : (l : List ℕ) (e : ℕ) → low_first l e 4 ≡ get_or l e 0 + get_or l (e + 1) 0 * 0x100 + get_or l (e + 2) 0 * 0x1_0000 + get_or l (e + 3) 0 * 0x100_0000
+pub low_four : (l : List ℕ) (e : ℕ)
+    → low_first l e 4 ≡ get_or l e 0 + get_or l (e + 1) 0 * 0x100 + get_or l (e + 2) 0 * 0x1_0000 + get_or l (e + 3) 0 * 0x100_0000
 unfolding low_first
 low_four l e =
     let b : e + 1 + 1 ≡ e + 2 = omega arith in
@@ -87,30 +85,30 @@ module _ (s : Settings) (job : ℕ) (es : List Entry) (os ms : List ℕ) (p : �
   abbrev own : List (Option Address)
   own = mine job es
 
-  pub explain_refused : (x : Refusal) → first (read_refusals s job es os ms p) ≡ Refused x
+  pub explain_refused : (x : Refusal) → first (read_refusals s job es os ms p) ≡ Err x
       → explained s job es os ms p ≡ record { answer = Why.Refused x; start = p; next = p }
   unfolding explained explain_checked
   explain_refused x h = ap (λ (k : Checked). explain_checked k s own os ms p) h
 
-  module _ (fine : first (read_refusals s job es os ms p) ≡ Fine) where
-    goes_on : (f : Found) → find_start (capture os ms) p ≡ f → explained s job es os ms p ≡ explain_found s own (capture os ms) f
+  module _ (fine : first (read_refusals s job es os ms p) ≡ Ok tt) where
+    goes_on : (f : Option ℕ) → find_start (capture os ms) p ≡ f → explained s job es os ms p ≡ explain_found s own (capture os ms) f
     unfolding explained explain_checked
     goes_on f h = ap (λ (k : Checked). explain_checked k s own os ms p) fine ∙ ap (explain_found s own (capture os ms)) h
 
-    pub explain_none : find_start (capture os ms) p ≡ Found.Nothing
+    pub explain_none : find_start (capture os ms) p ≡ None
         → explained s job es os ms p ≡ record { answer = Why.Nothing; start = length os; next = length os }
     unfolding explain_found
     explain_none h =
-        goes_on Found.Nothing h
+        goes_on None h
         ∙ ap (λ (n : ℕ). record { answer = Why.Nothing; start = n; next = n }) (length-capture os ms (passed s job es os ms p fine).even)
 
-    module _ (i : ℕ) (found : find_start (capture os ms) p ≡ At i) where
-      pub explain_open : find_control (capture os ms) (i + 1) ≡ Found.Nothing → explained s job es os ms p ≡ record { answer = Open; start = i; next = i }
+    module _ (i : ℕ) (found : find_start (capture os ms) p ≡ Some i) where
+      pub explain_open : find_control (capture os ms) (i + 1) ≡ None → explained s job es os ms p ≡ record { answer = Open; start = i; next = i }
       unfolding explain_found explain_start
-      explain_open h = goes_on (At i) found ∙ ap (explain_start s own i) (after_nothing os ms (i + 1) h)
+      explain_open h = goes_on (Some i) found ∙ ap (explain_start s own i) (after_nothing os ms (i + 1) h)
 
-      pub explain_ended : (e : ℕ) → find_control (capture os ms) (i + 1) ≡ At e
+      pub explain_ended : (e : ℕ) → find_control (capture os ms) (i + 1) ≡ Some e
           → let r = between os (i + 1) e in
           explained s job es os ms p ≡ record { answer = Because (reason_of s own i r (get_or os e 0)); start = i; next = i + 1 + length r }
       unfolding explain_found explain_start
-      explain_ended e h = goes_on (At i) found ∙ ap (explain_start s own i) (after_found os ms (passed s job es os ms p fine).even (i + 1) e h)
+      explain_ended e h = goes_on (Some i) found ∙ ap (explain_start s own i) (after_found os ms (passed s job es os ms p fine).even (i + 1) e h)

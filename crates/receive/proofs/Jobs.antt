@@ -1,9 +1,8 @@
 -- Document 02, item 10: "a job's readings depend on its capture, settings, state and own entries, and on entry numbers in item 7's answer only through where
 -- the table put them": `own-reads`, `own-walks`, `placed-reads`. Assumes nothing.
+use Rattle.std.specs.Prelude.{Err, None, Ok, Option, Some}
+use Rattle.station.specs.Numbers.{Checked}
 use Rattle.std.proofs.Common.{◌≡◌, ℕ, zero, suc, ◌+◌, Bool, true, false, List, [], ◌∷◌, length, drop, refl, ap, ◌∙◌, ap₂}
-use mathlib.Core.Option.{Option}
-use Rattle.line.specs.declared.Found.{Found}
-use Rattle.line.specs.declared.Found.TheVariants.{At}
 use Rattle.line.specs.Line.{Symbol, capture, find_start, AfterStart, unended, ended, after_start}
 use Rattle.line.specs.Table.{◌⇒◌, ◌∣◌, otherwise, first}
 use Rattle.station.specs.declared.Address.{Address}
@@ -11,8 +10,6 @@ use Rattle.station.specs.declared.Settings.{Settings}
 use Rattle.station.specs.declared.State.{State}
 use Rattle.station.specs.declared.Outcome.{Outcome}
 use Rattle.station.specs.declared.Refusal.TheVariants.{BadSettings, BadBuffers, BadPlace, BadJob, BadTable}
-use Rattle.station.specs.declared.Checked.{Checked}
-use Rattle.station.specs.declared.Checked.TheVariants.{Fine, Refused}
 use Rattle.station.specs.Station.{bad_settings, bad_buffers, bad_place}
 use Rattle.table.specs.declared.Entry.{Entry}
 use Rattle.table.specs.Entries.{mine}
@@ -34,12 +31,12 @@ unfolding read_refusals
 refused_alike s job es es' os ms p same =
     ap (λ (b : Bool).
     first (
-    bad_settings s ⇒ Refused BadSettings
-    ∣ bad_job job ⇒ Refused BadJob
-    ∣ bad_buffers os ms ⇒ Refused BadBuffers
-    ∣ bad_place os p ⇒ Refused BadPlace
-    ∣ b ⇒ Refused BadTable
-    ∣ otherwise Fine
+    bad_settings s ⇒ Err BadSettings
+    ∣ bad_job job ⇒ Err BadJob
+    ∣ bad_buffers os ms ⇒ Err BadBuffers
+    ∣ bad_place os p ⇒ Err BadPlace
+    ∣ b ⇒ Err BadTable
+    ∣ otherwise (Ok tt)
     ))
     same
 
@@ -89,15 +86,15 @@ module _ (s : Settings) (own own' : List (Option Address)) (same : (d : List ℕ
       run_alike st i run (outcome s own run by)
       ∙ ap (λ (o : Outcome). unnumbered (read_run s own' st i run o)) (outcome_alike s own own' (filtered_alike s own own' same) run by)
 
-  found_alike : (st : State) (c : List Symbol) (f : Found) → unnumbered (read_found s own st c f) ≡ unnumbered (read_found s own' st c f)
+  found_alike : (st : State) (c : List Symbol) (f : Option ℕ) → unnumbered (read_found s own st c f) ≡ unnumbered (read_found s own' st c f)
   unfolding read_found
-  found_alike st c Found.Nothing = refl
-  found_alike st c (At i) = start_alike st i (after_start (drop (i + 1) c))
+  found_alike st c None = refl
+  found_alike st c (Some i) = start_alike st i (after_start (drop (i + 1) c))
 
   checked_alike : (k : Checked) (st : State) (os ms : List ℕ) (p : ℕ) → unnumbered (read_checked k s own st os ms p) ≡ unnumbered (read_checked k s own' st os ms p)
   unfolding read_checked read_at
-  checked_alike (Refused x) st os ms p = refl
-  checked_alike Fine st os ms p = found_alike st (capture os ms) (find_start (capture os ms) p)
+  checked_alike (Err x) st os ms p = refl
+  checked_alike (Ok _) st os ms p = found_alike st (capture os ms) (find_start (capture os ms) p)
 
 pub placed-reads : (s : Settings) (job : ℕ) (es es' : List Entry) → bad_table es ≡ bad_table es' → ((d : List ℕ) → accepts s (mine job es) d ≡ accepts s (mine job es') d)
     → (st : State) (os ms : List ℕ) (p : ℕ) → unnumbered (reading s job es st os ms p) ≡ unnumbered (reading s job es' st os ms p)

@@ -1,4 +1,5 @@
 -- What a reading that is not refused knows of its settings, job, buffers, place and table. Assumes nothing.
+use Rattle.std.specs.Prelude.{Err, Ok}
 use Rattle.std.proofs.Common.{◌≡◌, ℕ, ◌≤◌, false, not, ◌||◌, eqb, ltb, List, length, ◌∙◌, ltb-false, le-ltb, eq-eqb, eqb-true}
 use Rattle.line.specs.Limits.{most_symbols, least_limit, most_limit}
 use Rattle.line.specs.Table.{first}
@@ -6,7 +7,6 @@ use Rattle.line.proofs.Tables.{first_next, first-other}
 use Rattle.station.proofs.Refusals.{fine_row, or-false, not-false}
 use Rattle.station.specs.declared.Settings.{Settings}
 use Rattle.station.specs.declared.Refusal.TheVariants.{BadSettings, BadBuffers, BadPlace, BadJob, BadTable}
-use Rattle.station.specs.declared.Checked.TheVariants.{Fine, Refused}
 use Rattle.station.specs.Station.{is_group, bad_settings, bad_buffers, bad_place}
 use Rattle.table.specs.declared.Entry.{Entry}
 use Rattle.table.specs.Tests.{bad_job, bad_table}
@@ -28,7 +28,7 @@ pub record Passed (s : Settings) (job : ℕ) (es : List Entry) (os ms : List ℕ
   pub sound : bad_table es ≡ false
 
 module _ (s : Settings) (job : ℕ) (es : List Entry) (os ms : List ℕ) where
-  pub passed : (p : ℕ) → first (read_refusals s job es os ms p) ≡ Fine → Passed s job es os ms p
+  pub passed : (p : ℕ) → first (read_refusals s job es os ms p) ≡ Ok tt → Passed s job es os ms p
   unfolding read_refusals bad_buffers bad_place
   passed p h =
       let a = fine_row BadSettings _ h in
@@ -48,16 +48,16 @@ module _ (s : Settings) (job : ℕ) (es : List Entry) (os ms : List ℕ) where
 
   -- what it takes not to be refused
   pub fine : (p : ℕ) → bad_settings s ≡ false → bad_job job ≡ false → length os ≡ length ms → length os ≤ most_symbols → p ≤ length os → bad_table es ≡ false
-      → first (read_refusals s job es os ms p) ≡ Fine
+      → first (read_refusals s job es os ms p) ≡ Ok tt
   unfolding read_refusals bad_buffers bad_place
   fine p valid known even small inside sound =
-      first_next (Refused BadSettings) _ valid
-      ∙ first_next (Refused BadJob) _ known
-      ∙ first_next (Refused BadBuffers) _ (simp (eq-eqb (length os) (length ms) even, le-ltb most_symbols (length os) small))
-      ∙ first_next (Refused BadPlace) _ (le-ltb (length os) p inside)
-      ∙ first_next (Refused BadTable) _ sound
-      ∙ first-other Fine
+      first_next (Err BadSettings) _ valid
+      ∙ first_next (Err BadJob) _ known
+      ∙ first_next (Err BadBuffers) _ (simp (eq-eqb (length os) (length ms) even, le-ltb most_symbols (length os) small))
+      ∙ first_next (Err BadPlace) _ (le-ltb (length os) p inside)
+      ∙ first_next (Err BadTable) _ sound
+      ∙ first-other (Ok tt)
 
   -- the same at any place inside the buffers
-  pub still_fine : (p q : ℕ) → first (read_refusals s job es os ms p) ≡ Fine → q ≤ length os → first (read_refusals s job es os ms q) ≡ Fine
+  pub still_fine : (p q : ℕ) → first (read_refusals s job es os ms p) ≡ Ok tt → q ≤ length os → first (read_refusals s job es os ms q) ≡ Ok tt
   still_fine p q h g = let k = passed p h in fine q k.valid k.known k.even k.small g k.sound

@@ -1,6 +1,6 @@
 -- A reading in two steps: what is seen of a run is its reading (`sight_read`), and only a Start that is counted changes the state. Assumes nothing.
+use Rattle.std.specs.Prelude.{Option}
 use Rattle.std.proofs.Common.{◌≡◌, ℕ, ◌+◌, List, [], ◌∷◌, length, refl, ap₂}
-use mathlib.Core.Option.{Option}
 use denote.Enum.Declared.{tag_of}
 use types.Run.{OneOf, miss}
 use Rattle.line.specs.Limits.{lead_size}

@@ -1,8 +1,8 @@
 -- The walk over a capture is the reading of each of its Starts in turn: `walk_through`; and what one turn of the code's loop uses. Assumes nothing.
+use Rattle.std.specs.Prelude.{Err, None, Ok, Option, Some}
+use Rattle.station.specs.Numbers.{Checked}
+use Rattle.receive.specs.Values.{walk_ended}
 use Rattle.std.proofs.Common.{◌≡◌, ℕ, zero, suc, ◌+◌, ◌-◌, ◌<◌, ◌≤◌, Bool, true, false, cond, List, [], ◌∷◌, length, get_or, drop, sym, refl, ap, ◌∙◌, ap₂, add-one, arith, length-drop, length-take, drop-drop}
-use mathlib.Core.Option.{Option, none, some}
-use Rattle.line.specs.declared.Found.{Found}
-use Rattle.line.specs.declared.Found.TheVariants.{At}
 use Rattle.line.specs.Line.{Symbol, capture, find_start, find_control, run, ending, AfterStart, unended, ended, ended_by, after_start, is_start, MetStart, met_starts}
 use Rattle.line.specs.Octets.{between}
 use Rattle.line.specs.Table.{first}
@@ -14,13 +14,9 @@ use Rattle.station.specs.declared.Settings.{Settings}
 use Rattle.station.specs.declared.State.{State}
 use Rattle.station.specs.declared.Slots.{Slots}
 use Rattle.station.specs.declared.Outcome.TheVariants.{WrongFcs, HandedOut}
-use Rattle.station.specs.declared.Checked.{Checked}
 use Rattle.station.specs.declared.Refusal.{Refusal}
-use Rattle.station.specs.declared.Checked.TheVariants.{Fine, Refused}
 use Rattle.receive.specs.declared.Answer.TheVariants.{Nothing, Open}
 use Rattle.receive.specs.declared.Reading.{Reading}
-use Rattle.receive.specs.declared.WalkAnswer.{WalkAnswer}
-use Rattle.receive.specs.declared.WalkAnswer.TheVariants.{Ended}
 use Rattle.receive.specs.declared.Walking.{Walking}
 use Rattle.table.specs.declared.Entry.{Entry}
 use Rattle.table.specs.Entries.{mine}
@@ -57,7 +53,7 @@ module _ (s : Settings) (own : List (Option Address)) (st : State) (n : ℕ) whe
   unfolding through read_start
   through-unended i ms = refl
 
-module _ (s : Settings) (job : ℕ) (es : List Entry) (os ms : List ℕ) (fine : first (read_refusals s job es os ms 0) ≡ Fine) where
+module _ (s : Settings) (job : ℕ) (es : List Entry) (os ms : List ℕ) (fine : first (read_refusals s job es os ms 0) ≡ Ok tt) where
   abbrev own : List (Option Address)
   own = mine job es
 
@@ -85,8 +81,8 @@ module _ (s : Settings) (job : ℕ) (es : List Entry) (os ms : List ℕ) (fine :
       → then most (read_start s own st i (ended_by (run (drop (i + 1) c)) e))
       ≡ through s own st (length c) (record { place = i; follows = ended_by (run (drop (i + 1) c)) e } ∷ met_starts (i + 1) (drop (i + 1) c))
   unfolding ended_by through read_start read_run
-  at-start most ih st i enough none h = refl
-  at-start most ih st i enough (some y) h =
+  at-start most ih st i enough None h = refl
+  at-start most ih st i enough (Some y) h =
       let t : List Symbol = drop (i + 1) c in
       let r : Reading = read_start s own st i (ended (run t) y.octet) in
       let inside = ending-inside t y h in
@@ -96,11 +92,11 @@ module _ (s : Settings) (job : ℕ) (es : List Entry) (os ms : List ℕ) (fine :
       ap (λ (l : List Reading). r ∷ l)
       (ih r.state (i + 1 + length (run t)) (omega arith) (omega arith) ∙ ap (through s own r.state (length c)) (sym skipped))
 
-  found : (most : ℕ) → Rest most → (st : State) (p : ℕ) → length c < p + suc most → (f : Found) → find_start c p ≡ f
+  found : (most : ℕ) → Rest most → (st : State) (p : ℕ) → length c < p + suc most → (f : Option ℕ) → find_start c p ≡ f
       → then most (read_found s own st c f) ≡ through s own st (length c) (met_starts p (drop p c))
   unfolding read_found find_start after_start through
-  found most ih st p enough Found.Nothing e = sym (ap (through s own st (length c)) (met-nothing p (drop p c) e))
-  found most ih st p enough (At i) e =
+  found most ih st p enough None e = sym (ap (through s own st (length c)) (met-nothing p (drop p c) e))
+  found most ih st p enough (Some i) e =
       let k = where_range is_start p (drop p c) i e in
       at-start most ih st i (omega arith) (ending (drop (i + 1) c)) refl ∙ sym (ap (through s own st (length c)) (met_found c p (drop p c) i refl e))
 
@@ -122,7 +118,7 @@ abbrev pub met_from : List ℕ → List ℕ → ℕ → List MetStart
 met_from os ms p = met_starts p (drop p (capture os ms))
 
 -- no Start stands between a Start and the end of its run
-to_the_end : (os ms : List ℕ) → length os ≡ length ms → (i e : ℕ) → find_control (capture os ms) (i + 1) ≡ At e → i + 1 ≤ e → e < length os
+to_the_end : (os ms : List ℕ) → length os ≡ length ms → (i e : ℕ) → find_control (capture os ms) (i + 1) ≡ Some e → i + 1 ≤ e → e < length os
     → met_from os ms (i + 1) ≡ met_from os ms e
 to_the_end os ms same i e h low high =
     let t : List Symbol = drop (i + 1) (capture os ms) in
@@ -136,21 +132,21 @@ to_the_end os ms same i e h low high =
 
 -- what the two searches of a turn say of them: none; one whose run is open; one whose run is ended, and those from its end on
 module _ (os ms : List ℕ) (p : ℕ) where
-  pub met-none : find_start (capture os ms) p ≡ Found.Nothing → met_from os ms p ≡ []
+  pub met-none : find_start (capture os ms) p ≡ None → met_from os ms p ≡ []
   unfolding find_start
   met-none h = met-nothing p (drop p (capture os ms)) h
 
-  module _ (i : ℕ) (found : find_start (capture os ms) p ≡ At i) where
+  module _ (i : ℕ) (found : find_start (capture os ms) p ≡ Some i) where
     met_by : (f : AfterStart) → after_start (drop (i + 1) (capture os ms)) ≡ f → met_from os ms p ≡ record { place = i; follows = f } ∷ met_from os ms (i + 1)
     unfolding find_start
     met_by f e =
         met_found (capture os ms) p (drop p (capture os ms)) i refl found
         ∙ ap (λ (x : AfterStart). record { place = i; follows = x } ∷ met_from os ms (i + 1)) e
 
-    pub met_open : find_control (capture os ms) (i + 1) ≡ Found.Nothing → met_from os ms p ≡ record { place = i; follows = unended } ∷ met_from os ms (i + 1)
+    pub met_open : find_control (capture os ms) (i + 1) ≡ None → met_from os ms p ≡ record { place = i; follows = unended } ∷ met_from os ms (i + 1)
     met_open h = met_by unended (after_nothing os ms (i + 1) h)
 
-    pub met-ended : (same : length os ≡ length ms) (e : ℕ) → find_control (capture os ms) (i + 1) ≡ At e → i + 1 ≤ e → e < length os
+    pub met-ended : (same : length os ≡ length ms) (e : ℕ) → find_control (capture os ms) (i + 1) ≡ Some e → i + 1 ≤ e → e < length os
         → met_from os ms p ≡ record { place = i; follows = ended (between os (i + 1) e) (get_or os e 0) } ∷ met_from os ms e
     met-ended same e h low high =
         let f : AfterStart = ended (between os (i + 1) e) (get_or os e 0) in
@@ -165,16 +161,16 @@ module _ (s : Settings) (own : List (Option Address)) (os ms : List ℕ) (n : �
   abbrev over : List MetStart → Walking
   over l = walk_of n st (through s own st (length (capture os ms)) l)
 
-  pub turn_none : find_start (capture os ms) p ≡ Found.Nothing → left s own os ms n st p ≡ record { answer = Ended n false; state = st }
+  pub turn_none : find_start (capture os ms) p ≡ None → left s own os ms n st p ≡ record { answer = walk_ended n false; state = st }
   unfolding walk_of through
   turn_none h = ap over (met-none os ms p h)
 
-  module _ (i : ℕ) (found : find_start (capture os ms) p ≡ At i) where
-    pub turn_open : find_control (capture os ms) (i + 1) ≡ Found.Nothing → left s own os ms n st p ≡ record { answer = Ended n true; state = st }
+  module _ (i : ℕ) (found : find_start (capture os ms) p ≡ Some i) where
+    pub turn_open : find_control (capture os ms) (i + 1) ≡ None → left s own os ms n st p ≡ record { answer = walk_ended n true; state = st }
     unfolding walk_of through read_start
     turn_open h = ap over (met_open os ms p i found h)
 
-    pub turn_ended : (same : length os ≡ length ms) (e : ℕ) → find_control (capture os ms) (i + 1) ≡ At e → i + 1 ≤ e → e < length os
+    pub turn_ended : (same : length os ≡ length ms) (e : ℕ) → find_control (capture os ms) (i + 1) ≡ Some e → i + 1 ≤ e → e < length os
         → let r : List ℕ = between os (i + 1) e in
         left s own os ms n st p ≡ left s own os ms (n + 1) (state_after (outcome s own r (get_or os e 0)) (frame_of r) st) e
     unfolding walk_of through read_start read_run
@@ -191,14 +187,14 @@ plain_stays s es r by p ts = stays _ (frame_of r) ts (ap sets_timers (plain_outc
     either false = refl
 
 -- the walk in one call, from its first turn
-pub walked_from : (s : Settings) (job : ℕ) (es : List Entry) (st : State) (os ms : List ℕ) → first (read_refusals s job es os ms 0) ≡ Fine
+pub walked_from : (s : Settings) (job : ℕ) (es : List Entry) (st : State) (os ms : List ℕ) → first (read_refusals s job es os ms 0) ≡ Ok tt
     → left s (mine job es) os ms 0 st 0 ≡ walked s job es st os ms
 unfolding walked
 walked_from s job es st os ms fine = sym (ap (walk_of 0 st) (walk_through s job es os ms fine st))
 
 -- a walk whose first reading is refused
-pub walked-refused : (s : Settings) (job : ℕ) (es : List Entry) (st : State) (os ms : List ℕ) (x : Refusal) → first (read_refusals s job es os ms 0) ≡ Refused x
-    → walked s job es st os ms ≡ record { answer = WalkAnswer.Refused x; state = st }
+pub walked-refused : (s : Settings) (job : ℕ) (es : List Entry) (st : State) (os ms : List ℕ) (x : Refusal) → first (read_refusals s job es os ms 0) ≡ Err x
+    → walked s job es st os ms ≡ record { answer = Err x; state = st }
 unfolding walked walk reading readings_from walk_of read_checked
 walked-refused s job es st os ms x e =
     ap (λ (n : ℕ). walk_of 0 st (readings_from n s job es st os ms 0)) (add-one (length os))

@@ -1,4 +1,6 @@
 -- A sending call, once its table has answered: refused, or written. Assumes nothing.
+use Rattle.std.specs.Prelude.{Err, Ok}
+use Rattle.station.specs.Numbers.{Checked}
 use Prim.Native.Nat.{ℕ, ◌+◌, ◌-◌, ◌≤◌}
 use native.Mathlib.Omega.{arith}
 use mathlib.Core.Path.{◌≡◌, sym, ap, ap₂, ◌∙◌, subst}
@@ -9,8 +11,6 @@ use Rattle.line.specs.Line.{Symbol}
 use Rattle.station.specs.declared.Port.{Port}
 use Rattle.station.specs.declared.State.{State}
 use Rattle.station.specs.declared.Refusal.{Refusal}
-use Rattle.station.specs.declared.Checked.{Checked}
-use Rattle.station.specs.declared.Checked.TheVariants.{Fine, Refused}
 use Rattle.writing.specs.declared.Gap.{Gap}
 use Rattle.writing.specs.Frames.{on_line}
 use Rattle.writing.specs.Gaps.{gap_on, symbols_on}
@@ -20,11 +20,11 @@ use Rattle.send.specs.declared.Sending.{Sending}
 use Rattle.send.specs.Sending.{send_call, state_sent, refused_at, wrote_up_to, send_checked, frame_sending}
 
 module _ (k : Checked) (st : State) (os ms : List ℕ) (place : ℕ) (new : List Symbol) (count : ℕ) where
-  pub call_refused : {r : Sending} (x : Refusal) → k ≡ Refused x → r ≡ refused_at x place st → send_call r os ms ≡ send_checked k st os ms place new count
+  pub call_refused : {r : Sending} (x : Refusal) → k ≡ Err x → r ≡ refused_at x place st → send_call r os ms ≡ send_checked k st os ms place new count
   unfolding send_checked
   call_refused x h e = ap (λ (q : Sending). send_call q os ms) e ∙ sym (ap (λ (q : Checked). send_checked q st os ms place new count) h)
 
-  pub call_wrote : {next : ℕ} {os' ms' : List ℕ} {r : Sending} → k ≡ Fine → Laid os ms place new next os' ms'
+  pub call_wrote : {next : ℕ} {os' ms' : List ℕ} {r : Sending} → k ≡ Ok tt → Laid os ms place new next os' ms'
       → r ≡ wrote_up_to next (state_sent st (next - place) count) → send_call r os' ms' ≡ send_checked k st os ms place new count
   unfolding send_checked
   call_wrote {next} {os'} {ms'} h l e =
@@ -35,11 +35,11 @@ module _ (k : Checked) (st : State) (os ms : List ℕ) (place : ℕ) (new : List
 
 -- a frame on a port, of what its FCS covers: `g` is the gap that was reckoned
 module _ (k : Checked) (st : State) (port : Port) (os ms : List ℕ) (place : ℕ) (body : List ℕ) where
-  pub frame_refused : {r : Sending} (x : Refusal) → k ≡ Refused x → r ≡ refused_at x place st → send_call r os ms ≡ frame_sending k st port os ms place body
+  pub frame_refused : {r : Sending} (x : Refusal) → k ≡ Err x → r ≡ refused_at x place st → send_call r os ms ≡ frame_sending k st port os ms place body
   unfolding frame_sending
   frame_refused x h e = call_refused k st os ms place _ _ x h e
 
-  pub frame-wrote : {next : ℕ} {os' ms' : List ℕ} {r : Sending} (g : Gap) → g ≡ gap_on port st.deficit place body → k ≡ Fine
+  pub frame-wrote : {next : ℕ} {os' ms' : List ℕ} {r : Sending} (g : Gap) → g ≡ gap_on port st.deficit place body → k ≡ Ok tt
       → Laid os ms place (on_line (g.size - 1) body) next os' ms' → r ≡ wrote_up_to next (state_sent st (next - place) g.count)
       → send_call r os' ms' ≡ frame_sending k st port os ms place body
   unfolding frame_sending symbols_on

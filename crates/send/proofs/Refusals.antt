@@ -1,4 +1,6 @@
 -- The tables of refusals row by row: what a call that is not refused knows, and how the code's tests are the rows'. Assumes nothing.
+use Rattle.std.specs.Prelude.{Err, Ok, Result}
+use Rattle.station.specs.Numbers.{Checked}
 use Prim.Native.Nat.{ℕ, zero, suc, ◌+◌, ◌-◌, ◌%◌, ◌≤◌}
 use native.Mathlib.Omega.{arith}
 use mathlib.Core.Path.{◌≡◌, refl, sym, ap, ◌∙◌}
@@ -17,8 +19,6 @@ use Rattle.station.specs.declared.Port.TheVariants.{Plain, FourLane}
 use Rattle.station.specs.declared.State.{State}
 use Rattle.station.specs.declared.Refusal.{Refusal}
 use Rattle.station.specs.declared.Refusal.TheVariants.{BadSettings, BadBuffers, BadPlace, OtherFlow, BadClass, BadType, LongData, NoRoom, ManyTags, HighDeficit}
-use Rattle.station.specs.declared.Checked.{Checked}
-use Rattle.station.specs.declared.Checked.TheVariants.{Fine, Refused}
 use Rattle.station.specs.Station.{is_group, bad_settings, bad_buffers, bad_place, bad_start, high_deficit}
 use Rattle.station.proofs.Refusals.{fine_row, or-false, not-false}
 use Rattle.writing.specs.declared.Client.{Client}
@@ -27,8 +27,6 @@ use Rattle.writing.specs.declared.Form.{Form}
 use Rattle.writing.specs.declared.Form.TheVariants.{ByLength, ByType}
 use Rattle.writing.specs.Frames.{client_body, idle_symbols}
 use Rattle.writing.specs.Gaps.{gap_on, symbols_on}
-use Rattle.send.specs.declared.Framing.{Framing}
-use Rattle.send.specs.declared.Framing.TheVariants.{Goes}
 use Rattle.send.specs.Framings.{with_gap}
 use Rattle.send.specs.Sending.{bad_class, bad_type, many_tags, long_data, no_room, client_refusals, control_refusals, idle_refusals, client_checked, idle_checked}
 
@@ -40,32 +38,32 @@ after zero t = t
 after (suc n) (otherwise a) = otherwise a
 after (suc n) (r ∣ rows) = after n rows
 
-pub row_holds_lem : {a : Checked} {b r : Bool} (x : Refusal) (rows : Table Checked) → a ≡ first (b ⇒ Refused x ∣ rows) → r ≡ b → r ≡ true → Refused x ≡ a
-row_holds_lem x rows h e was = sym (h ∙ first-here (Refused x) rows (sym e ∙ was))
+pub row_holds_lem : {a : Checked} {b r : Bool} (x : Refusal) (rows : Table Checked) → a ≡ first (b ⇒ Err x ∣ rows) → r ≡ b → r ≡ true → Err x ≡ a
+row_holds_lem x rows h e was = sym (h ∙ first-here (Err x) rows (sym e ∙ was))
 
-pub row_passed : {a : Checked} {b r : Bool} (x : Refusal) (rows : Table Checked) → a ≡ first (b ⇒ Refused x ∣ rows) → r ≡ b → r ≡ false → a ≡ first rows
-row_passed x rows h e was = h ∙ first_next (Refused x) rows (sym e ∙ was)
+pub row_passed : {a : Checked} {b r : Bool} (x : Refusal) (rows : Table Checked) → a ≡ first (b ⇒ Err x ∣ rows) → r ≡ b → r ≡ false → a ≡ first rows
+row_passed x rows h e was = h ∙ first_next (Err x) rows (sym e ∙ was)
 
 -- the same of a frame's check, which gives the gap if no row holds
-pub frame_stops : {a : Checked} {b r : Bool} (g : Gap) (x : Refusal) (rows : Table Checked) → a ≡ first (b ⇒ Refused x ∣ rows) → r ≡ b → r ≡ true
-    → Framing.Refused x ≡ with_gap g a
+pub frame_stops : {a : Checked} {b r : Bool} (g : Gap) (x : Refusal) (rows : Table Checked) → a ≡ first (b ⇒ Err x ∣ rows) → r ≡ b → r ≡ true
+    → Err x ≡ with_gap g a
 unfolding with_gap
 frame_stops g x rows h e was = ap (with_gap g) (row_holds_lem x rows h e was)
 
-pub frame-goes : {a : Checked} {g h : Gap} → g ≡ h → a ≡ Fine → Goes g ≡ with_gap h a
+pub frame-goes : {a : Checked} {g h : Gap} → g ≡ h → a ≡ Ok tt → Ok g ≡ with_gap h a
 unfolding with_gap
-frame-goes {a} {g} {h} same e = ap Goes same ∙ ap (with_gap h) (sym e)
+frame-goes {a} {g} {h} same e = ap Ok same ∙ ap (with_gap h) (sym e)
 
 -- and what its answer tells of the table and of the gap
-pub stopped : (g : Gap) (k : Checked) (x : Refusal) → Framing.Refused x ≡ with_gap g k → k ≡ Refused x
+pub stopped : (g : Gap) (k : Checked) (x : Refusal) → Err x ≡ with_gap g k → k ≡ Err x
 unfolding with_gap
-stopped g Fine x e = cc
-stopped g (Refused y) x e = cc
+stopped g (Ok _) x e = cc
+stopped g (Err y) x e = cc
 
-pub goes : (g : Gap) (k : Checked) (h : Gap) → Goes h ≡ with_gap g k → (k ≡ Fine) × (h ≡ g)
+pub goes : (g : Gap) (k : Checked) (h : Gap) → Ok h ≡ with_gap g k → (k ≡ Ok tt) × (h ≡ g)
 unfolding with_gap
-goes g Fine h e = (refl, cc)
-goes g (Refused y) h e = (cc, cc)
+goes g (Ok _) h e = (refl, cc)
+goes g (Err y) h e = (cc, cc)
 
 -- ---- what a row that does not hold tells
 
@@ -134,7 +132,7 @@ unfolding no_room
 room_by os place need new e = ap (λ (n : ℕ). ltb (length os - place) n) (sym e)
 
 -- the flow mode, as the code asked for it
-pub in_mode : (s : Settings) (port : Port) (count : ℕ) (os ms : List ℕ) (place : ℕ) (body : List ℕ) {r : Framing} {b asked : Bool}
+pub in_mode : (s : Settings) (port : Port) (count : ℕ) (os ms : List ℕ) (place : ℕ) (body : List ℕ) {r : Result Gap Refusal} {b asked : Bool}
     → r ≡ with_gap (gap_on port count place body) (first (control_refusals s port count os ms place b body)) → b ≡ asked
     → r ≡ with_gap (gap_on port count place body) (first (control_refusals s port count os ms place asked body))
 in_mode s port count os ms place body h e = rw e at h
@@ -178,7 +176,7 @@ pub record Passed (s : Settings) (st : State) (port : Port) (os ms : List ℕ) (
   pub short : long_data s.limit c.form d ≡ false
   pub data_small : length d ≤ 9600
 
-pub passed : (s : Settings) (st : State) (port : Port) (os ms : List ℕ) (place : ℕ) (c : Client) (d : List ℕ) → client_checked s st port os ms place c d ≡ Fine
+pub passed : (s : Settings) (st : State) (port : Port) (os ms : List ℕ) (place : ℕ) (c : Client) (d : List ℕ) → client_checked s st port os ms place c d ≡ Ok tt
     → Passed s st port os ms place c d
 unfolding client_checked client_refusals
 passed s st port os ms place c d h =
@@ -201,7 +199,7 @@ passed s st port os ms place c d h =
     }
 
 pub passed_control : (s : Settings) (port : Port) (count : ℕ) (os ms : List ℕ) (place : ℕ) (inMode : Bool) (body : List ℕ)
-    → first (control_refusals s port count os ms place inMode body) ≡ Fine → (inMode ≡ true) × Framed s port count os ms place body
+    → first (control_refusals s port count os ms place inMode body) ≡ Ok tt → (inMode ≡ true) × Framed s port count os ms place body
 unfolding control_refusals
 passed_control s port count os ms place inMode body h =
     let r1 = fine_row BadSettings _ h in
@@ -212,7 +210,7 @@ passed_control s port count os ms place inMode body h =
     let r8 = fine_row NoRoom _ r4.1 in
     (not-false inMode r4.0, framed_of s port count os ms place body r1.0 r2.0 r3.0 r19.0 r8.0)
 
-pub passed-idle : (os ms : List ℕ) (place n : ℕ) → idle_checked os ms place n ≡ Fine → Room os ms place (idle_symbols n)
+pub passed-idle : (os ms : List ℕ) (place n : ℕ) → idle_checked os ms place n ≡ Ok tt → Room os ms place (idle_symbols n)
 unfolding idle_checked idle_refusals
 passed-idle os ms place n h =
     let r2 = fine_row BadBuffers _ h in

@@ -1,12 +1,13 @@
--- The largest of the counts from the last one on, the length of a bar, and what is printed of an input. Assumes nothing.
-use Prim.Native.Nat.{ℕ, suc, ◌+◌, ◌≤◌, ◌<◌}
-use native.Mathlib.Numerals.{add-one}
+-- The largest of the counts, the length of a bar, and what is printed of an input. Assumes nothing.
+use Prim.Native.Nat.{ℕ, ◌+◌, ◌≤◌, max}
 use native.Mathlib.Omega.{arith}
-use mathlib.Core.Path.{◌≡◌, refl, sym, ap, ◌∙◌}
+use mathlib.Core.Path.{◌≡◌, ap, ◌∙◌}
 use mathlib.Core.Bool.{true, false}
-use mathlib.Core.List.{List, [], ◌∷◌}
-use lib.ListN.{length, get_or, drop, replicate, length-replicate, drop_of_length-le}
-use lib.Seq.{drop-cons}
+use mathlib.Core.List.{List, [], ◌∷◌, ◌++◌}
+use lib.ListN.{replicate, length-replicate}
+use lib.Dec.{ltb}
+use borrow.Author.Tests.{ltb-true, ltb-false}
+use Rattle.line.proofs.Symbols.{by_test}
 use Rattle.splice.specs.Written.{Put}
 use Rattle.table.specs.Entries.{entries_of}
 use Rattle.table.specs.Calls.{empty_table}
@@ -19,17 +20,19 @@ use Rattle.size_lines.specs.Bars.{greater, largest, table_lines, capture_sizes, 
 
 -- ---- the largest count
 
-largest-cons : (n : ℕ) (ns : List ℕ) → largest (n ∷ ns) ≡ greater n (largest ns)
-unfolding largest
-largest-cons n ns = refl
+greater_max : (a b : ℕ) → greater a b ≡ max a b
+unfolding greater
+greater_max a b = by_test (ltb a b) (λ t. rw t (omega (arith, ltb-true a b t))) (λ t. rw t (omega (arith, ltb-false a b t)))
 
-pub largest-next : (l : List ℕ) (k : ℕ) → k < length l → largest (drop k l) ≡ greater (get_or l k 0) (largest (drop (k + 1) l))
-largest-next l k h =
-    ap largest (drop-cons l k 0 h) ∙ largest-cons (get_or l k 0) (drop (suc k) l) ∙ ap (λ (j : ℕ). greater (get_or l k 0) (largest (drop j l))) (sym (add-one k))
-
-pub largest-none : (l : List ℕ) (k : ℕ) → length l ≡ k → largest (drop k l) ≡ 0
+-- one count more
+pub largest_snoc : (l : List ℕ) (x : ℕ) → largest (l ++ (x ∷ [])) ≡ max (largest l) x
 unfolding largest
-largest-none l k h = ap largest (drop_of_length-le l {i = k} (omega arith))
+largest_snoc [] x = let e = greater_max x 0 in omega arith
+largest_snoc (y ∷ l) x =
+    let h = largest_snoc l x in
+    let a = greater_max y (largest (l ++ (x ∷ []))) in
+    let b = greater_max y (largest l) in
+    omega arith
 
 -- ---- a bar of at most 40 marks
 

@@ -1,11 +1,11 @@
 -- Worked cases of the definitions, by computation: both sides of each band, small captures, and two tables, worked out apart from the definitions.
 -- Assumes nothing.
+use Rattle.std.specs.Prelude.{Err, Ok}
 use Rattle.std.proofs.Common.{◌≡◌, ℕ, true, false, List, [], ◌∷◌, ◌++◌, replicate, refl}
 use Rattle.station.specs.declared.Settings.{Settings}
 use Rattle.station.specs.declared.Flow.{Flow}
 use Rattle.station.specs.declared.Flow.TheVariants.{Off, Pause, Pfc}
 use Rattle.station.specs.declared.Refusal.TheVariants.{BadSettings, BadJob, BadBuffers}
-use Rattle.station.specs.declared.Checked.TheVariants.{Fine, Refused}
 use Rattle.table.specs.Entries.{entries_of}
 use Rattle.sizes.specs.declared.SizeTable.{SizeTable}
 use Rattle.sizes.specs.Sizes.{band, fresh_sizes, adding, add_tables}
@@ -127,7 +127,7 @@ pfc = to_group ++ (1 ∷ 1 ∷ 0 ∷ 255 ∷ []) ++ replicate 42 0 ++ (238 ∷ 1
 case_added : adding before (settings 1518 Off) 0 (entries_of nobody)
     (padded ++ (221 ∷ 253 ∷ []) ++ tagged ++ (118 ∷ 253 ∷ []) ++ other ++ (193 ∷ 253 ∷ []))
     ((1 ∷ []) ++ replicate 71 0 ++ (1 ∷ 1 ∷ []) ++ replicate 79 0 ++ (1 ∷ 1 ∷ []) ++ replicate 71 0 ++ (1 ∷ []))
-    ≡ record { answer = Fine; sizes = record { frames = (0 ∷ 2 ∷ 0 ∷ 0 ∷ 0 ∷ 0 ∷ 3 ∷ []); octets = (63 ∷ 137 ∷ 0 ∷ 0 ∷ 0 ∷ 0 ∷ 5000 ∷ []) } }
+    ≡ record { answer = Ok tt; sizes = record { frames = (0 ∷ 2 ∷ 0 ∷ 0 ∷ 0 ∷ 0 ∷ 3 ∷ []); octets = (63 ∷ 137 ∷ 0 ∷ 0 ∷ 0 ∷ 0 ∷ 5000 ∷ []) } }
 unfolding computed
 case_added = refl
 
@@ -135,7 +135,7 @@ case_added = refl
 case_pause : adding before (settings 1518 Pause) 0 (entries_of nobody)
     (pause ++ (218 ∷ 253 ∷ []) ++ padded ++ (0 ∷ 253 ∷ []))
     ((1 ∷ []) ++ replicate 71 0 ++ (1 ∷ 1 ∷ []) ++ replicate 71 0 ++ (1 ∷ []))
-    ≡ record { answer = Fine; sizes = record { frames = (0 ∷ 1 ∷ 0 ∷ 0 ∷ 0 ∷ 0 ∷ 3 ∷ []); octets = (63 ∷ 65 ∷ 0 ∷ 0 ∷ 0 ∷ 0 ∷ 5000 ∷ []) } }
+    ≡ record { answer = Ok tt; sizes = record { frames = (0 ∷ 1 ∷ 0 ∷ 0 ∷ 0 ∷ 0 ∷ 3 ∷ []); octets = (63 ∷ 65 ∷ 0 ∷ 0 ∷ 0 ∷ 0 ∷ 5000 ∷ []) } }
 unfolding computed
 case_pause = refl
 
@@ -143,7 +143,7 @@ case_pause = refl
 case_pfc : adding before (settings 1518 Pfc) 0 (entries_of nobody)
     (pfc ++ (135 ∷ 253 ∷ []) ++ pause ++ (218 ∷ 253 ∷ []))
     ((1 ∷ []) ++ replicate 71 0 ++ (1 ∷ 1 ∷ []) ++ replicate 71 0 ++ (1 ∷ []))
-    ≡ record { answer = Fine; sizes = record { frames = (1 ∷ 1 ∷ 0 ∷ 0 ∷ 0 ∷ 0 ∷ 3 ∷ []); octets = (127 ∷ 65 ∷ 0 ∷ 0 ∷ 0 ∷ 0 ∷ 5000 ∷ []) } }
+    ≡ record { answer = Ok tt; sizes = record { frames = (1 ∷ 1 ∷ 0 ∷ 0 ∷ 0 ∷ 0 ∷ 3 ∷ []); octets = (127 ∷ 65 ∷ 0 ∷ 0 ∷ 0 ∷ 0 ∷ 5000 ∷ []) } }
 unfolding computed
 case_pfc = refl
 
@@ -151,7 +151,7 @@ case_pfc = refl
 case_open : adding before (settings 1518 Off) 1 (entries_of nobody)
     (padded ++ (221 ∷ 253 ∷ []) ++ padded ++ (221 ∷ 254 ∷ []) ++ padded ++ (221 ∷ []))
     ((1 ∷ []) ++ replicate 71 0 ++ (1 ∷ 1 ∷ []) ++ replicate 71 0 ++ (1 ∷ 1 ∷ []) ++ replicate 71 0)
-    ≡ record { answer = Fine; sizes = record { frames = (0 ∷ 1 ∷ 0 ∷ 0 ∷ 0 ∷ 0 ∷ 3 ∷ []); octets = (63 ∷ 65 ∷ 0 ∷ 0 ∷ 0 ∷ 0 ∷ 5000 ∷ []) } }
+    ≡ record { answer = Ok tt; sizes = record { frames = (0 ∷ 1 ∷ 0 ∷ 0 ∷ 0 ∷ 0 ∷ 3 ∷ []); octets = (63 ∷ 65 ∷ 0 ∷ 0 ∷ 0 ∷ 0 ∷ 5000 ∷ []) } }
 unfolding computed
 case_open = refl
 
@@ -159,19 +159,19 @@ case_open = refl
 case_refused_1 : adding before (settings 1517 Off) 2 (entries_of nobody)
     (padded ++ (221 ∷ 253 ∷ []))
     ((1 ∷ []) ++ replicate 71 0 ++ (1 ∷ []))
-    ≡ record { answer = Refused BadSettings; sizes = before }
+    ≡ record { answer = Err BadSettings; sizes = before }
 unfolding computed
 case_refused_1 = refl
 
 -- refusal 14
 case_refused_14 : adding before (settings 1518 Off) 2 (entries_of nobody) (0 ∷ 0 ∷ []) (0 ∷ [])
-    ≡ record { answer = Refused BadJob; sizes = before }
+    ≡ record { answer = Err BadJob; sizes = before }
 unfolding computed
 case_refused_14 = refl
 
 -- refusal 2
 case_refused_2 : adding before (settings 1518 Off) 0 (entries_of nobody) (0 ∷ 0 ∷ []) (0 ∷ [])
-    ≡ record { answer = Refused BadBuffers; sizes = before }
+    ≡ record { answer = Err BadBuffers; sizes = before }
 unfolding computed
 case_refused_2 = refl
 

@@ -1,8 +1,9 @@
 -- The claims of document 02, item 13, as theorems: `any_order`, `two_halves`, `refused-adds-nothing`, `refused_as_a_walk`, `octets_rise`. What they say of
 -- the counters is mac/proofs/SizesRise.antt. Assumes nothing.
+use Rattle.std.specs.Prelude.{Err, Ok, Option}
+use Rattle.station.specs.Numbers.{Checked}
 use Rattle.std.proofs.Common.{◌≡◌, ℕ, zero, suc, ◌+◌, ◌%◌, ◌<◌, Bool, true, false, eqb, ltb, leb, List, [], ◌∷◌, ◌++◌, length, get_or, set, sym, refl, ap, ◌∙◌, ap₂, le_of_suc-le-suc, not-suc-le-zero, arith, lit<, get_or-set_other, get_or-set_same, set-set, ltb-false, ltb-true, eqb-true}
 use native.Mathlib.Nat.{mod-add-mod}
-use mathlib.Core.Option.{Option}
 use lib.Seq.{set_comm, set_out}
 use borrow.Author.Tests.{eqb-false}
 use Rattle.line.specs.Line.{capture, AfterStart, unended, ended, MetStart, met_starts}
@@ -12,8 +13,6 @@ use Rattle.line.proofs.Tables.{first-here, first_next, first-other}
 use Rattle.station.specs.declared.Address.{Address}
 use Rattle.station.specs.declared.Settings.{Settings}
 use Rattle.station.specs.declared.State.{State}
-use Rattle.station.specs.declared.Checked.{Checked}
-use Rattle.station.specs.declared.Checked.TheVariants.{Fine, Refused}
 use Rattle.station.specs.Numbers.{checked_number}
 use Rattle.station.specs.Station.{total, fresh}
 use Rattle.table.specs.declared.Entry.{Entry}
@@ -84,8 +83,8 @@ frames_swap t (m ∷ ms) ns = frames_swap (with_frame t m) ms ns ∙ ap (λ (x :
 added : Capture → List ℕ
 added c =
     elim (first (read_refusals c.settings c.job c.table c.octets c.marks 0)) [
-      | Fine ↦ frame_lengths (walk c.settings c.job c.table fresh c.octets c.marks)
-      | Refused x ↦ []
+      | Ok _ ↦ frame_lengths (walk c.settings c.job c.table fresh c.octets c.marks)
+      | Err x ↦ []
     ]
 
 adds : (t : SizeTable) (c : Capture) → (add_one t c).sizes ≡ with_frames t (added c)
@@ -93,9 +92,9 @@ unfolding adding added
 adds t c = by (first (read_refusals c.settings c.job c.table c.octets c.marks 0))
   where
     by : (k : Checked) → (add_checked k t c.settings c.job c.table c.octets c.marks).sizes
-        ≡ with_frames t (elim k [ Fine ↦ frame_lengths (walk c.settings c.job c.table fresh c.octets c.marks) | Refused x ↦ [] ])
-    by Fine = unfold add_checked in refl
-    by (Refused x) = unfold add_checked with_frames in refl
+        ≡ with_frames t (elim k [ Ok _ ↦ frame_lengths (walk c.settings c.job c.table fresh c.octets c.marks) | Err x ↦ [] ])
+    by (Ok _) = unfold add_checked in refl
+    by (Err x) = unfold add_checked with_frames in refl
 
 add-first : (t : SizeTable) (c : Capture) (cs : List Capture) → add_all t (c ∷ cs) ≡ add_all (add_one t c).sizes cs
 unfolding add_all
@@ -204,8 +203,8 @@ module _ (t : SizeTable) (s : Settings) (job : ℕ) (es : List Entry) (os ms : L
   refused-adds-nothing h = by (first (read_refusals s job es os ms 0)) h
     where
       by : (k : Checked) → 0 < checked_number (add_checked k t s job es os ms).answer → (add_checked k t s job es os ms).sizes ≡ t
-      by Fine g = unfold add_checked in absurd (let z : ⊥ = omega arith in z)
-      by (Refused x) g = unfold add_checked in refl
+      by (Ok _) g = unfold add_checked in absurd (let z : ⊥ = omega arith in z)
+      by (Err x) g = unfold add_checked in refl
 
   -- it is refused as a walk is, by the same number, whatever the walk's state
   pub refused_as_a_walk : (st : State) → checked_number (adding t s job es os ms).answer ≡ walk_refusal (walked s job es st os ms).answer
@@ -213,10 +212,10 @@ module _ (t : SizeTable) (s : Settings) (job : ℕ) (es : List Entry) (os ms : L
     where
       by : (k : Checked) → first (read_refusals s job es os ms 0) ≡ k
           → checked_number (adding t s job es os ms).answer ≡ walk_refusal (walked s job es st os ms).answer
-      by (Refused x) h =
+      by (Err x) h =
           ap (λ (r : Added). checked_number r.answer) (add-refused s job es os ms t x h)
           ∙ ap (λ (r : Walking). walk_refusal r.answer) (sym (walked-refused s job es st os ms x h))
-      by Fine h =
+      by (Ok _) h =
           ap (λ (r : Added). checked_number r.answer) (add_fine s job es os ms t h)
           ∙ sym
           (unfold walked in
@@ -271,7 +270,7 @@ lengths_rise t (n ∷ ns) e =
 
 -- "and the octets in each band": the octets of all bands together rise by the frame lengths of the walk, from any state
 pub octets_rise : (t : SizeTable) (s : Settings) (job : ℕ) (es : List Entry) (st : State) (os ms : List ℕ) → length t.octets ≡ 7
-    → first (read_refusals s job es os ms 0) ≡ Fine
+    → first (read_refusals s job es os ms 0) ≡ Ok tt
     → total (adding t s job es os ms).sizes.octets % count_size ≡ (total t.octets + total (frame_lengths (walk s job es st os ms))) % count_size
 octets_rise t s job es st os ms seven h =
     ap (λ (r : Added). total r.sizes.octets % count_size) (add_fine s job es os ms t h)

@@ -1,11 +1,10 @@
 -- The size table over the Starts of a capture: what the walk's readings have of frame lengths, and what one turn of each loop of the code uses. Assumes
 -- nothing.
+use Rattle.std.specs.Prelude.{Err, None, Ok, Option, Some}
+use Rattle.station.specs.Numbers.{Checked}
 use Rattle.std.proofs.Common.{◌≡◌, ℕ, zero, suc, ◌+◌, ◌-◌, ◌%◌, ◌<◌, ◌≤◌, true, false, cond, List, [], ◌∷◌, ◌++◌, length, get_or, sym, refl, ap, ◌∙◌, ap₂, le_of_suc-le-suc, not-suc-le-zero, arith, length-drop, length-set}
-use mathlib.Core.Option.{Option}
 use denote.Enum.Declared.{tag_of}
 use types.Run.{OneOf, miss}
-use Rattle.line.specs.declared.Found.{Found}
-use Rattle.line.specs.declared.Found.TheVariants.{At}
 use Rattle.line.specs.Limits.{lead_size}
 use Rattle.line.specs.Line.{capture, find_start, find_control, AfterStart, unended, ended, MetStart, met_starts}
 use Rattle.line.specs.Octets.{between}
@@ -13,9 +12,7 @@ use Rattle.line.specs.Table.{first}
 use Rattle.station.specs.declared.Address.{Address}
 use Rattle.station.specs.declared.Settings.{Settings}
 use Rattle.station.specs.declared.State.{State}
-use Rattle.station.specs.declared.Checked.{Checked}
 use Rattle.station.specs.declared.Refusal.{Refusal}
-use Rattle.station.specs.declared.Checked.TheVariants.{Fine, Refused}
 use Rattle.station.specs.declared.Outcome.{Outcome}
 use Rattle.station.specs.declared.Outcome.TheVariants.{Cut, BadPreamble, Undersized, Oversized, WrongFcs, WrongLength, Filtered}
 use Rattle.station.specs.declared.Outcome.TheVariants.{PauseTaken, PfcTaken, ControlDropped, HandedOut}
@@ -37,19 +34,19 @@ use Rattle.sizes.specs.Steps.{length_if, lengths_of, together_from}
 abbrev others : List ℕ
 others = 0 ∷ 1 ∷ 2 ∷ 3 ∷ 4 ∷ 5 ∷ 6 ∷ []
 
-pub sized-none : (o : Outcome) → OneOf others (tag_of the_type o) → sized o ≡ false
+pub sized_none : (o : Outcome) → OneOf others (tag_of the_type o) → sized o ≡ false
 unfolding sized
-sized-none Cut h = refl
-sized-none BadPreamble h = refl
-sized-none Undersized h = refl
-sized-none Oversized h = refl
-sized-none WrongFcs h = refl
-sized-none WrongLength h = refl
-sized-none Filtered h = refl
-sized-none PauseTaken h = absurd (miss others 7 tt h)
-sized-none PfcTaken h = absurd (miss others 8 tt h)
-sized-none ControlDropped h = absurd (miss others 9 tt h)
-sized-none HandedOut h = absurd (miss others 10 tt h)
+sized_none Cut h = refl
+sized_none BadPreamble h = refl
+sized_none Undersized h = refl
+sized_none Oversized h = refl
+sized_none WrongFcs h = refl
+sized_none WrongLength h = refl
+sized_none Filtered h = refl
+sized_none PauseTaken h = absurd (miss others 7 tt h)
+sized_none PfcTaken h = absurd (miss others 8 tt h)
+sized_none ControlDropped h = absurd (miss others 9 tt h)
+sized_none HandedOut h = absurd (miss others 10 tt h)
 
 -- ---- frames in a row
 
@@ -125,18 +122,18 @@ module _ (s : Settings) (own : List (Option Address)) where
 
 module _ (s : Settings) (job : ℕ) (es : List Entry) (os ms : List ℕ) where
   -- from any state
-  pub walk_lengths : (st : State) → first (read_refusals s job es os ms 0) ≡ Fine
+  pub walk_lengths : (st : State) → first (read_refusals s job es os ms 0) ≡ Ok tt
       → frame_lengths (walk s job es st os ms) ≡ lengths_of s (mine job es) (met_from os ms 0)
   walk_lengths st fine =
       ap frame_lengths (walk_through s job es os ms fine st) ∙ through_lengths s (mine job es) (length (capture os ms)) (met_starts 0 (capture os ms)) st
 
-  pub add-refused : (t : SizeTable) (x : Refusal) → first (read_refusals s job es os ms 0) ≡ Refused x
-      → adding t s job es os ms ≡ record { answer = Refused x; sizes = t }
+  pub add-refused : (t : SizeTable) (x : Refusal) → first (read_refusals s job es os ms 0) ≡ Err x
+      → adding t s job es os ms ≡ record { answer = Err x; sizes = t }
   unfolding adding add_checked
   add-refused t x h = ap (λ (k : Checked). add_checked k t s job es os ms) h
 
-  pub add_fine : (t : SizeTable) → first (read_refusals s job es os ms 0) ≡ Fine
-      → adding t s job es os ms ≡ record { answer = Fine; sizes = with_frames t (frame_lengths (walk s job es fresh os ms)) }
+  pub add_fine : (t : SizeTable) → first (read_refusals s job es os ms 0) ≡ Ok tt
+      → adding t s job es os ms ≡ record { answer = Ok tt; sizes = with_frames t (frame_lengths (walk s job es fresh os ms)) }
   unfolding adding add_checked
   add_fine t h = ap (λ (k : Checked). add_checked k t s job es os ms) h
 
@@ -146,7 +143,7 @@ module _ (s : Settings) (job : ℕ) (es : List Entry) (os ms : List ℕ) where
 unfoldable pub add_left : SizeTable → Settings → List (Option Address) → List ℕ → List ℕ → ℕ → SizeTable
 add_left t s own os ms p = with_frames t (lengths_of s own (met_from os ms p))
 
-pub left-start : (t : SizeTable) (s : Settings) (job : ℕ) (es : List Entry) (os ms : List ℕ) → first (read_refusals s job es os ms 0) ≡ Fine
+pub left-start : (t : SizeTable) (s : Settings) (job : ℕ) (es : List Entry) (os ms : List ℕ) → first (read_refusals s job es os ms 0) ≡ Ok tt
     → add_left t s (mine job es) os ms 0 ≡ with_frames t (frame_lengths (walk s job es fresh os ms))
 unfolding add_left
 left-start t s job es os ms h = sym (ap (with_frames t) (walk_lengths s job es os ms fresh h))
@@ -155,16 +152,16 @@ module _ (t : SizeTable) (s : Settings) (own : List (Option Address)) (os ms : L
   abbrev over : List MetStart → SizeTable
   over l = with_frames t (lengths_of s own l)
 
-  pub turn_none : find_start (capture os ms) p ≡ Found.Nothing → add_left t s own os ms p ≡ t
+  pub turn_none : find_start (capture os ms) p ≡ None → add_left t s own os ms p ≡ t
   unfolding add_left with_frames
   turn_none h = ap over (met-none os ms p h) ∙ ap (with_frames t) (lengths_none s own)
 
-  module _ (i : ℕ) (found : find_start (capture os ms) p ≡ At i) where
-    pub turn_open : find_control (capture os ms) (i + 1) ≡ Found.Nothing → add_left t s own os ms p ≡ t
+  module _ (i : ℕ) (found : find_start (capture os ms) p ≡ Some i) where
+    pub turn_open : find_control (capture os ms) (i + 1) ≡ None → add_left t s own os ms p ≡ t
     unfolding add_left with_frames
     turn_open h = ap over (met_open os ms p i found h) ∙ ap (with_frames t) (lengths_open s own i (met_from os ms (i + 1)))
 
-    pub turn_ended : (same : length os ≡ length ms) (e : ℕ) → find_control (capture os ms) (i + 1) ≡ At e → i + 1 ≤ e → e < length os
+    pub turn_ended : (same : length os ≡ length ms) (e : ℕ) → find_control (capture os ms) (i + 1) ≡ Some e → i + 1 ≤ e → e < length os
         → let r : List ℕ = between os (i + 1) e in
         add_left t s own os ms p ≡ add_left (with_frames t (length_if (outcome s own r (get_or os e 0)) (length (frame_of r)))) s own os ms e
     unfolding add_left

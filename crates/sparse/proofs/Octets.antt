@@ -5,14 +5,14 @@ use mathlib.Core.List.{List, [], ◌∷◌, ◌++◌}
 use Prim.Native.Nat.{ℕ, zero, suc, ◌+◌, ◌*◌, ◌/◌, ◌%◌, ◌-◌, ◌^◌, ◌≤◌, ◌<◌}
 use native.Mathlib.Nat.{mod-eq_of_lt, div-eq_of_lt, add_comm, pow-suc}
 use native.Mathlib.Omega.{arith}
-use lib.Bits.{bit_xor, xor_comm, xor_zero_r, xor_shifted, xor_shr, xor_mod}
+use lib.Bits.{bit_xor, xor_assoc, xor_comm, xor_zero_r, xor_shifted, xor_shr, xor_mod}
 use lib.Dec.{lit<}
 use lib.Pow.{pow-add}
 use lib.ListN.{length, get_or, drop, length-drop}
 use lib.Seq.{drop-cons, drop-drop, drop-append-le, get_or-drop}
 use Rattle.crc.specs.Crc.{crc_bits, crc_over}
 use Rattle.crc.specs.Words.{crc_zeros, word}
-use Rattle.crc.proofs.Xor.{xor_assoc, xor_exchange}
+use Rattle.crc.proofs.Xor.{xor_exchange}
 use Rattle.crc.proofs.Linear.{none, word-last, zeros-xor, zeros-add, zeros_shifted, over_slice, turn}
 use Rattle.sparse.specs.Octets.{carried_on}
 use Rattle.sparse.proofs.Multiple.{trace, trace-none, xor-none}

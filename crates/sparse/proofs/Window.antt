@@ -3,19 +3,19 @@
 use mathlib.Core.Path.{◌≡◌, refl, sym, ap, ap₂, ◌∙◌, subst}
 use mathlib.Core.Logic.{◌⊎◌, inl, inr, ⊎_elim}
 use mathlib.Core.List.{List, [], ◌∷◌, ◌++◌}
-use Prim.Native.Nat.{ℕ, zero, suc, ◌+◌, ◌*◌, ◌/◌, ◌%◌, ◌-◌, ◌≤◌, ◌<◌, zero-le, suc-le-suc}
+use Prim.Native.Nat.{ℕ, zero, suc, ◌+◌, ◌*◌, ◌/◌, ◌%◌, ◌-◌, ◌^◌, ◌≤◌, ◌<◌, zero-le, suc-le-suc}
 use native.Mathlib.Nat.{add-zero}
 use native.Mathlib.Numerals.{add-one}
 use native.Mathlib.Omega.{arith}
-use borrow.Author.Count.{below_more}
-use lib.Bits.{bit_xor, xor_comm, xor_zero_l, xor_zero_r, xor_lt, xor_block}
+use lib.Bits.{bit_xor, xor_assoc, xor_comm, xor_zero_l, xor_zero_r, xor_lt, xor_block}
 use lib.Dec.{lit<}
 use lib.ListN.{length, get_or, take, drop, set, length-drop, get_or-eq_default}
-use lib.Seq.{get_or-set_same, get_or-set_other, get_or-take, get_or-drop, ext_get_or, length-take-le, drop-cons, drop-set-add, take-set-le, take-suc, take-suc-set}
+use lib.Seq.{get_or-set_other, get_or-take, get_or-drop, ext_get_or, length-take-le, drop-cons, drop-set-add, take-set-le, take-suc, take-suc-set}
+use Rattle.std.proofs.lemmas.Nat.{from_le_bytes-to_le_bytes_4}
+use Rattle.std.specs.Int.{w32, to_le_bytes}
 use Rattle.crc.specs.Crc.{crc_over}
 use Rattle.crc.specs.Words.{crc_zeros, word}
-use Rattle.crc.proofs.Xor.{xor_assoc}
-use Rattle.crc.proofs.Linear.{over_word}
+use Rattle.crc.proofs.Linear.{bytes_take, over_word}
 use Rattle.sparse.specs.Octets.{out_of, came, carried_on, Cut, Moved, Cleared, Ended}
 use Rattle.sparse.proofs.Octets.{Bytes, octet-taken}
 
@@ -28,12 +28,6 @@ less (suc a) (suc b) = ⊎_elim (λ p. inl (suc-le-suc p)) (λ p. inr (suc-le-su
 
 bytes_drop : (n : ℕ) (s : List ℕ) → Bytes s → Bytes (drop n s)
 bytes_drop n s b k = rw get_or-drop (b (n + k))
-
-bytes_take : (n : ℕ) (s : List ℕ) → Bytes s → Bytes (take n s)
-bytes_take zero s b k = lit< tt
-bytes_take (suc n) [] b k = lit< tt
-bytes_take (suc n) (o ∷ s) b zero = b 0
-bytes_take (suc n) (o ∷ s) b (suc k) = bytes_take n s (λ j. b (suc j)) k
 
 pub bytes_set : (w : List ℕ) (i v : ℕ) → Bytes w → v < 256 → Bytes (set w i v)
 bytes_set [] i v b h k = b k
@@ -93,28 +87,6 @@ move_more before w i long h m =
     let behind : (j : ℕ) → suc i + 960 ≤ j → get_or (set (set w i v) (i + 960) 0) j 0 ≡ get_or before j 0 =
     λ j l. get_or-set_other (set w i v) (i + 960) j 0 0 (λ p. omega arith) ∙ get_or-set_other w i j v 0 (λ p. omega arith) ∙ m.1 j (omega arith) in
     rw add-one (front, behind)
-
-pub clear_more : (before w : List ℕ) (at i : ℕ) → at + i < length w → Cleared i at before w → Cleared (i + 1) at before (set w (at + i) 0)
-clear_more before w at i h o = (
-  below_more (λ (k : ℕ). get_or (set w (at + i) 0) (at + k) 0 ≡ 0) i
-      (λ k l. get_or-set_other w (at + i) (at + k) 0 0 (λ p. omega arith) ∙ o.0 k l) (get_or-set_same w (at + i) 0 0 h),
-  λ j l. get_or-set_other w (at + i) j 0 0 (λ p. omega arith) ∙ o.1 j l,
-)
-
--- what is read stands behind what is written
-out_of-kept : (before w s : List ℕ) (at i k : ℕ) → k ≤ i → ((j : ℕ) → k ≤ j → get_or w j 0 ≡ get_or before j 0) → out_of w s at i ≡ out_of before s at i
-out_of-kept before w s at i k l kept =
-    ap₂ bit_xor (ap₂ bit_xor (ap₂ bit_xor (ap (bit_xor (get_or s (at + i) 0)) (kept (i + 155) (omega arith))) (kept (i + 117) (omega arith)))
-    (kept (i + 89) (omega arith))) (kept i l)
-
-pub end_more : (before w s : List ℕ) (at m i v : ℕ) → i < length w → v ≡ out_of w s at (m + i)
-    → Ended i at m s before w → Ended (i + 1) at m s before (set w i v)
-end_more before w s at m i v h e o = (
-  below_more (λ (k : ℕ). get_or (set w i v) k 0 ≡ out_of before s at (m + k)) i
-      (λ k b. get_or-set_other w i k v 0 (λ p. omega arith) ∙ o.0 k b)
-      (get_or-set_same w i v 0 h ∙ e ∙ out_of-kept before w s at (m + i) i (omega arith) o.1),
-  λ j b. get_or-set_other w i j v 0 (λ p. omega arith) ∙ o.1 j (omega arith),
-)
 
 -- ---- two lists xored octet by octet, the shorter with 0 behind it
 
@@ -244,26 +216,14 @@ word_none (suc k) zero s z = refl
 word_none (suc k) (suc n) [] z = refl
 word_none (suc k) (suc n) (o ∷ s) z = word_none k n s (λ j h. z (suc j) (suc-le-suc h))
 
--- a register from its four octets
-from-four : (r : ℕ) → r < 0x1_0000_0000 → r % 256 + (r / 0x100 % 256 + (r / 0x1_0000 % 256 + (r / 0x100_0000 % 256 + 0 * 256) * 256) * 256) * 256 ≡ r
-from-four r h =
-    let apart : (x : ℕ) → x % 256 + x / 256 * 256 ≡ x = λ x. omega arith in
-    let second : r / 0x100 / 256 ≡ r / 0x1_0000 = omega arith in
-    let third : r / 0x1_0000 / 256 ≡ r / 0x100_0000 = omega arith in
-    let last : r / 0x100_0000 % 256 + 0 * 256 ≡ r / 0x100_0000 = omega arith in
-    ap (λ (x : ℕ). r % 256 + (r / 0x100 % 256 + (r / 0x1_0000 % 256 + x * 256) * 256) * 256) (last ∙ sym third)
-    ∙ ap (λ (x : ℕ). r % 256 + (r / 0x100 % 256 + x * 256) * 256) (apart (r / 0x1_0000) ∙ sym second)
-    ∙ ap (λ (x : ℕ). r % 256 + x * 256) (apart (r / 0x100)) ∙ apart r
-
 -- the four octets of a register in front: only the last distance takes them up
 pub begun : (w : List ℕ) (r : ℕ) → length w ≡ 1560 → ((j : ℕ) → j < 300 → get_or w j 0 ≡ 0) → r < 0x1_0000_0000
-    → carried_on (take 300 (set (set (set (set w 0 (r % 256)) 1 (r / 0x100 % 256)) 2 (r / 0x1_0000 % 256)) 3 (r / 0x100_0000 % 256))) ≡ r
+    → carried_on (take 300 (set (set (set (set w 0 (r % 256)) 1 (r / 256 % 256)) 2 (r / 256 ^ 2 % 256)) 3 (r / 256 ^ 3 % 256))) ≡ r
 begun [] r long none small = omega arith
 begun (a ∷ []) r long none small = omega arith
 begun (a ∷ b ∷ []) r long none small = omega arith
 begun (a ∷ b ∷ c ∷ []) r long none small = omega arith
 begun (a ∷ b ∷ c ∷ d ∷ w) r long none small =
     let gone : (k : ℕ) → word (drop k (take 296 w)) ≡ 0 = λ k. word_none k 296 w (λ j h. none (suc (suc (suc (suc j)))) (omega arith)) in
-    let whole =
-    ap (λ (x : ℕ). r % 256 + (r / 0x100 % 256 + (r / 0x1_0000 % 256 + (r / 0x100_0000 % 256 + x * 256) * 256) * 256) * 256) (gone 0) ∙ from-four r small in
+    let whole : word (to_le_bytes w32 r ++ take 296 w) ≡ r = omega (arith, gone 0, from_le_bytes-to_le_bytes_4 r small) in
     ap₂ bit_xor (gone 151) (ap₂ bit_xor (gone 113) (ap₂ bit_xor (gone 85) whole ∙ xor_zero_l r) ∙ xor_zero_l r) ∙ xor_zero_l r

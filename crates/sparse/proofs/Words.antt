@@ -5,13 +5,12 @@ use mathlib.Core.List.{List, [], ◌∷◌}
 use Prim.Native.Nat.{ℕ, ◌+◌, ◌*◌, ◌/◌, ◌%◌, ◌-◌, ◌^◌, ◌≤◌, ◌<◌}
 use native.Mathlib.Nat.{mul-add-mod_self_right, mul-add-div_right, mod-eq_of_lt, div-eq_of_lt, add-zero, zero-add, mul_assoc, add-mul, div-add-mod'}
 use native.Mathlib.Omega.{arith}
-use lib.Bits.{bit_xor, xor_comm, xor_zero_l, xor_zero_r, xor_block, xor_lt}
+use lib.Bits.{bit_xor, xor_assoc, xor_comm, xor_zero_l, xor_zero_r, xor_block, xor_lt}
 use lib.Dec.{lit<}
 use lib.ListN.{length, get_or, drop, length-drop}
 use lib.Seq.{get_or-drop}
 use Rattle.crc.specs.Crc.{crc_bits, crc_over}
 use Rattle.crc.specs.Words.{crc_zeros, word, word_at}
-use Rattle.crc.proofs.Xor.{xor_assoc}
 use Rattle.crc.proofs.Linear.{bits-xor, bits-add, bits_shifted, bits-lt, slice, zeros-xor, over_word, turn}
 use Rattle.sparse.specs.Words.{four, five, spread}
 use Rattle.sparse.proofs.Multiple.{trace, trace-none, xor-none}

@@ -1,18 +1,18 @@
 -- Laws of a table's entries and of a job's own: one entry more, what stands at a place, and where a search ends. Assumes nothing.
+use Rattle.std.specs.Prelude.{None, Option, Some}
+use Rattle.std.specs.Option.{is_some}
+use Rattle.std.specs.Int.{from_bool}
 use Prim.Native.Nat.{ℕ, zero, suc, ◌+◌, ◌*◌, ◌≤◌, ◌<◌}
 use native.Mathlib.Omega.{arith}
 use native.Mathlib.Nat.{zero-add, not-suc-le-zero, le_of_suc-le-suc}
 use native.Mathlib.Numerals.{add-one}
 use mathlib.Core.Path.{◌≡◌, refl, sym, ap, ap₂, ◌∙◌, subst}
-use mathlib.Core.Bool.{Bool, true, false, ◌||◌}
+use mathlib.Core.Bool.{Bool, true, false, not, ◌||◌}
 use mathlib.Core.List.{List, [], ◌∷◌}
-use mathlib.Core.Option.{Option, none, some}
 use lib.ListN.{length, get_or, drop, replicate, length-map, get_or-map, drop_of_length-le}
 use lib.Seq.{drop-cons}
 use lib.Dec.{eqb}
 use borrow.Author.Tests.{eqb-true, ne_eqb}
-use Rattle.line.specs.declared.Found.{Found}
-use Rattle.line.specs.declared.Found.TheVariants.{At, Nothing}
 use Rattle.line.specs.Limits.{table_entries}
 use Rattle.line.specs.Octets.{same_octets}
 use Rattle.line.proofs.Symbols.{by_test}
@@ -54,17 +54,17 @@ pub sixteen : (job : ℕ) (t : List ℕ) → length (own_entries job t) ≡ tabl
 sixteen job t = length-mine job (entries_of t) ∙ entries_sixteen t
 
 -- what a job has at entry k
-pub own_is : (job : ℕ) (t : List ℕ) (k : ℕ) → k < table_entries → get_or (own_entries job t) k none ≡ own_at job (entry_at t k)
+pub own_is : (job : ℕ) (t : List ℕ) (k : ℕ) → k < table_entries → get_or (own_entries job t) k None ≡ own_at job (entry_at t k)
 unfolding mine own_at
 own_is job t k h =
     let z : Entry = record { holder = Nobody; address = record { 0 = [] } } in
     get_or-map (own_at job) (entries_of t) k z ∙ ap (own_at job) (entry_is t k z h)
 
-pub own_held : (job : ℕ) (e : Entry) → is_held job e.holder ≡ true → own_at job e ≡ some e.address
+pub own_held : (job : ℕ) (e : Entry) → is_held job e.holder ≡ true → own_at job e ≡ Some e.address
 unfolding own_at
 own_held job e h = rw h
 
-pub own-not : (job : ℕ) (e : Entry) → is_held job e.holder ≡ false → own_at job e ≡ none
+pub own-not : (job : ℕ) (e : Entry) → is_held job e.holder ≡ false → own_at job e ≡ None
 unfolding own_at
 own-not job e h = rw h
 
@@ -107,7 +107,7 @@ unfolding names
 names-not job d e h = ap (names d) (own-not job e h)
 
 module _ (d : List ℕ) (at : ℕ) (m : Option Address) (ms : List (Option Address)) where
-  pub mine-here : names d m ≡ true → first_mine d at (m ∷ ms) ≡ At at
+  pub mine-here : names d m ≡ true → first_mine d at (m ∷ ms) ≡ Some at
   unfolding first_mine
   mine-here h = rw (h, first_mine)
 
@@ -124,20 +124,31 @@ found_among d at (m ∷ ms) =
     (λ h. ap is_found (mine-here d at m ms h) ∙ sym (ap (λ (b : Bool). b || among d ms) h))
     (λ h. ap is_found (mine-later d at m ms h) ∙ found_among d (at + 1) ms ∙ sym (ap (λ (b : Bool). b || among d ms) h))
 
-pub never : {P : Type 0} (i : ℕ) → ◌≡◌ {A = Found} Nothing (At i) → P
-never i h = let bad : ◌≡◌ {A = ℕ} 0 1 = cc in absurd (omega arith)
+pub never : {P : Type 0} (i : ℕ) → ◌≡◌ {A = Option ℕ} None (Some i) → P
+never i h = cc
+
+-- the library's words for it
+pub found_some : (o : Option ℕ) → is_some o ≡ is_found o
+found_some (Some i) = refl
+found_some None = refl
+
+pub found_none : (o : Option ℕ) (b : Bool) → is_some o ≡ not b → not (is_found o) ≡ b
+found_none (Some i) true h = sym h
+found_none (Some i) false h = refl
+found_none None true h = refl
+found_none None false h = sym h
 
 -- where it finds it
-pub mine_range : (d : List ℕ) (at : ℕ) (ms : List (Option Address)) (i : ℕ) → first_mine d at ms ≡ At i → (at ≤ i) × (i < at + length ms)
+pub mine_range : (d : List ℕ) (at : ℕ) (ms : List (Option Address)) (i : ℕ) → first_mine d at ms ≡ Some i → (at ≤ i) × (i < at + length ms)
 unfolding first_mine
 mine_range d at [] i h = never i h
 mine_range d at (m ∷ ms) i h =
     by_test (names d m)
-    (λ t. let z : At at ≡ At i = sym (mine-here d at m ms t) ∙ h in let q : at ≡ i = cc in (omega arith, omega arith))
+    (λ t. let z : Some at ≡ Some i = sym (mine-here d at m ms t) ∙ h in let q : at ≡ i = cc in (omega arith, omega arith))
     (λ t. let ih = mine_range d (at + 1) ms i (sym (mine-later d at m ms t) ∙ h) in (omega arith, omega arith))
 
 -- the place that a search gives is the one that it found
-pub at-is : (k i n : ℕ) → ◌≡◌ {A = Found} (At k) (At i) → k < n → i < n
+pub at-is : (k i n : ℕ) → ◌≡◌ {A = Option ℕ} (Some k) (Some i) → k < n → i < n
 at-is k i n h l = let e : k ≡ i = cc in subst (λ (j : ℕ). j < n) e l
 
 -- ---- a job's own from entry k of a table on
@@ -147,10 +158,10 @@ module _ (job : ℕ) (t : List ℕ) (k : ℕ) (h : k < table_entries) where
 
   pub own-from : drop k own ≡ own_at job (entry_at t k) ∷ drop (k + 1) own
   own-from =
-      drop-cons own k none (omega (arith, sixteen job t))
+      drop-cons own k None (omega (arith, sixteen job t))
       ∙ ap₂ (λ (m : Option Address) (n : ℕ). m ∷ drop n own) (own_is job t k h) (sym (add-one k))
 
-  pub search_here : (d : List ℕ) → names d (own_at job (entry_at t k)) ≡ true → first_mine d k (drop k own) ≡ At k
+  pub search_here : (d : List ℕ) → names d (own_at job (entry_at t k)) ≡ true → first_mine d k (drop k own) ≡ Some k
   search_here d e = ap (first_mine d k) own-from ∙ mine-here d k (own_at job (entry_at t k)) (drop (k + 1) own) e
 
   pub search_next : (d : List ℕ) → names d (own_at job (entry_at t k)) ≡ false → first_mine d (k + 1) (drop (k + 1) own) ≡ first_mine d k (drop k own)
@@ -159,7 +170,7 @@ module _ (job : ℕ) (t : List ℕ) (k : ℕ) (h : k < table_entries) where
 pub own-end : (job : ℕ) (t : List ℕ) (k : ℕ) → table_entries ≤ k → drop k (own_entries job t) ≡ []
 own-end job t k h = drop_of_length-le (own_entries job t) {i = k} (omega (arith, sixteen job t))
 
-pub search_end : (job : ℕ) (t : List ℕ) (k : ℕ) (d : List ℕ) → table_entries ≤ k → first_mine d k (drop k (own_entries job t)) ≡ Nothing
+pub search_end : (job : ℕ) (t : List ℕ) (k : ℕ) (d : List ℕ) → table_entries ≤ k → first_mine d k (drop k (own_entries job t)) ≡ None
 unfolding first_mine
 search_end job t k d h = ap (first_mine d k) (own-end job t k h)
 
@@ -177,13 +188,18 @@ held_cons job e ms =
     (λ h. ap (λ (m : Option Address). held (m ∷ ms)) (own_held job e h) ∙ sym (ap (λ (b : Bool). one_if b + held ms) h))
     (λ h. ap (λ (m : Option Address). held (m ∷ ms)) (own-not job e h) ∙ sym (ap (λ (b : Bool). one_if b + held ms) h ∙ zero-add (held ms)))
 
+-- the library's word for it
+one_from : (b : Bool) → from_bool b ≡ one_if b
+one_from true = refl
+one_from false = refl
+
 -- one turn of the count: b says whether entry k is the job's
-pub held-step : (job : ℕ) (t : List ℕ) (k n x total : ℕ) (b : Bool) → k < table_entries → b ≡ is_held job (entry_at t k).holder → x ≡ one_if b
-    → n + held (drop k (own_entries job t)) ≡ total → n + x + held (drop (k + 1) (own_entries job t)) ≡ total
+pub held-step : (job : ℕ) (t : List ℕ) (k n x total : ℕ) (b : Bool) → k < table_entries → b ≡ is_held job (entry_at t k).holder → x ≡ from_bool b
+    → n + held (drop k (own_entries job t)) ≡ total → (x ≤ 1) × (n + x + held (drop (k + 1) (own_entries job t)) ≡ total)
 held-step job t k n x total b h e o s =
-    let one : x ≡ one_if (is_held job (entry_at t k).holder) = o ∙ ap one_if e in
+    let one : x ≡ one_if (is_held job (entry_at t k).holder) = o ∙ one_from b ∙ ap one_if e in
     let more = ap held (own-from job t k h) ∙ held_cons job (entry_at t k) (drop (k + 1) (own_entries job t)) in
-    omega arith
+    (by_test b (λ q. omega (arith, o ∙ ap from_bool q)) (λ q. omega (arith, o ∙ ap from_bool q)), omega arith)
 
 pub held-end : (job : ℕ) (t : List ℕ) (k : ℕ) → table_entries ≤ k → held (drop k (own_entries job t)) ≡ 0
 unfolding held
@@ -219,11 +235,11 @@ twice-end job t k h = ap twice (own-end job t k h)
 
 -- ---- a table in which every holder's octet is 0: nobody holds an entry
 
-zero_free : (job : ℕ) (t : List ℕ) (k : ℕ) → get_or t (8 * k) 0 ≡ 0 → own_at job (entry_at t k) ≡ none
+zero_free : (job : ℕ) (t : List ℕ) (k : ℕ) → get_or t (8 * k) 0 ≡ 0 → own_at job (entry_at t k) ≡ None
 unfolding entry_at holder_by own_at
 zero_free job t k h = rw h
 
-blank_from : (job k n : ℕ) (t : List ℕ) → ((i : ℕ) → k ≤ i → i < k + n → get_or t (8 * i) 0 ≡ 0) → mine job (entries_from k n t) ≡ replicate n none
+blank_from : (job k n : ℕ) (t : List ℕ) → ((i : ℕ) → k ≤ i → i < k + n → get_or t (8 * i) 0 ≡ 0) → mine job (entries_from k n t) ≡ replicate n None
 unfolding mine entries_from
 blank_from job k zero t h = refl
 blank_from job k (suc n) t h =
@@ -231,7 +247,7 @@ blank_from job k (suc n) t h =
     (zero_free job t k (h k (omega arith) (omega arith)))
     (blank_from job (k + 1) n t (λ i a b. h i (omega arith) (omega arith)))
 
-blank_fits : overfull (replicate table_entries none) ≡ false
+blank_fits : overfull (replicate table_entries None) ≡ false
 unfolding overfull held twice again
 blank_fits = refl
 
@@ -245,7 +261,7 @@ blank_good t h =
 -- ---- free entries
 
 module _ (test : Entry → Bool) (at : ℕ) (e : Entry) (es : List Entry) where
-  pub entry_here : test e ≡ true → first_entry test at (e ∷ es) ≡ At at
+  pub entry_here : test e ≡ true → first_entry test at (e ∷ es) ≡ Some at
   unfolding first_entry
   entry_here h = rw (h, first_entry)
 
@@ -261,12 +277,12 @@ module _ (t : List ℕ) (k : ℕ) (h : k < table_entries) where
       drop-cons (entries_of t) k z (omega (arith, entries_sixteen t))
       ∙ ap₂ (λ (e : Entry) (n : ℕ). e ∷ drop n (entries_of t)) (entry_is t k z h) (sym (add-one k))
 
-  pub free_here : unused (entry_at t k) ≡ true → first_entry unused k (drop k (entries_of t)) ≡ At k
+  pub free_here : unused (entry_at t k) ≡ true → first_entry unused k (drop k (entries_of t)) ≡ Some k
   free_here e = ap (first_entry unused k) entries_from_lem ∙ entry_here unused k (entry_at t k) (drop (k + 1) (entries_of t)) e
 
   pub free_next : unused (entry_at t k) ≡ false → first_entry unused (k + 1) (drop (k + 1) (entries_of t)) ≡ first_entry unused k (drop k (entries_of t))
   free_next e = sym (ap (first_entry unused k) entries_from_lem ∙ entry_later unused k (entry_at t k) (drop (k + 1) (entries_of t)) e)
 
-pub free_end : (t : List ℕ) (k : ℕ) → table_entries ≤ k → first_entry unused k (drop k (entries_of t)) ≡ Nothing
+pub free_end : (t : List ℕ) (k : ℕ) → table_entries ≤ k → first_entry unused k (drop k (entries_of t)) ≡ None
 unfolding first_entry
 free_end t k h = ap (first_entry unused k) (drop_of_length-le (entries_of t) {i = k} (omega (arith, entries_sixteen t)))

@@ -1,10 +1,10 @@
 -- A look at a job's entries that marks the last octets of their addresses: an address whose last octet is not marked is not listed. Assumes nothing.
+use Rattle.std.specs.Prelude.{None, Option, Some}
 use Prim.Native.Nat.{ℕ, ◌+◌, ◌*◌, ◌≤◌, ◌<◌}
 use native.Mathlib.Omega.{arith}
 use mathlib.Core.Path.{◌≡◌, refl, sym, ap, ◌∙◌, subst}
 use mathlib.Core.Bool.{Bool, true, false, ◌||◌, false≢true}
 use mathlib.Core.List.{List, ◌∷◌}
-use mathlib.Core.Option.{Option, none, some}
 use lib.ListN.{length, get_or, set, drop, length-set}
 use lib.Seq.{get_or-set_same, get_or-set_other}
 use lib.Dec.{eqb}
@@ -20,7 +20,7 @@ use Rattle.table.specs.Tests.{twice}
 use Rattle.table.specs.Steps.{Marked, Met}
 use Rattle.table.proofs.Entries.{again-held, again-not, own_held, own-not, own-from, own-end, twice-later}
 
-among_none : (d : List ℕ) (ms : List (Option Address)) → among d (none ∷ ms) ≡ among d ms
+among_none : (d : List ℕ) (ms : List (Option Address)) → among d (None ∷ ms) ≡ among d ms
 unfolding among names
 among_none d ms = refl
 
@@ -55,7 +55,7 @@ module _ (a : Address) (seen : List ℕ) (last : ℕ) (is : last ≡ get_or a.0 
       ∙ sym (ap (λ (i : ℕ). get_or (set seen last 1) i 0) is)
       ∙ get_or-set_same seen last 1 0 (omega arith)
 
-  marked_more : (ms : List (Option Address)) → Marked ms seen → Marked (some a ∷ ms) (set seen last 1)
+  marked_more : (ms : List (Option Address)) → Marked ms seen → Marked (Some a ∷ ms) (set seen last 1)
   unfolding among names
   marked_more ms marked =
       let n = marked.0 in (

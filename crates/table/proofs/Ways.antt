@@ -1,15 +1,13 @@
 -- Document 02, item 7: which address let a frame in. The number is above 0 exactly where the address rule accepts, and at most 31. Assumes nothing.
+use Rattle.std.specs.Prelude.{None, Option, Some}
 use Prim.Native.Nat.{ℕ, ◌+◌, ◌≤◌, ◌<◌}
 use native.Mathlib.Omega.{arith}
 use mathlib.Core.Path.{◌≡◌, refl, ap, ◌∙◌}
 use mathlib.Core.Bool.{Bool, true, false, ◌||◌, cond}
 use mathlib.Core.List.{List}
-use mathlib.Core.Option.{Option}
 use lib.ListN.{length}
 use lib.Dec.{ltb}
 use borrow.Author.Tests.{lt-ltb}
-use Rattle.line.specs.declared.Found.{Found}
-use Rattle.line.specs.declared.Found.TheVariants.{At, Nothing}
 use Rattle.line.specs.Limits.{table_entries}
 use Rattle.line.specs.Octets.{same_octets}
 use Rattle.station.specs.declared.Address.{Address}
@@ -50,17 +48,17 @@ module _ (s : Settings) (ms : List (Option Address)) (d : List ℕ) where
   unfolding way
   way-own b o = rw (b, o)
 
-  pub way-listed : same_octets d broadcast_address ≡ false → same_octets d s.own.0 ≡ false → (found : Found) → found ≡ first_mine d 0 ms
+  pub way-listed : same_octets d broadcast_address ≡ false → same_octets d s.own.0 ≡ false → (found : Option ℕ) → found ≡ first_mine d 0 ms
       → entry_way found s.promiscuous ≡ way s ms d
   unfolding way
   way-listed b o found e = rw (b, o, e)
 
 -- ---- it is at most 31, since there are 16 entries
 
-entry_le : (f : Found) (p : Bool) → ((i : ℕ) → f ≡ At i → i < table_entries) → entry_way f p ≤ 31
-entry_le (At i) p h = let k = h i refl in omega arith
-entry_le Nothing true h = omega arith
-entry_le Nothing false h = omega arith
+entry_le : (f : Option ℕ) (p : Bool) → ((i : ℕ) → f ≡ Some i → i < table_entries) → entry_way f p ≤ 31
+entry_le (Some i) p h = let k = h i refl in omega arith
+entry_le None true h = omega arith
+entry_le None false h = omega arith
 
 at_most : (p b o on : Bool) (w : ℕ) → w ≤ 31 → cond b (cond on 6 (otherwise_way p)) (cond o 1 w) ≤ 31
 at_most p true o true w h = omega arith
@@ -81,13 +79,13 @@ table-way-le s job t d = way-le s (own_entries job t) d (omega (arith, sixteen j
 
 -- ---- "Accepted and refused stay as they are."
 
-entry_above : (f : Found) (p : Bool) → ltb 0 (entry_way f p) ≡ (p || is_found f)
-entry_above (At i) true = lt-ltb 0 (16 + i) (omega arith)
-entry_above (At i) false = lt-ltb 0 (16 + i) (omega arith)
-entry_above Nothing true = refl
-entry_above Nothing false = refl
+entry_above : (f : Option ℕ) (p : Bool) → ltb 0 (entry_way f p) ≡ (p || is_found f)
+entry_above (Some i) true = lt-ltb 0 (16 + i) (omega arith)
+entry_above (Some i) false = lt-ltb 0 (16 + i) (omega arith)
+entry_above None true = refl
+entry_above None false = refl
 
-above : (p b o on : Bool) (f : Found) → ltb 0 (cond b (cond on 6 (otherwise_way p)) (cond o 1 (entry_way f p))) ≡ (p || cond b on (o || is_found f))
+above : (p b o on : Bool) (f : Option ℕ) → ltb 0 (cond b (cond on 6 (otherwise_way p)) (cond o 1 (entry_way f p))) ≡ (p || cond b on (o || is_found f))
 above true true o true f = refl
 above true true o false f = refl
 above false true o true f = refl

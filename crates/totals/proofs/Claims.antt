@@ -1,6 +1,8 @@
 -- Document 02, item 9, of the question and of filling: the answer is right whenever the totals are true (`answer_right`), true totals are never refused
 -- (`true_fit`) and so answer every place of a capture (`true_answers`); filling makes them true (`filled-true`) and, refused, changes none
 -- (`fill_refused-none`); which blocks are written into (`written_into_is`). Assumes nothing.
+use Rattle.std.specs.Prelude.{Err, Ok}
+use Rattle.station.specs.Numbers.{Checked}
 use Prim.Native.Nat.{ℕ, zero, suc, ◌+◌, ◌*◌, ◌/◌, ◌≤◌, ◌<◌}
 use native.Mathlib.Omega.{arith}
 use mathlib.Core.Path.{◌≡◌, refl, sym, ap, ◌∙◌}
@@ -17,25 +19,22 @@ use Rattle.line.proofs.Symbols.{by_test, starts-start, starts_other}
 use Rattle.line.proofs.Buffers.{length-capture}
 use Rattle.line.proofs.Tables.{first_next, first-other}
 use Rattle.station.specs.declared.Refusal.TheVariants.{BadBuffers, BadPlace, WrongTotals, HighTotal}
-use Rattle.station.specs.declared.Checked.{Checked}
-use Rattle.station.specs.declared.Checked.TheVariants.{Fine, Refused}
 use Rattle.station.specs.Station.{bad_buffers, bad_place}
 use Rattle.station.specs.Numbers.{checked_number}
-use Rattle.totals.specs.declared.Count.TheVariants.{Starts}
 use Rattle.totals.specs.Totals.{blocks, block_total, totals_from, true_totals, starts_before, answer, written_into, wrong_totals, high_total, before_refusals, fill_refusals, before_checked, before_place, fill_checked, filled}
 use Rattle.totals.proofs.Laws.{right, length_from, into, was_into}
 use Rattle.totals.proofs.Tests.{known, same_length, within}
 
 -- ---- the question
 
-answered : (r : Checked) (os ms : List ℕ) (place : ℕ) (ts : List ℕ) (n : ℕ) → before_checked r os ms place ts ≡ Starts n
-    → (r ≡ Fine) × (answer ts (capture os ms) place ≡ n)
+answered : (r : Checked) (os ms : List ℕ) (place : ℕ) (ts : List ℕ) (n : ℕ) → before_checked r os ms place ts ≡ Ok n
+    → (r ≡ Ok tt) × (answer ts (capture os ms) place ≡ n)
 unfolding before_checked
-answered (Refused x) os ms place ts n h = (cc, cc)
-answered Fine os ms place ts n h = (refl, cc)
+answered (Err x) os ms place ts n h = (cc, cc)
+answered (Ok _) os ms place ts n h = (refl, cc)
 
 -- "equals a count over everything before the place": "The answer is right whenever the totals are true."
-pub answer_right : (os ms : List ℕ) (place : ℕ) (ts : List ℕ) (n : ℕ) → ts ≡ true_totals (capture os ms) → before_place os ms place ts ≡ Starts n
+pub answer_right : (os ms : List ℕ) (place : ℕ) (ts : List ℕ) (n : ℕ) → ts ≡ true_totals (capture os ms) → before_place os ms place ts ≡ Ok n
     → n ≡ starts_before (capture os ms) place
 unfolding before_place
 answer_right os ms place ts n e h =
@@ -76,7 +75,7 @@ true_fit os ms ts even e =
 
 -- so that with them every place of a capture has its answer
 pub true_answers : (os ms : List ℕ) (place : ℕ) (ts : List ℕ) → ts ≡ true_totals (capture os ms) → bad_buffers os ms ≡ false → bad_place os place ≡ false
-    → before_place os ms place ts ≡ Starts (starts_before (capture os ms) place)
+    → before_place os ms place ts ≡ Ok (starts_before (capture os ms) place)
 unfolding before_place before_refusals before_checked
 true_answers os ms place ts e h2 h3 =
     let b = same_length os ms h2 in
@@ -84,27 +83,27 @@ true_answers os ms place ts e h2 h3 =
     let n = length-capture os ms b.0 in
     let w = within os place h3 in
     let fine =
-    first_next (Refused BadBuffers) _ h2
-    ∙ first_next (Refused BadPlace) _ h3
-    ∙ first_next (Refused WrongTotals) _ f.0
-    ∙ first_next (Refused HighTotal) _ f.1
-    ∙ first-other Fine in
-    ap (λ (r : Checked). before_checked r os ms place ts) fine ∙ ap Starts (right (capture os ms) ts place e (omega arith))
+    first_next (Err BadBuffers) _ h2
+    ∙ first_next (Err BadPlace) _ h3
+    ∙ first_next (Err WrongTotals) _ f.0
+    ∙ first_next (Err HighTotal) _ f.1
+    ∙ first-other (Ok tt) in
+    ap (λ (r : Checked). before_checked r os ms place ts) fine ∙ ap Ok (right (capture os ms) ts place e (omega arith))
 
 -- ---- filling: "one call fills them all for a capture"
 
-fill_makes : (k : Checked) (os ms ts : List ℕ) → (fill_checked k os ms ts).given ≡ Fine → (fill_checked k os ms ts).totals ≡ true_totals (capture os ms)
+fill_makes : (k : Checked) (os ms ts : List ℕ) → (fill_checked k os ms ts).given ≡ Ok tt → (fill_checked k os ms ts).totals ≡ true_totals (capture os ms)
 unfolding fill_checked
-fill_makes (Refused x) os ms ts h = cc
-fill_makes Fine os ms ts h = refl
+fill_makes (Err x) os ms ts h = cc
+fill_makes (Ok _) os ms ts h = refl
 
 fill_none : (k : Checked) (os ms ts : List ℕ) → 0 < checked_number (fill_checked k os ms ts).given → (fill_checked k os ms ts).totals ≡ ts
 unfolding fill_checked
-fill_none (Refused x) os ms ts h = refl
-fill_none Fine os ms ts h = absurd (omega arith)
+fill_none (Err x) os ms ts h = refl
+fill_none (Ok _) os ms ts h = absurd (omega arith)
 
 -- not refused, it makes the totals true, whatever they were
-pub filled-true : (os ms ts : List ℕ) → (filled os ms ts).given ≡ Fine → (filled os ms ts).totals ≡ true_totals (capture os ms)
+pub filled-true : (os ms ts : List ℕ) → (filled os ms ts).given ≡ Ok tt → (filled os ms ts).totals ≡ true_totals (capture os ms)
 unfolding filled
 filled-true os ms ts h = fill_makes (first (fill_refusals os ms ts)) os ms ts h
 

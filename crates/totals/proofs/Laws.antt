@@ -1,5 +1,6 @@
 -- Document 02, item 9: the answer is right whenever the totals are true (`right`); counted anew after a writing they stay true (`stay_true`), no other
 -- total is touched (`untouched`), and all of them counted are the true ones (`all_counted`). Assumes nothing.
+use Rattle.std.specs.Prelude.{min}
 use Prim.Native.Nat.{ℕ, zero, suc, ◌+◌, ◌-◌, ◌*◌, ◌/◌, ◌≤◌, ◌<◌}
 use native.Mathlib.Omega.{arith}
 use native.Mathlib.Nat.{le_of_suc-le-suc, not-suc-le-zero}
@@ -280,6 +281,14 @@ short_block c k to e h =
     let l : List Symbol = drop (block_size * k) c in
     let n : length l ≡ length c - block_size * k = length-drop (block_size * k) c in
     ap start_count (take_all (to - block_size * k) l (omega arith) ∙ sym (take_all block_size l (omega arith)))
+
+-- either one
+pub block_to : (c : List Symbol) (k to : ℕ) → block_size * k ≤ length c → to ≡ block_size * k + min (length c - block_size * k) block_size
+    → starts_in c (block_size * k) to ≡ block_total c k
+block_to c k to within e =
+    by_test (ltb (length c) (block_size * k + block_size))
+    (λ t. let h = ltb-true (length c) (block_size * k + block_size) t in short_block c k to (omega arith) (omega arith))
+    (λ t. let h = ltb-false (length c) (block_size * k + block_size) t in block_is c k to (omega arith))
 
 -- blocks counted up to block k, and up to the next
 pub begin : (c : List Symbol) (from : ℕ) (ts : List ℕ) → recounted c from (block_size * (from / block_size)) ts ≡ ts

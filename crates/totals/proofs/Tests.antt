@@ -1,4 +1,5 @@
 -- What the rows of the tables tell, and one turn of the loops over the totals. Assumes nothing.
+use Rattle.std.specs.Prelude.{Ok}
 use Prim.Native.Nat.{ℕ, zero, suc, ◌+◌, ◌≤◌, ◌<◌}
 use native.Mathlib.Omega.{arith}
 use native.Mathlib.Numerals.{add-one}
@@ -11,7 +12,6 @@ use lib.Dec.{eqb, ltb}
 use borrow.Author.Tests.{eqb-true, ltb-false}
 use Rattle.line.specs.Limits.{most_symbols, most_total}
 use Rattle.line.specs.Table.{first}
-use Rattle.station.specs.declared.Checked.TheVariants.{Fine}
 use Rattle.station.specs.declared.Refusal.TheVariants.{BadBuffers, BadPlace, WrongTotals, HighTotal}
 use Rattle.station.specs.Station.{bad_buffers, bad_place, total}
 use Rattle.station.proofs.Refusals.{fine_row, or-false, not-false}
@@ -41,7 +41,7 @@ pub record Known (os ms : List ℕ) (place : ℕ) (ts : List ℕ) : Type 0 where
   pub count : length ts ≡ blocks (length os)
   pub low : high_total ts ≡ false
 
-pub known : (os ms : List ℕ) (place : ℕ) (ts : List ℕ) → first (before_refusals os ms place ts) ≡ Fine → Known os ms place ts
+pub known : (os ms : List ℕ) (place : ℕ) (ts : List ℕ) → first (before_refusals os ms place ts) ≡ Ok tt → Known os ms place ts
 unfolding before_refusals
 known os ms place ts h =
     let r2 = fine_row BadBuffers _ h in
@@ -51,7 +51,7 @@ known os ms place ts h =
     let b = same_length os ms r2.0 in
     record { even = b.0; small = b.1; inside = within os place r3.0; count = as_many os ts r21.0; low = r22.0 }
 
-pub known_fill : (os ms ts : List ℕ) → first (fill_refusals os ms ts) ≡ Fine → (length os ≡ length ms) × (length ts ≡ blocks (length os))
+pub known_fill : (os ms ts : List ℕ) → first (fill_refusals os ms ts) ≡ Ok tt → (length os ≡ length ms) × (length ts ≡ blocks (length os))
 unfolding fill_refusals
 known_fill os ms ts h =
     let r2 = fine_row BadBuffers _ h in

@@ -78,11 +78,7 @@ pub whys_all : (os ms : List ℕ) → whys_of 0 (explained_from (length os + 1) 
 unfolding capture_whys program_table
 whys_all os ms = refl
 
--- an input that is not bad, and one that is
+-- an input that is not bad
 pub good_printed : (l : List ℕ) → bad_input l ≡ false → capture_whys (record_octets l) (record_marks l) ≡ printed_whys l
 unfolding printed_whys
 good_printed l h = rw h
-
-pub bad_printed : (l : List ℕ) → bad_input l ≡ true → (98 ∷ 97 ∷ 100 ∷ 32 ∷ 105 ∷ 110 ∷ 112 ∷ 117 ∷ 116 ∷ 10 ∷ []) ≡ printed_whys l
-unfolding printed_whys
-bad_printed l h = rw h

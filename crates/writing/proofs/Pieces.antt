@@ -1,15 +1,14 @@
 -- The pieces in which a frame is written are the frame's symbols, and what is written through two lent parts is written over the whole.
 -- Assumes nothing.
-use Prim.Native.Nat.{ℕ, zero, suc, ◌+◌, ◌-◌, ◌*◌, ◌/◌, ◌%◌, ◌≤◌, ◌<◌}
-use native.Mathlib.Nat.{add-zero}
+use Prim.Native.Nat.{ℕ, zero, suc, ◌+◌, ◌-◌, ◌/◌, ◌%◌, ◌≤◌, ◌<◌}
 use native.Mathlib.Numerals.{add-one}
 use native.Mathlib.Omega.{arith}
 use mathlib.Core.Path.{◌≡◌, refl, sym, ap, ◌∙◌}
 use mathlib.Core.List.{List, [], ◌∷◌, ◌++◌, map, append_assoc}
 use mathlib.Core.Bool.{cond}
 use lib.Dec.{eqb}
-use lib.Seq.{sets, drop-cons}
-use lib.ListN.{length, get_or, take, drop, replicate, length-append, length-replicate, drop_of_length-le}
+use lib.Seq.{sets, drop-cons, length-take-le}
+use lib.ListN.{length, get_or, drop, replicate, length-append, length-replicate, length-drop, drop_of_length-le}
 use borrow.Rule.Slice.PartMut.{mid_of, put_mid}
 use Rattle.line.specs.Limits.{lead_size}
 use Rattle.line.specs.Line.{Symbol, octets_of, marks_of, as_data, as_control, overwrite, preamble, idle, terminate}
@@ -72,16 +71,13 @@ pfc_pieces s k = simp append_assoc
 
 -- ---- the quanta of the classes, one by one
 
-pub quanta_begin : (l : List ℕ) (p named : ℕ) (qs : List Quanta) → sets l (p + 2 * 0) (class_quanta named (drop 0 qs)) ≡ sets l p (class_quanta named qs)
-quanta_begin l p named qs = rw add-zero
-
 pub quanta_turn : {l m : List ℕ} {p r x : ℕ} (left k : ℕ) (qs : List Quanta) (q : Quanta) → k < length qs
     → x ≡ cond (eqb (left % 2) 1) (get_or qs k q).0 0 → Put l p (high_first x) r m
-    → sets m (p + 2) (class_quanta (left / 2) (drop (k + 1) qs)) ≡ sets l p (class_quanta left (drop k qs))
+    → sets m r (class_quanta (left / 2) (drop (k + 1) qs)) ≡ sets l p (class_quanta left (drop k qs))
 unfolding class_quanta high_first
 quanta_turn {l} {m} {p} {r} {x} left k qs q h e put =
-    let n : p + 2 ≡ suc (suc p) = omega arith in
-    rw (drop-cons qs k q h, class_quanta, add-one, n, put.holds, e)
+    let two : r ≡ suc (suc p) = omega (arith, put.goes) in
+    rw (drop-cons qs k q h, class_quanta, add-one, two, put.holds, e)
 
 pub quanta_end : (l : List ℕ) (p left k : ℕ) (qs : List Quanta) → length qs ≤ k → sets l p (class_quanta left (drop k qs)) ≡ l
 unfolding class_quanta
@@ -89,21 +85,17 @@ quanta_end l p left k qs h = rw (drop_of_length-le qs {i = k} h)
 
 -- ---- the tags, one by one
 
-pub tags_begin : (l : List ℕ) (p n : ℕ) (ts : List Tag) → sets l (p + 4 * 0) (tag_octets (take (n - 0) (drop 0 ts))) ≡ sets l p (tag_octets (take n ts))
-tags_begin l p n ts = let all : n - 0 ≡ n = omega arith in rw (add-zero, all)
-
-pub tags_turn : {l m : List ℕ} {p r : ℕ} (n k : ℕ) (ts : List Tag) (t : Tag) → k < n → k < length ts
+pub tags_turn : {l m : List ℕ} {p r : ℕ} (k : ℕ) (ts : List Tag) (t : Tag) → k < length ts
     → Put l p (high_first (kind_field (get_or ts k t).kind) ++ high_first (get_or ts k t).control) r m
-    → sets m (p + 4) (tag_octets (take (n - (k + 1)) (drop (k + 1) ts))) ≡ sets l p (tag_octets (take (n - k) (drop k ts)))
+    → sets m r (tag_octets (drop (k + 1) ts)) ≡ sets l p (tag_octets (drop k ts))
 unfolding tag_octets high_first
-tags_turn {l} {m} {p} {r} n k ts t lt h put =
-    let four : p + 4 ≡ suc (suc (suc (suc p))) = omega arith in
-    let less : n - k ≡ suc (n - (k + 1)) = omega arith in
-    rw (less, drop-cons ts k t h, tag_octets, add-one, four, put.holds)
+tags_turn {l} {m} {p} {r} k ts t h put =
+    let four : r ≡ suc (suc (suc (suc p))) = omega (arith, put.goes) in
+    rw (drop-cons ts k t h, tag_octets, add-one, four, put.holds)
 
-pub tags_end : (l : List ℕ) (p n k : ℕ) (ts : List Tag) → n ≤ k → sets l p (tag_octets (take (n - k) (drop k ts))) ≡ l
+pub tags_end : (l : List ℕ) (p k : ℕ) (ts : List Tag) → length ts ≤ k → sets l p (tag_octets (drop k ts)) ≡ l
 unfolding tag_octets
-tags_end l p n k ts h = let none : n - k ≡ 0 = omega arith in rw none
+tags_end l p k ts h = rw (drop_of_length-le ts {i = k} h)
 
 -- ---- the octets and the marks of symbols
 
@@ -168,7 +160,7 @@ body_end idles body {os} {os₁} {e} p =
     let size = line_size idles body in
     (omega (arith, p.goes), omega (arith, p.goes))
 
-pub frame_laid : (idles : ℕ) (body : List ℕ) {os ms os₁ os' ms' : List ℕ} {e r : ℕ} → Put os 0 (lead ++ body) e os₁ → Put os₁ e (end_of idles os₁ e) r os'
+frame_laid : (idles : ℕ) (body : List ℕ) {os ms os₁ os' ms' : List ℕ} {e r : ℕ} → Put os 0 (lead ++ body) e os₁ → Put os₁ e (end_of idles os₁ e) r os'
     → Put ms 0 (frame_marks idles r) r ms' → length (on_line idles body) ≤ length os → length (on_line idles body) ≤ length ms
     → Laid os ms 0 (on_line idles body) r os' ms'
 unfolding end_of
@@ -186,21 +178,21 @@ frame_laid idles body {os} {ms} {os₁} {os'} {ms'} {e} {r} front end marks room
       marks = put-overwrite marks (omega arith) ∙ ap (overwrite ms 0) (ap (frame_marks idles) last ∙ sym (line_marks idles body));
     }
 
-pub idle_laid : (n : ℕ) {os ms os' ms' : List ℕ} {e r : ℕ} → Put os 0 (replicate n idle) e os' → Put ms 0 (replicate n 1) r ms' → n ≤ length os → n ≤ length ms
-    → Laid os ms 0 (idle_symbols n) r os' ms'
-idle_laid n {os} {ms} {os'} {ms'} {e} {r} octets marks room room' =
+pub idle_laid : (n : ℕ) {os ms os' ms' : List ℕ} {place e r : ℕ} → Put os place (replicate n idle) e os' → Put ms place (replicate n 1) r ms'
+    → place + n ≤ length os → place + n ≤ length ms → Laid os ms place (idle_symbols n) r os' ms'
+idle_laid n {os} {ms} {os'} {ms'} {place} {e} {r} octets marks room room' =
     let i = length-replicate {A = ℕ} n idle in
     let o = length-replicate {A = ℕ} n 1 in
     let k = idle_size n in
     record {
       goes = omega (arith, marks.goes);
-      octets = put-overwrite octets (omega arith) ∙ ap (overwrite os 0) (sym (idle-octets n));
-      marks = put-overwrite marks (omega arith) ∙ ap (overwrite ms 0) (sym (idle-marks n));
+      octets = put-overwrite octets (omega arith) ∙ ap (overwrite os place) (sym (idle-octets n));
+      marks = put-overwrite marks (omega arith) ∙ ap (overwrite ms place) (sym (idle-marks n));
     }
 
 -- ---- what is written through lent parts
 
-pub lent_back : {os ms : List ℕ} {place : ℕ} {new : List Symbol} {n : ℕ} {os' ms' : List ℕ} → place ≤ length os → place ≤ length ms
+lent_back : {os ms : List ℕ} {place : ℕ} {new : List Symbol} {n : ℕ} {os' ms' : List ℕ} → place ≤ length os → place ≤ length ms
     → Laid (mid_of place (length os - place) os) (mid_of place (length ms - place) ms) 0 new n os' ms'
     → Laid os ms place new (place + n) (put_mid place (length os - place) os os') (put_mid place (length ms - place) ms ms')
 lent_back {os} {ms} {place} {new} {n} {os'} {ms'} h g l =
@@ -209,3 +201,16 @@ lent_back {os} {ms} {place} {new} {n} {os'} {ms'} h g l =
       octets = put-part os place (octets_of new) os' h l.octets;
       marks = put-part ms place (marks_of new) ms' g l.marks;
     }
+
+pub part_size : (l : List ℕ) (at : ℕ) → length (mid_of at (length l - at) l) ≡ length l - at
+part_size l at = length-take-le (length l - at) (drop at l) (omega (arith, length-drop at l))
+
+-- a frame that is written and finished through the lent parts
+pub frame_at : (idles : ℕ) (body : List ℕ) {os ms os₁ os' ms' : List ℕ} {place e r : ℕ} → place + length (on_line idles body) ≤ length os
+    → place + length (on_line idles body) ≤ length ms → Put (mid_of place (length os - place) os) 0 (lead ++ body) e os₁
+    → Put os₁ e (end_of idles os₁ e) r os' → Put (mid_of place (length ms - place) ms) 0 (frame_marks idles r) r ms'
+    → Laid os ms place (on_line idles body) (place + r) (put_mid place (length os - place) os os') (put_mid place (length ms - place) ms ms')
+frame_at idles body {os} {ms} {os₁} {os'} {ms'} {place} {e} {r} h g front end marks =
+    let o = part_size os place in
+    let m = part_size ms place in
+    lent_back (omega arith) (omega arith) (frame_laid idles body front end marks (omega arith) (omega arith))

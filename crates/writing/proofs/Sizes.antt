@@ -13,7 +13,7 @@ use Rattle.station.specs.declared.Quanta.{Quanta}
 use Rattle.control.specs.Control.{reserved_group}
 use Rattle.writing.specs.declared.Client.{Client}
 use Rattle.writing.specs.declared.Classes.{Classes}
-use Rattle.writing.specs.Frames.{tags_sent, padded, client_body, gap, on_line, client_symbols, pause_body, class_quanta, pfc_body, pause_symbols, pfc_symbols, idle_symbols}
+use Rattle.writing.specs.Frames.{tags_sent, padded, client_body, gap, on_line, pause_body, class_quanta, pfc_body, idle_symbols}
 use Rattle.writing.proofs.TagLaws.{tag_length}
 
 -- what owning a struct tells of its array of structs: the array's length stands there at the list of their parts
@@ -42,18 +42,9 @@ pub client-body_size : (s : Settings) (c : Client) (d : List ℕ) → length c.d
 unfolding client_body
 client-body_size s c d dest own = simp (length-append, two, tag_length, padded_size) (omega arith)
 
-pub client_size : (idles : ℕ) (s : Settings) (c : Client) (d : List ℕ) → length c.dest.0 ≡ 6 → length s.own.0 ≡ 6
-    → length (client_symbols idles s c d) ≡ 27 + idles + tag_size * length (tags_sent c) + (length d + (least_data - length d))
-unfolding client_symbols
-client_size idles s c d dest own = simp (line_size, client-body_size s c d dest own) (omega arith)
-
 pub pause-body_size : (s : Settings) (q : Quanta) → length s.own.0 ≡ 6 → length (pause_body s q) ≡ least_body
 unfolding pause_body
 pause-body_size s q own = simp (length-append, two, group-six, length-replicate) (omega arith)
-
-pub pause_size : (idles : ℕ) (s : Settings) (q : Quanta) → length s.own.0 ≡ 6 → length (pause_symbols idles s q) ≡ 73 + idles
-unfolding pause_symbols
-pause_size idles s q own = simp (line_size, pause-body_size s q own) (omega arith)
 
 pub quanta_size : (named : ℕ) (qs : List Quanta) → length (class_quanta named qs) ≡ 2 * length qs
 unfolding class_quanta
@@ -63,10 +54,6 @@ quanta_size named (q ∷ qs) = simp (length-append, two, quanta_size (named / 2)
 pub pfc-body_size : (s : Settings) (k : Classes) → length s.own.0 ≡ 6 → length k.quanta ≡ 8 → length (pfc_body s k) ≡ least_body
 unfolding pfc_body
 pfc-body_size s k own eight = simp (length-append, two, group-six, quanta_size, length-replicate) (omega arith)
-
-pub pfc_size : (idles : ℕ) (s : Settings) (k : Classes) → length s.own.0 ≡ 6 → length k.quanta ≡ 8 → length (pfc_symbols idles s k) ≡ 73 + idles
-unfolding pfc_symbols
-pfc_size idles s k own eight = simp (line_size, pfc-body_size s k own eight) (omega arith)
 
 pub idle_size : (n : ℕ) → length (idle_symbols n) ≡ n
 unfolding idle_symbols

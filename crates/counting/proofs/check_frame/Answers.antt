@@ -1,9 +1,9 @@
 -- `counting::check_frame` meets its contract: each way out passes the rows that did not hold and stops at the one that did. Assumes nothing.
+use Rattle.std.specs.Prelude.{Ok}
 use Prim.Native.Nat.{ℕ}
 use mathlib.Core.Path.{◌≡◌, refl, sym, ◌∙◌}
 use Rattle.line.specs.Table.{first}
 use Rattle.line.proofs.Tables.{first-other}
-use Rattle.station.specs.declared.Checked.TheVariants.{Fine}
 use Rattle.station.specs.declared.Refusal.TheVariants.{BadSettings, BadBuffers, BadPlace, HighDeficit, WrongTotals, HighTotal}
 use Rattle.send.proofs.Refusals.{after, row_holds_lem, row_passed}
 use Rattle.totals.proofs.Tests.{same_length}
@@ -56,8 +56,7 @@ returns-then-high_deficit c = row_holds_lem HighDeficit _ (past-3 (goal.at.retur
 
 pub wrong_totals-requires : goal.wrong_totals-requires
 wrong_totals-requires c =
-    let b = c in
-    (same_length _ _ (sym b.bad_buffers.ensures ∙ b.if-bad_buffers.false)).1
+    (same_length _ _ (sym c.bad_buffers.ensures ∙ c.if-bad_buffers.false)).1
 
 pub returns-then-wrong_totals : goal.returns-then-wrong_totals
 unfolding frame_totals
@@ -69,4 +68,4 @@ returns-then-high_total c = row_holds_lem HighTotal _ (past-5 (goal.at.returns-t
 
 pub returns : goal.returns
 unfolding frame_totals
-returns c = sym (past-6 c ∙ first-other Fine)
+returns c = sym (past-6 c ∙ first-other (Ok tt))

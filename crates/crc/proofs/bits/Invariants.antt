@@ -1,11 +1,8 @@
--- `crc::bits` meets its contract. The loop's invariant: the m bits that are left to leave r give the result.
+-- `crc::bits` meets its contract. The loop's invariant: the bits so far have left r.
 -- Assumes nothing.
 use mathlib.Core.Path.{◌≡◌}
 use Rattle.crc.specs.Crc.{crc_bits}
 use Rattle.crc.proofs.bits.Given as goal
 
-abbrev pub invariant-loop-m : goal.invariant-loop-m
-invariant-loop-m l = crc_bits l.m l.r ≡ crc_bits l.n l.x
-
-abbrev pub decreases-loop-m : goal.decreases-loop-m
-decreases-loop-m l = l.m
+abbrev pub invariant-loop : goal.invariant-loop
+invariant-loop l = l.r ≡ crc_bits l.counter l.x

@@ -1,11 +1,8 @@
 -- `crc_tables::after16` meets its contract: the higher of the two registers.
 -- Assumes nothing.
-use mathlib.Core.Path.{ap, ◌∙◌}
-use Prim.Native.Nat.{ℕ, ◌/◌}
 use native.Mathlib.Omega.{arith}
 use Rattle.crc.proofs.Slices.{zeros_high}
 use Rattle.crc_tables.proofs.after16.Goals as goal
 
 pub returns : goal.returns
-returns c =
-    ap (λ (y : ℕ). y / 0x1_0000_0000) c.fold8.ensures ∙ zeros_high 8 8 c.args.x (omega arith)
+returns c = rw c.fold8.ensures (zeros_high 8 8 c.args.x (omega arith))

@@ -1,6 +1,6 @@
 -- `fcs::long` meets its contract: what the window leaves of the octets, by words.
 -- Assumes nothing.
-use mathlib.Core.Path.{refl, sym, ◌∙◌}
+use mathlib.Core.Path.{refl, sym}
 use Prim.Native.Nat.{◌≤◌}
 use native.Mathlib.Omega.{arith}
 use lib.ListN.{length, get_or-replicate}
@@ -18,6 +18,3 @@ pub words-requires : goal.words-requires
 words-requires c =
     let w = c.shorten.new.w in
     let room : 300 ≤ length w = omega arith in rw (length-take-le 300 w) (omega arith)
-
-pub returns : goal.returns
-returns c = c.words.ensures ∙ c.shorten.ensures

@@ -15,7 +15,7 @@ returns c =
     let args = c.args in
     let s = args.s.now in
     let x = bit_xor args.reg (get_or s args.at 0) in
-    let same = ap (bit_xor args.reg) c.register.ensures in
-    let low = c.wide32.ensures ∙ ap (λ (y : ℕ). y % 256) same in
+    let same = ap (bit_xor args.reg) c.from.ensures in
+    let low = c.from-2.ensures ∙ ap (λ (y : ℕ). y % 256) same in
     let one = c.after8.ensures ∙ ap (λ (y : ℕ). crc_zeros 8 (y * 0x100_0000_0000_0000)) low ∙ zeros_shifted 7 1 (x % 256) in
     ap₂ (λ (a b : ℕ). crc_over (bit_xor a b) (drop (args.at + 1) s)) one (ap (λ (y : ℕ). y / 256) same) ∙ turn_one s args.at args.reg (omega arith)

@@ -1,29 +1,23 @@
--- `fcs::turn12` meets its contract: four octets as one number, with four octets that are 0 before it, and eight more as another.
+-- `fcs::turn12` meets its contract: four octets as one number, and eight more as another.
 -- Assumes nothing.
 use mathlib.Core.Path.{◌≡◌, ap, ap₂, ◌∙◌}
-use Prim.Native.Nat.{ℕ, ◌+◌, ◌*◌, ◌<◌}
+use Prim.Native.Nat.{ℕ, ◌+◌}
 use native.Mathlib.Omega.{arith}
 use lib.Bits.{bit_xor, xor_lt}
-use lib.ListN.{get_or, drop}
+use lib.ListN.{drop}
 use Rattle.crc.specs.Crc.{crc_over}
-use Rattle.crc.specs.Words.{crc_zeros, word_at}
-use Rattle.crc.proofs.Linear.{turn_two, zeros_shifted}
-use borrow.Author.Rules.{rules}
+use Rattle.crc.specs.Words.{crc_zeros}
+use Rattle.crc.proofs.Linear.{turn_two}
 use Rattle.fcs.proofs.turn12.Goals as goal
 
-pub overflow_mul-wide32 : goal.overflow_mul-wide32
-overflow_mul-wide32 c =
-    let w = c.wide32.result in
-    let l = c.load4.result in
-    let below : bit_xor w l < 0x1_0000_0000 = xor_lt 32 w l (omega arith) (omega arith) in search rules
+pub after12-requires : goal.after12-requires
+after12-requires g c = xor_lt 32 c.from.result c.load4.result (omega arith) (omega arith)
 
 pub returns : goal.returns
-returns c =
+returns g c =
     let args = c.args in
     let s = args.s.now in
-    let bytes : (k : ℕ) → get_or s k 0 < 256 = λ k. omega (arith, c.shared_slice_known-1.given k) in
-    let x = ap₂ bit_xor c.wide32.ensures c.load4.ensures.0 in
-    let low = c.after16.ensures ∙ ap (λ (y : ℕ). crc_zeros 16 (y * 0x1_0000_0000)) x ∙ zeros_shifted 4 12 (bit_xor args.reg (word_at 3 s args.at)) in
+    let low = c.after12.ensures ∙ ap (crc_zeros 12) (ap₂ bit_xor c.from.ensures c.load4.ensures.0) in
     let high = c.after8-high.ensures ∙ ap (crc_zeros 8) c.load8.ensures in
     let e : args.at + 12 ≡ args.at + 4 + 8 = omega arith in
-    ap₂ crc_over (ap₂ bit_xor low high) (ap (λ (n : ℕ). drop n s) e) ∙ turn_two 3 7 s args.at args.reg bytes (omega arith)
+    ap₂ crc_over (ap₂ bit_xor low high) (ap (λ (n : ℕ). drop n s) e) ∙ turn_two 3 7 s args.at args.reg (λ k. omega (arith, c.type_inv.s k)) (omega arith)

@@ -1,10 +1,10 @@
 -- `fcs::turn8` meets its contract: eight octets as one number.
 -- Assumes nothing.
 use mathlib.Core.Path.{ap, ap₂, ◌∙◌}
-use Prim.Native.Nat.{ℕ, ◌+◌, ◌<◌}
+use Prim.Native.Nat.{ℕ, ◌+◌}
 use native.Mathlib.Omega.{arith}
 use lib.Bits.{bit_xor}
-use lib.ListN.{get_or, drop}
+use lib.ListN.{drop}
 use Rattle.crc.specs.Crc.{crc_over}
 use Rattle.crc.specs.Words.{crc_zeros}
 use Rattle.crc.proofs.Linear.{turn}
@@ -14,6 +14,5 @@ pub returns : goal.returns
 returns c =
     let args = c.args in
     let s = args.s.now in
-    let bytes : (k : ℕ) → get_or s k 0 < 256 = λ k. omega (arith, c.shared_slice_known-1.given k) in
-    let x = c.after8.ensures ∙ ap (crc_zeros 8) (ap₂ bit_xor c.wide32.ensures c.load8.ensures) in
-    ap (λ (r : ℕ). crc_over r (drop (args.at + 8) s)) x ∙ turn 7 s args.at args.reg bytes (omega arith)
+    let x = c.after8.ensures ∙ ap (crc_zeros 8) (ap₂ bit_xor c.from.ensures c.load8.ensures) in
+    ap (λ (r : ℕ). crc_over r (drop (args.at + 8) s)) x ∙ turn 7 s args.at args.reg (λ k. omega (arith, c.type_inv.s k)) (omega arith)

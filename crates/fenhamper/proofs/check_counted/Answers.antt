@@ -11,8 +11,7 @@ use Rattle.fenhamper.proofs.check_counted.Goals as goal
 pub returns : goal.returns
 unfolding state_of
 returns c =
-    let ported = c in
-    let a = ported.args in
+    let a = c.args in
     c.check_frame.ensures
     ∙ ap₂ (λ (s : Settings) (p : Port). first (frame_totals s p (get_or a.state.now 19 0) a.octets.now a.marks.now a.place a.totals.now))
-    ported.settings.ensures ported.port_of.ensures
+    c.settings.ensures c.port_of.ensures

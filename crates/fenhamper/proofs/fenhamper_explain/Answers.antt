@@ -8,9 +8,7 @@ use Rattle.fenhamper.proofs.fenhamper_explain.Goals as goal
 
 pub returns : goal.returns
 returns c =
-    let called = c in
-    let set = called in
-    let a = set.args in
+    let a = c.args in
     c.explain_numbers.ensures
     ∙ ap explain_numbers
-    (called.explain.ensures ∙ ap (λ (s : Settings). explained s a.job (entries_of a.table.now) a.octets.now a.marks.now a.place) set.settings.ensures)
+    (c.explain.ensures ∙ ap (λ (s : Settings). explained s a.job (entries_of a.table.now) a.octets.now a.marks.now a.place) c.settings.ensures)

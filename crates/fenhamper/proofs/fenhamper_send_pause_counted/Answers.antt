@@ -1,7 +1,7 @@
 -- `fenhamper::fenhamper_send_pause_counted` meets its contract: refused by the tests up to 22, or the exported call without totals and its blocks counted anew. Assumes nothing.
+use Rattle.std.specs.Prelude.{Ok}
 use mathlib.Core.Path.{◌≡◌, sym, ◌∙◌}
 use Rattle.line.specs.Table.{first}
-use Rattle.station.specs.declared.Checked.TheVariants.{Fine}
 use Rattle.counting.specs.Counting.{frame_totals, pause_counting}
 use Rattle.counting.proofs.Calls.{known_frame, pause_leaves}
 use Rattle.crossing.specs.Records.{settings_of, state_of, port_of, quanta_of}
@@ -10,27 +10,23 @@ use Rattle.fenhamper.proofs.fenhamper_send_pause_counted.Goals as goal
 use Rattle.fenhamper.proofs.fenhamper_send_pause_counted.Goals.{In_default}
 
 fine : (c : In_default) → let a = c.args in
-    first (frame_totals (settings_of a.s.now) (port_of a.port) (state_of a.state.now).deficit a.octets.now a.marks.now a.place a.totals.now) ≡ Fine
-fine c = sym c.check_counted-checked.ensures ∙ c.in_default.is
+    first (frame_totals (settings_of a.s.now) (port_of a.port) (state_of a.state.now).deficit a.octets.now a.marks.now a.place a.totals.now) ≡ Ok tt
+fine c = sym c.check_counted.ensures ∙ c.in_default.is
 
-pub returns-in-Refused : goal.returns-in-Refused
+pub returns-in-Err : goal.returns-in-Err
 unfolding pause_counting
-returns-in-Refused c =
-    refused_crosses _ _ _ _ _ _ _ _ _ (sym c.check_counted-checked.ensures ∙ c.in-Refused.is) c.refused_numbers.ensures
+returns-in-Err c =
+    refused_crosses _ _ _ _ _ _ _ _ _ (sym c.check_counted.ensures ∙ c.in-Err.is) c.refused_numbers.ensures
 
 pub recount-requires : goal.recount-requires
 recount-requires c =
-    let m = c in
-    let f = m in
-    let a = f.args in
-    let k = known_frame _ _ _ _ _ _ _ (fine (goal.at.recount-requires f).In_default) in
+    let a = c.args in
+    let k = known_frame _ _ _ _ _ _ _ (fine (goal.at.recount-requires c).In_default) in
     let n = countable_crossed _ _ k (pause_leaves (state_of a.state.now) _ _ _ _ k (settings_of a.s.now) (port_of a.port) (quanta_of a.quanta))
-    m.fenhamper_send_pause.ensures in
+    c.fenhamper_send_pause.ensures in
     (n.even, n.inside, n.count)
 
 pub returns : goal.returns
 unfolding pause_counting
 returns c =
-    let r = c in
-    let m = r in
-    made_crosses _ _ _ _ _ _ _ _ (fine (goal.at.returns m).In_default) m.fenhamper_send_pause.ensures r.recount.ensures
+    made_crosses _ _ _ _ _ _ _ _ (fine (goal.at.returns c).In_default) c.fenhamper_send_pause.ensures c.recount.ensures

@@ -10,12 +10,8 @@ use Rattle.fenhamper.proofs.fenhamper_sizes_add_capture.Goals as goal
 pub returns : goal.returns
 unfolding add_told
 returns c =
-    let told = c in
-    let called = told in
-    let set = called in
-    let sized = set in
-    let a = sized.args in
-    ap₂ sizes_given c.checked_number.ensures told.sizes_numbers.ensures
+    let a = c.args in
+    ap₂ sizes_given c.checked_number.ensures c.sizes_numbers.ensures
     ∙ ap add_told
-    (called.add_capture-a.ensures
-    ∙ ap₂ (λ (t : SizeTable) (s : Settings). adding t s a.job (entries_of a.table.now) a.octets.now a.marks.now) sized.sizes_of.ensures set.settings.ensures)
+    (c.add_capture-a.ensures
+    ∙ ap₂ (λ (t : SizeTable) (s : Settings). adding t s a.job (entries_of a.table.now) a.octets.now a.marks.now) c.sizes_of.ensures c.settings.ensures)

@@ -5,7 +5,4 @@ use Rattle.crossing.specs.Bands.{sizes_numbers}
 use Rattle.fenhamper.proofs.fenhamper_sizes_add_table.Goals as goal
 
 pub returns : goal.returns
-returns c =
-    let added = c in
-    let second = added in
-    c.sizes_numbers.ensures ∙ ap sizes_numbers (added.add_tables.ensures ∙ ap₂ add_tables second.sizes_of-t.ensures second.sizes_of-u.ensures)
+returns c = c.sizes_numbers.ensures ∙ ap sizes_numbers (c.add_tables.ensures ∙ ap₂ add_tables c.sizes_of-t.ensures c.sizes_of-u.ensures)

@@ -5,4 +5,4 @@ use Rattle.fenhamper.proofs.Calls.{table_crosses}
 use Rattle.fenhamper.proofs.fenhamper_table_add.Goals as goal
 
 pub returns : goal.returns
-returns c = table_crosses _ c.give_entry.ensures (c.add-placed.ensures ∙ ap (added _ _) c.address.ensures)
+returns c = table_crosses _ c.give_entry.ensures (c.add.ensures ∙ ap (added _ _) c.address.ensures)

@@ -1,13 +1,10 @@
--- `flow::lower` meets its contract: a turn is `rest-step` of Each. Assumes nothing.
-use Prim.Native.Nat.{◌-◌, ◌≤◌}
-use mathlib.Core.Path.{◌≡◌}
-use lib.ListN.{length}
-use Rattle.flow.proofs.Each.{each, rest}
-use Rattle.flow.proofs.TimerLaws.{lowered_by}
+-- `flow::lower` meets its contract: what is lowered, and what is still to be lowered, make up the whole. Assumes nothing.
+use Rattle.std.proofs.Common.{◌≡◌, ◌++◌, length, take, drop}
+use Rattle.flow.specs.Timers.{lowered}
 use Rattle.flow.proofs.lower.Given as goal
 
-abbrev pub invariant-loop-k : goal.invariant-loop-k
-invariant-loop-k l = (l.k ≤ 8) × (length l.timers ≡ 8) × (rest (lowered_by l.n) l.k l.timers ≡ each (lowered_by l.n) 0 l.initial.timers)
-
-abbrev pub decreases-loop-k : goal.decreases-loop-k
-decreases-loop-k l = 8 - l.k
+abbrev pub invariant-loop-t : goal.invariant-loop-t
+invariant-loop-t l = record {
+  eight : length l.t-items ≡ 8;
+  whole : take l.t-index l.t-items ++ lowered l.n (drop l.t-index l.t-items) ≡ lowered l.n l.initial.t-items;
+}

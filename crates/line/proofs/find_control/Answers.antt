@@ -14,44 +14,39 @@ pub returns-then-end-place : goal.returns-then-end-place
 unfolding find_control
 returns-then-end-place c =
     let a = c.args in
-    search_none is_control a.octets.now a.marks.now a.place _ c.shorter-end.ensures.2 c.if-end-place.true
+    search_none is_control a.octets.now a.marks.now a.place _ (λ h. omega arith) c.if-end-place.true
 
 pub bounds-marks-place : goal.bounds-marks-place
-bounds-marks-place c = let s = c.shorter-end.ensures in omega arith
+bounds-marks-place c = omega arith
 
 pub returns-then-marks-place-ne0 : goal.returns-then-marks-place-ne0
 unfolding find_control
 returns-then-marks-place-ne0 c =
-    let e = c in
-    let a = e.args in
-    let s = e.shorter-end.ensures in
+    let a = c.args in
     let x = symbol_at a.octets.now a.marks.now a.place in
     sym (search_here is_control a.octets.now a.marks.now a.place (omega arith) (omega arith) (control_tests x c.if-marks-place-ne0.true))
 
 -- from the place called with to where the last search stopped
-data-to : (c : After-first_mark-k) → (let e = c in let a = e.args in
-    Passed (Miss is_control a.octets.now a.marks.now) a.place c.first_mark-k.result e.shorter-end.result)
+data-to : (c : After-first_mark-k) → (let a = c.args in
+    Passed (Miss is_control a.octets.now a.marks.now) a.place c.first_mark-k.result c.min-end.result)
 data-to c =
-    let d = c in
-    let a = d.args in
-    let blocks = passed_on _ _ _ _ _ d.pass_data-h.ensures c.pass_data-i.ensures in
+    let a = c.args in
+    let blocks = passed_on _ _ _ _ _ c.pass_data-h.ensures c.pass_data-i.ensures in
     let words = passed_on _ _ _ _ _ blocks c.pass_words-j.ensures in
     passed_as (data_passed a.octets.now a.marks.now) (passed_on _ _ _ _ _ words c.first_mark-k.ensures.passed)
 
 pub returns-then-k-end : goal.returns-then-k-end
 unfolding find_control
 returns-then-k-end c =
-    let e = c in
-    let a = e.args in
-    let s = e.shorter-end.ensures in
+    let a = c.args in
     let b = c.first_mark-k in
-    search_found is_control a.octets.now a.marks.now a.place b.result _ s.0 s.1 (data-to (goal.at.returns-then-k-end c).After-first_mark-k) c.if-k-end.true
+    search_found is_control a.octets.now a.marks.now a.place b.result _ (omega arith) (omega arith)
+    (data-to (goal.at.returns-then-k-end c).After-first_mark-k) c.if-k-end.true
     (control_tests (symbol_at a.octets.now a.marks.now b.result) (b.ensures.here c.if-k-end.true))
 
 pub returns : goal.returns
 unfolding find_control
 returns c =
-    let e = c in
-    let a = e.args in
-    let s = e.shorter-end.ensures in
-    search_ended is_control a.octets.now a.marks.now a.place _ _ s.0 s.1 s.2 (data-to (goal.at.returns c).After-first_mark-k) c.if-k-end.false
+    let a = c.args in
+    search_ended is_control a.octets.now a.marks.now a.place _ _ (omega arith) (omega arith) (λ h. omega arith)
+    (data-to (goal.at.returns c).After-first_mark-k) c.if-k-end.false

@@ -1,6 +1,7 @@
 -- `logging::record_of` meets its contract: each case of the answer gives its outcome, number of the address, octets handed out and status word. Assumes nothing.
 use Prim.Native.Nat.{ℕ}
 use mathlib.Core.Path.{sym, ap, ◌∙◌}
+use mathlib.Core.Logic.{⊎_elim}
 use Rattle.receive.specs.declared.Answer.{Answer}
 use Rattle.reading_log.specs.declared.Record.{Record}
 use Rattle.receive.specs.Values.{answer_outcome, answer_status, answer_part, answer_way}
@@ -13,15 +14,9 @@ answered start a = record_at start (answer_outcome a) (answer_way a) (answer_par
 
 pub returns-in-Refused : goal.returns-in-Refused
 unfolding record_of_reading
-returns-in-Refused c = c.record_at.ensures ∙ ap (answered _) (sym c.in-Refused.is)
-
-pub returns-in-Nothing : goal.returns-in-Nothing
-unfolding record_of_reading
-returns-in-Nothing c = c.record_at-in-Nothing.ensures ∙ ap (answered _) (sym c.in-Nothing.is)
-
-pub returns-in-Open : goal.returns-in-Open
-unfolding record_of_reading
-returns-in-Open c = c.record_at-in-Open.ensures ∙ ap (answered _) (sym c.in-Open.is)
+returns-in-Refused c =
+    let told = answered c.args.r.start in
+    c.record_at.ensures ∙ ⊎_elim (λ e. ap told (sym e.1)) (⊎_elim (λ e. ap told (sym e)) (λ e. ap told (sym e))) c.in-Refused.is
 
 pub returns-in-Counted : goal.returns-in-Counted
 unfolding record_of_reading

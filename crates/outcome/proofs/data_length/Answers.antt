@@ -8,5 +8,5 @@ use Rattle.outcome.proofs.data_length.Goals as goal
 pub returns : goal.returns
 returns c =
     let a = c.args in
-    let e = ap length c.frame_data-data.ensures in
+    let e = ap length c.frame_data.ensures in
     (e, omega (arith, data_length a.place a.f.now))

@@ -47,7 +47,7 @@ fcs-is c =
     ∙ wrong-by ((frame_of c.args.run.now)) _ (check-is c)
 
 past-0 : (c : In_default) → past 0 c
-past-0 c = outcome_framed _ _ _ _ (sym c.before_tags-e.ensures ∙ c.in_default.is)
+past-0 c = outcome_framed _ _ _ _ (sym c.before_tags.ensures ∙ c.in_default.is)
 
 past-1 : (c : Else-oversized) → past 1 (goal.at.Else-oversized c).In_default
 past-1 c = row_passed Oversized _ (past-0 (goal.at.Else-oversized c).In_default) (limit_is (goal.at.Else-oversized c).After-oversized) c.if-oversized.false
@@ -55,9 +55,9 @@ past-1 c = row_passed Oversized _ (past-0 (goal.at.Else-oversized c).In_default)
 past-2 : (c : Else-differs) → past 2 (goal.at.Else-differs c).In_default
 past-2 c = row_passed WrongFcs _ (past-1 (goal.at.Else-differs c).Else-oversized) (fcs-is (goal.at.Else-differs c).After-differs) c.if-differs.false
 
-pub returns-in-Decided : goal.returns-in-Decided
-returns-in-Decided c =
-    let e = sym c.before_tags-e.ensures ∙ c.in-Decided.is in
+pub returns-in-Some : goal.returns-in-Some
+returns-in-Some c =
+    let e = sym c.before_tags.ensures ∙ c.in-Some.is in
     told _ _ _ _ _ _ (sym (outcome_decided _ _ _ _ _ e)) (early-made _ _ _ _ e)
 
 pub returns-then-oversized : goal.returns-then-oversized
@@ -74,8 +74,8 @@ returns c =
     let p = d in
     let s = p.args.s in
     let es = (let a = p.args in own_entries a.job a.table.now) in
-    let late : c.after_fcs-late.result ≡ first (late_outcomes s es ((frame_of p.args.run.now)) (layout_of ((frame_of p.args.run.now)))) =
-    c.after_fcs-late.ensures
+    let late : c.after_fcs.result ≡ first (late_outcomes s es ((frame_of p.args.run.now)) (layout_of ((frame_of p.args.run.now)))) =
+    c.after_fcs.ensures
     ∙ ap₂ (λ (f : List ℕ) (n : ℕ). first (late_outcomes s es f (laid_out n f))) (frame_is (goal.at.returns p).After-tag_count-tags) (tags_are (goal.at.returns p).After-tag_count-tags)
     ∙ ap (λ (l : Layout). first (late_outcomes s es ((frame_of p.args.run.now)) l)) (laid_own ((frame_of p.args.run.now)))
     in

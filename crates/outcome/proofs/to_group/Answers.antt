@@ -1,11 +1,9 @@
 -- `outcome::to_group` meets its contract. Assumes nothing.
-use mathlib.Core.Path.{sym}
-use native.Mathlib.Omega.{arith}
-use Rattle.outcome.proofs.Words.{group-octet, group-none}
+use Prim.Native.Nat.{ℕ, ◌%◌}
+use mathlib.Core.Path.{sym, ap, ◌∙◌}
+use lib.Dec.{eqb}
+use Rattle.outcome.proofs.Words.{group-octet}
 use Rattle.outcome.proofs.to_group.Goals as goal
 
-pub returns-then-f-eq0 : goal.returns-then-f-eq0
-returns-then-f-eq0 c = sym (group-none _ (omega arith))
-
 pub returns : goal.returns
-returns c = sym (group-octet _)
+returns c = ap (λ (o : ℕ). eqb (o % 2) 1) c.octet.ensures ∙ sym (group-octet _)

@@ -1,4 +1,4 @@
--- `lines::bad_input` meets its contract. The test decides. Assumes nothing.
+-- `bad_input` meets its contract. The test decides. Assumes nothing.
 use borrow.Author.Tests.{eq-eqb, ne_eqb}
 use Rattle.printing.specs.Lines.{bad_input}
 use Rattle.printing.proofs.bad_input.Goals as goal
@@ -7,6 +7,6 @@ pub returns-then-input-eq1 : goal.returns-then-input-eq1
 unfolding bad_input
 returns-then-input-eq1 c = rw (eq-eqb _ _ c.if-input-eq1.true)
 
-pub returns : goal.returns
+pub returns-else-input-eq1 : goal.returns-else-input-eq1
 unfolding bad_input
-returns c = rw (ne_eqb _ _ c.if-input-eq1.false)
+returns-else-input-eq1 c = rw (ne_eqb _ _ c.if-input-eq1.false)

@@ -7,15 +7,11 @@ use Rattle.reading_log.proofs.room.Goals as goal
 
 pub returns-then-k-log : goal.returns-then-k-log
 returns-then-k-log c =
-    let d = c in
-    let s = d in
-    let l = s.args.log.now in
-    let r : roomy l ≡ compacted l = roomy-compacts l (sym s.requires.1 ∙ d.if-k-log.true) in
-    (d.compact_front.ensures.0 ∙ sym r, d.compact_front.ensures.1 ∙ sym (extent-compacted l s.requires.0) ∙ ap extent (sym r))
+    let l = c.args.log.now in
+    let r : roomy l ≡ compacted l = roomy-compacts l (sym c.requires.1 ∙ c.if-k-log.true) in
+    (c.compact_front.ensures.0 ∙ sym r, c.compact_front.ensures.1 ∙ sym (extent-compacted l c.requires.0) ∙ ap extent (sym r))
 
 pub returns : goal.returns
 returns c =
-    let s = c in
-    let l = s.args.log.now in
-    let r : roomy l ≡ l = roomy_stays l (λ q. c.if-k-log.false (s.requires.1 ∙ q)) in
-    (sym r, s.requires.1 ∙ ap extent (sym r))
+    let r = roomy_stays c.args.log.now (λ q. c.if-k-log.false (c.requires.1 ∙ q)) in
+    (sym r, c.requires.1 ∙ ap extent (sym r))

@@ -10,4 +10,4 @@ unfolding read_of
 returns c =
     let l = c.look-seen in
     let seen : State → Reading = (λ st. record { answer = l.result.answer; start = l.result.start; next = l.result.next; state = st }) in
-    ap seen c.state_after-after.ensures ∙ l.ensures.0 c.args.state
+    ap seen c.state_after.ensures ∙ l.ensures.0 c.args.state

@@ -1,4 +1,5 @@
 -- `send::check_client` meets its contract: each way out passes the rows that did not hold and stops at the one that did. Assumes nothing.
+use Rattle.std.specs.Prelude.{Ok}
 use Prim.Native.Nat.{ℕ, ◌+◌, ◌-◌, ◌*◌, ◌≤◌}
 use native.Mathlib.Omega.{arith}
 use mathlib.Core.Path.{◌≡◌, refl, sym, ap, ◌∙◌}
@@ -7,7 +8,6 @@ use borrow.Author.Rules.{rules}
 use Rattle.line.specs.Limits.{most_symbols, tag_size, least_data, least_limit, most_limit, around_body, most_tags}
 use Rattle.line.specs.Table.{first}
 use Rattle.line.proofs.Tables.{first-other}
-use Rattle.station.specs.declared.Checked.TheVariants.{Fine}
 use Rattle.station.specs.declared.Refusal.TheVariants.{BadSettings, BadBuffers, BadPlace, BadClass, BadType, LongData, NoRoom, Held, ManyTags, HighDeficit}
 use Rattle.writing.specs.Frames.{client_body}
 use Rattle.writing.specs.declared.Gap.{Gap}
@@ -42,8 +42,7 @@ past-3 c = row_passed BadPlace _ (past-2 (goal.at.Else-bad_start c).Else-bad_buf
 place-small : (c : Else-bad_start) → let a = c.args in (a.place ≤ length a.octets.now) × (a.place ≤ most_symbols)
 place-small c =
     let p = inside-port _ _ _ (sym c.bad_start.ensures ∙ c.if-bad_start.false) in
-    let b = c in
-    let l = (same_length _ _ (sym b.bad_buffers.ensures ∙ b.if-bad_buffers.false)).1 in
+    let l = (same_length _ _ (sym c.bad_buffers.ensures ∙ c.if-bad_buffers.false)).1 in
     (p, omega arith)
 
 past-4 : (c : Else-high_deficit) → past 4 (goal.at.Else-high_deficit c).Start
@@ -93,11 +92,10 @@ body-small c =
 -- the octets that the FCS covers are as many as were reckoned
 body_is : (c : After-client_size-size) → let a = c.args in length (client_body a.s a.client a.d.now) ≡ c.client_size-size.result
 body_is c =
-    let s = c in
-    let a = s.args in
+    let a = c.args in
     let counted = ap (λ (n : ℕ). 14 + tag_size * n + (length a.d.now + (least_data - length a.d.now)))
-    (tags_count a.client (tags-8 (goal.at.After-client_size-size s).Start) (few_tags (goal.at.After-client_size-size c).Else-long_data)) in
-    client-body_size a.s a.client a.d.now (dest-6 (goal.at.After-client_size-size s).Start) (own-6 (goal.at.After-client_size-size s).Start) ∙ counted ∙ sym c.client_size-size.ensures
+    (tags_count a.client (tags-8 (goal.at.After-client_size-size c).Start) (few_tags (goal.at.After-client_size-size c).Else-long_data)) in
+    client-body_size a.s a.client a.d.now (dest-6 (goal.at.After-client_size-size c).Start) (own-6 (goal.at.After-client_size-size c).Start) ∙ counted ∙ sym c.client_size-size.ensures
 
 -- the gap is that of the port
 gap_of : (c : After-gap_behind-gap) → let a = c.args in
@@ -116,11 +114,9 @@ short-gap c =
 room : (c : After-no_room) → let a = c.args in
     c.no_room.result ≡ no_room a.octets.now a.place (symbols_on a.port a.state.deficit a.place (client_body a.s a.client a.d.now))
 room c =
-    let g = c in
-    let k = g in
-    let a = k.args in
-    let size = size_is a.port a.state.deficit a.place (client_body a.s a.client a.d.now) _ (body_is (goal.at.After-no_room k).After-client_size-size) in
-    let need = ap (λ (x : Gap). around_body + k.client_size-size.result + x.size) g.gap_behind-gap.ensures in
+    let a = c.args in
+    let size = size_is a.port a.state.deficit a.place (client_body a.s a.client a.d.now) _ (body_is (goal.at.After-no_room c).After-client_size-size) in
+    let need = ap (λ (x : Gap). around_body + c.client_size-size.result + x.size) c.gap_behind-gap.ensures in
     c.no_room.ensures ∙ room_by a.octets.now a.place _ _ (size ∙ sym need)
 
 past-9 : (c : Else-no_room) → past 9 (goal.at.Else-no_room c).Start
@@ -197,4 +193,4 @@ returns-then-held c = frame_stops _ Held _ (past-9 (goal.at.returns-then-held c)
 
 pub returns : goal.returns
 unfolding client_checked client_refusals
-returns c = frame-goes (gap_of (goal.at.returns c).After-gap_behind-gap) (past-10 c ∙ first-other Fine)
+returns c = frame-goes (gap_of (goal.at.returns c).After-gap_behind-gap) (past-10 c ∙ first-other (Ok tt))

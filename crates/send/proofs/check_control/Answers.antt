@@ -1,4 +1,6 @@
 -- `send::check_control` meets its contract: each way out passes the rows that did not hold and stops at the one that did. Assumes nothing.
+use Rattle.std.specs.Prelude.{Ok}
+use Rattle.station.specs.Numbers.{Checked}
 use Prim.Native.Nat.{ℕ, ◌+◌, ◌≤◌}
 use native.Mathlib.Omega.{arith}
 use mathlib.Core.Path.{◌≡◌, refl, sym, ap, ◌∙◌}
@@ -7,8 +9,6 @@ use lib.ListN.{length}
 use Rattle.line.specs.Limits.{most_symbols, least_body, around_body}
 use Rattle.line.specs.Table.{Table, first}
 use Rattle.line.proofs.Tables.{first-other}
-use Rattle.station.specs.declared.Checked.{Checked}
-use Rattle.station.specs.declared.Checked.TheVariants.{Fine}
 use Rattle.station.specs.declared.Refusal.TheVariants.{BadSettings, BadBuffers, BadPlace, OtherFlow, NoRoom, HighDeficit}
 use Rattle.writing.specs.declared.Gap.{Gap}
 use Rattle.writing.specs.Gaps.{gap_on, symbols_on}
@@ -49,8 +49,7 @@ past-5 c body = row_passed OtherFlow _ (past-4 (goal.at.Else-not-asked c).Else-h
 place-small : (c : Else-bad_start) → let a = c.args in (a.place ≤ length a.octets.now) × (a.place ≤ most_symbols)
 place-small c =
     let p = inside-port _ _ _ (sym c.bad_start.ensures ∙ c.if-bad_start.false) in
-    let b = c in
-    let l = (same_length _ _ (sym b.bad_buffers.ensures ∙ b.if-bad_buffers.false)).1 in
+    let l = (same_length _ _ (sym c.bad_buffers.ensures ∙ c.if-bad_buffers.false)).1 in
     (p, omega arith)
 
 -- the gap is that of the port
@@ -70,9 +69,8 @@ short-gap c =
 room : (c : After-no_room) (body : List ℕ) → length body ≡ least_body
     → let a = c.args in c.no_room.result ≡ no_room a.octets.now a.place (symbols_on a.port a.deficit a.place body)
 room c body e =
-    let g = c in
-    let a = g.args in
-    let need = ap (λ (x : Gap). around_body + least_body + x.size) g.gap_behind-gap.ensures in
+    let a = c.args in
+    let need = ap (λ (x : Gap). around_body + least_body + x.size) c.gap_behind-gap.ensures in
     c.no_room.ensures
     ∙ room_by a.octets.now a.place _ _ (size_is a.port a.deficit a.place body least_body e ∙ sym need)
 
@@ -115,4 +113,4 @@ returns-then-no_room c = λ body e. frame_stops _ NoRoom _ (past-5 (goal.at.retu
 
 pub returns : goal.returns
 unfolding control_refusals
-returns c = λ body e. frame-goes (gap_of (goal.at.returns c).After-gap_behind-gap body e) (past-6 c body e ∙ first-other Fine)
+returns c = λ body e. frame-goes (gap_of (goal.at.returns c).After-gap_behind-gap body e) (past-6 c body e ∙ first-other (Ok tt))

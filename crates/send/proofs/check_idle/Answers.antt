@@ -1,9 +1,9 @@
 -- `send::check_idle` meets its contract: each way out passes the rows that did not hold and stops at the one that did. Assumes nothing.
+use Rattle.std.specs.Prelude.{Ok}
 use Prim.Native.Nat.{ℕ}
 use mathlib.Core.Path.{◌≡◌, refl, sym, ◌∙◌}
 use Rattle.line.specs.Table.{first}
 use Rattle.line.proofs.Tables.{first-other}
-use Rattle.station.specs.declared.Checked.TheVariants.{Fine}
 use Rattle.station.specs.declared.Refusal.TheVariants.{BadBuffers, BadPlace, NoRoom}
 use Rattle.writing.specs.Frames.{idle_symbols}
 use Rattle.send.specs.Sending.{no_room, idle_refusals, idle_checked}
@@ -48,4 +48,4 @@ returns-then-no_room c = row_holds_lem NoRoom _ (past-2 (goal.at.returns-then-no
 
 pub returns : goal.returns
 unfolding idle_checked idle_refusals
-returns c = sym (past-3 c ∙ first-other Fine)
+returns c = sym (past-3 c ∙ first-other (Ok tt))

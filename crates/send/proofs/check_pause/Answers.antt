@@ -14,5 +14,4 @@ own-6 c = search rules
 pub returns : goal.returns
 unfolding pause_checked
 returns c = λ q.
-    let s = c in
-    in_mode _ _ _ _ _ _ _ (c.check_control.ensures _ (pause-body_size s.args.s q (own-6 (goal.at.returns s).Start))) c.is_pause_mode.ensures
+    in_mode _ _ _ _ _ _ _ (c.check_control.ensures _ (pause-body_size c.args.s q (own-6 (goal.at.returns c).Start))) c.is_pause_mode.ensures

@@ -14,5 +14,4 @@ own-6 c = search rules
 pub returns : goal.returns
 unfolding pfc_checked
 returns c = λ k eight.
-    let s = c in
-    in_mode _ _ _ _ _ _ _ (c.check_control.ensures _ (pfc-body_size s.args.s k (own-6 (goal.at.returns s).Start) eight)) c.is_pfc_mode.ensures
+    in_mode _ _ _ _ _ _ _ (c.check_control.ensures _ (pfc-body_size c.args.s k (own-6 (goal.at.returns c).Start) eight)) c.is_pfc_mode.ensures

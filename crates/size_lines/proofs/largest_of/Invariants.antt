@@ -1,12 +1,8 @@
--- `size_lines::largest_of` meets its contract: what was looked at is what stands from k on. Assumes nothing.
-use Prim.Native.Nat.{◌≤◌}
+-- `largest_of` meets its contract: what was looked at is what stands before the index. Assumes nothing.
 use mathlib.Core.Path.{◌≡◌}
-use lib.ListN.{length, drop}
+use lib.ListN.{take}
 use Rattle.size_lines.specs.Bars.{largest}
 use Rattle.size_lines.proofs.largest_of.Given as goal
 
-abbrev pub invariant-loop-k : goal.invariant-loop-k
-invariant-loop-k l = (l.k ≤ 7) × (length l.counts ≡ 7) × (l.most ≡ largest (drop l.k l.counts))
-
-abbrev pub decreases-loop-k : goal.decreases-loop-k
-decreases-loop-k l = l.k
+abbrev pub invariant-loop-n : goal.invariant-loop-n
+invariant-loop-n l = l.most ≡ largest (take l.n-index l.fn.counts)

@@ -1,7 +1,7 @@
 -- `sizes::add_capture` meets its contract. Assumes nothing.
-use Rattle.std.proofs.Common.{◌≡◌, sym, ap, ◌∙◌, arith}
+use Rattle.std.specs.Prelude.{Ok}
+use Rattle.std.proofs.Common.{◌≡◌, sym, ap, ◌∙◌}
 use Rattle.line.specs.Table.{first}
-use Rattle.station.specs.declared.Checked.TheVariants.{Fine}
 use Rattle.table.specs.Entries.{entries_of}
 use Rattle.receive.specs.Reading.{read_refusals}
 use Rattle.sizes.specs.declared.SizeTable.{SizeTable}
@@ -12,23 +12,23 @@ use Rattle.sizes.proofs.add_capture.Goals.{In_default}
 
 -- a capture that is not refused: the table that the walk gives
 abbrev gives : SizeTable → Added
-gives x = record { answer = Fine; sizes = x }
+gives x = record { answer = Ok tt; sizes = x }
 
 fine : (c : In_default) → let a = c.args in
-    first (read_refusals a.s a.job (entries_of a.table.now) a.octets.now a.marks.now 0) ≡ Fine
-fine c = sym c.check_read-checked.ensures ∙ c.in_default.is
+    first (read_refusals a.s a.job (entries_of a.table.now) a.octets.now a.marks.now 0) ≡ Ok tt
+fine c = sym c.check_read.ensures ∙ c.in_default.is
 
-pub returns-in-Refused : goal.returns-in-Refused
-returns-in-Refused c = sym (add-refused _ _ _ _ _ _ _ (sym c.check_read-checked.ensures ∙ c.in-Refused.is))
+pub returns-in-Err : goal.returns-in-Err
+returns-in-Err c = sym (add-refused _ _ _ _ _ _ _ (sym c.check_read.ensures ∙ c.in-Err.is))
 
-pub add_walk-short-requires : goal.add_walk-short-requires
-add_walk-short-requires c = ((λ h. absurd (omega arith)), fine (goal.at.add_walk-short-requires c).In_default)
+pub add_walk-requires : goal.add_walk-requires
+add_walk-requires c = fine (goal.at.add_walk-requires c).In_default
 
 pub returns-then-not-tables_pay : goal.returns-then-not-tables_pay
-returns-then-not-tables_pay c = ap gives c.add_walk-short.ensures ∙ sym (add_fine _ _ _ _ _ _ (fine (goal.at.returns-then-not-tables_pay c).In_default))
+returns-then-not-tables_pay c = ap gives c.add_walk.ensures ∙ sym (add_fine _ _ _ _ _ _ (fine (goal.at.returns-then-not-tables_pay c).In_default))
 
-pub add_walk-long-requires : goal.add_walk-long-requires
-add_walk-long-requires c = ((λ h. c.make_tables.ensures), fine (goal.at.add_walk-long-requires c).In_default)
+pub add_walk-requires-2 : goal.add_walk-requires-2
+add_walk-requires-2 c = fine (goal.at.add_walk-requires-2 c).In_default
 
 pub returns : goal.returns
-returns c = ap gives c.add_walk-long.ensures ∙ sym (add_fine _ _ _ _ _ _ (fine (goal.at.returns c).In_default))
+returns c = ap gives c.add_walk-2.ensures ∙ sym (add_fine _ _ _ _ _ _ (fine (goal.at.returns c).In_default))

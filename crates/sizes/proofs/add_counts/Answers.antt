@@ -6,7 +6,7 @@ use Rattle.sizes.proofs.Laws.{length-raised, count_next, count-first, count-last
 use Rattle.sizes.proofs.add_counts.Goals as goal
 
 pub loop-k-init : goal.loop-k-init
-loop-k-init c = (search rules, search rules, search rules, count-first _ _)
+loop-k-init c = (search rules, search rules, count-first _ _)
 
 pub loop-k-preserved : goal.loop-k-preserved
 loop-k-preserved c =
@@ -14,14 +14,13 @@ loop-k-preserved c =
     let b = c.args.b in
     let a = raised l.a l.k (get_or b l.k 0) in
     let turned = c.raise.ensures in (
-      search rules,
-      ap length turned ∙ length-raised l.a l.k (get_or b l.k 0) ∙ l.invariant.1,
-      l.invariant.2,
+      ap length turned ∙ length-raised l.a l.k (get_or b l.k 0) ∙ l.invariant.0,
+      l.invariant.1,
       ap (λ (x : List ℕ). together_from (l.k + 1) x b) turned
           ∙ ap (λ (n : ℕ). together_from n a b) (add-one l.k)
           ∙ count_next l.k l.a b (omega arith) (omega arith)
-          ∙ l.invariant.3,
+          ∙ l.invariant.2,
     )
 
 pub returns : goal.returns
-returns c = let l = c.loop-k in sym (count-last l.k l.a _ (omega arith) (omega arith)) ∙ l.invariant.3
+returns c = let l = c.loop-k in sym (count-last l.k l.a _ (omega arith) (omega arith)) ∙ l.invariant.2

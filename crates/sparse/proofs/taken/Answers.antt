@@ -7,6 +7,5 @@ use Rattle.sparse.proofs.taken.Goals as goal
 
 pub returns : goal.returns
 returns c =
-    let args = c.args in
-    let w = args.w in
-    carried (bit_xor w.a args.x) (xor_lt 64 w.a args.x (omega arith) (omega arith)) w.b w.c w.d w.e (omega arith) (omega arith) (omega arith) (omega arith)
+    carried (bit_xor c.args.w.a c.args.x) (xor_lt 64 c.args.w.a c.args.x (omega arith) (omega arith)) c.args.w.b c.args.w.c c.args.w.d c.args.w.e
+    (omega arith) (omega arith) (omega arith) (omega arith)

@@ -1,22 +1,18 @@
 -- `table::add` meets its contract: refused, or the lowest free entry taken. Assumes nothing.
-use mathlib.Core.Path.{◌≡◌, ap, ap₂, ◌∙◌}
-use Rattle.line.specs.declared.Found.{Found}
-use Rattle.line.specs.Table.{first}
-use Rattle.station.specs.declared.Checked.{Checked}
-use Rattle.table.specs.Entries.{entries_of}
-use Rattle.table.specs.Calls.{add_refusals, changed, added}
+use Rattle.std.proofs.lemmas.Result.{err_from_is_err_and}
+use mathlib.Core.Path.{◌∙◌}
+use Rattle.table.specs.Calls.{added}
+use Rattle.table.proofs.Calls.{was_refused, went_on}
 use Rattle.table.proofs.add.Goals as goal
-use Rattle.table.proofs.add.Goals.{After-check_add-checked}
 
--- what the check answers
-checked : (c : After-check_add-checked) → let a = c.args in c.check_add-checked.result ≡ first (add_refusals a.job (entries_of a.t.now) a.a)
-checked c = c.check_add-checked.ensures c.free_entry-free.ensures.0
+pub returns-in_err-check_add : goal.returns-in_err-check_add
+unfolding added
+returns-in_err-check_add c =
+    let p = err_from_is_err_and c.from_residual.result c.from_residual.ensures.1 in
+    rw (← c.free_entry-free.ensures.0, ← c.check_add.ensures c.free_entry-free.ensures.0) (was_refused _ _ _ _ _ _ _ p.1 p.2 c.in_err-check_add.was)
 
 pub returns : goal.returns
 unfolding added
 returns c =
-    let e = c in
-    let k = e in
-    c.changed.ensures
-    ∙ ap₂ (λ (x : Checked) (f : Found). changed x f k.args.t.now e.taken_by-e.result) (checked (goal.at.returns k).After-check_add-checked) k.free_entry-free.ensures.0
-    ∙ ap (changed _ _ _) e.taken_by-e.ensures
+    rw (← c.free_entry-free.ensures.0, ← c.check_add.ensures c.free_entry-free.ensures.0, ← c.taken_by.ensures)
+    (c.put_at.ensures ∙ went_on _ _ _ _ c.in_ok-check_add.was)

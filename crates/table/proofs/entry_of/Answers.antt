@@ -15,4 +15,4 @@ pub returns : goal.returns
 unfolding entry_at
 returns c =
     let a = c.args in
-    rw (c.holder_by-holder.ensures, c.address_at-address.ensures) (sym (entry_is a.t.now a.k freed (omega arith)))
+    rw (c.from-holder.ensures, c.address_at-address.ensures) (sym (entry_is a.t.now a.k freed (omega arith)))

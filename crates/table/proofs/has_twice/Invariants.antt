@@ -1,14 +1,9 @@
 -- `table::has_twice` meets its contract: what is left of the table decides. Assumes nothing.
-use Prim.Native.Nat.{◌-◌, ◌≤◌}
 use mathlib.Core.Path.{◌≡◌}
 use lib.ListN.{drop}
-use Rattle.line.specs.Limits.{table_entries}
 use Rattle.table.specs.Entries.{own_entries}
 use Rattle.table.specs.Tests.{twice}
 use Rattle.table.proofs.has_twice.Given as goal
 
 abbrev pub invariant-loop-k : goal.invariant-loop-k
-invariant-loop-k l = (l.k ≤ table_entries) × (twice (drop l.k (own_entries l.job l.t)) ≡ twice (own_entries l.job l.t))
-
-abbrev pub decreases-loop-k : goal.decreases-loop-k
-decreases-loop-k l = table_entries - l.k
+invariant-loop-k l = twice (drop l.k (own_entries l.job l.t)) ≡ twice (own_entries l.job l.t)

@@ -1,13 +1,9 @@
 -- `table::holds` meets its contract: what was counted, and what is left of the table. Assumes nothing.
-use Prim.Native.Nat.{◌+◌, ◌-◌, ◌≤◌}
+use Prim.Native.Nat.{◌+◌, ◌≤◌}
 use mathlib.Core.Path.{◌≡◌}
 use lib.ListN.{drop}
-use Rattle.line.specs.Limits.{table_entries}
 use Rattle.table.specs.Entries.{own_entries, held}
 use Rattle.table.proofs.holds.Given as goal
 
 abbrev pub invariant-loop-k : goal.invariant-loop-k
-invariant-loop-k l = (l.k ≤ table_entries) × (l.n ≤ l.k) × (l.n + held (drop l.k (own_entries l.job l.t)) ≡ held (own_entries l.job l.t))
-
-abbrev pub decreases-loop-k : goal.decreases-loop-k
-decreases-loop-k l = table_entries - l.k
+invariant-loop-k l = (l.n ≤ l.k) × (l.n + held (drop l.k (own_entries l.job l.t)) ≡ held (own_entries l.job l.t))

@@ -6,4 +6,4 @@ use Rattle.table.proofs.put_entry.Goals as goal
 pub returns : goal.returns
 returns c =
     let a = c.args in
-    rw c.holder_octet.ensures (stored_entry a.t.now a.k a.e (search rules))
+    rw c.from.ensures (stored_entry a.t.now a.k a.e (search rules))

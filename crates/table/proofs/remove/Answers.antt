@@ -1,19 +1,18 @@
 -- `table::remove` meets its contract: refused, or the entry freed. Assumes nothing.
-use mathlib.Core.Path.{◌≡◌, ap₂, ◌∙◌}
-use Rattle.line.specs.declared.Found.{Found}
-use Rattle.line.specs.Table.{first}
-use Rattle.station.specs.declared.Checked.{Checked}
-use Rattle.table.specs.Entries.{entries_of}
-use Rattle.table.specs.Calls.{freed, remove_refusals, changed, removed}
+use Rattle.std.proofs.lemmas.Result.{err_from_is_err_and}
+use mathlib.Core.Path.{◌∙◌}
+use Rattle.table.specs.Calls.{freed, removed}
+use Rattle.table.proofs.Calls.{was_refused, went_on}
 use Rattle.table.proofs.remove.Goals as goal
-use Rattle.table.proofs.remove.Goals.{After-check_remove-checked}
 
--- what the check answers
-checked : (c : After-check_remove-checked) → let a = c.args in c.check_remove-checked.result ≡ first (remove_refusals a.job (entries_of a.t.now) a.a)
-checked c = c.check_remove-checked.ensures c.find_address-found.ensures.0
+pub returns-in_err-check_remove : goal.returns-in_err-check_remove
+unfolding removed
+returns-in_err-check_remove c =
+    let p = err_from_is_err_and c.from_residual.result c.from_residual.ensures.1 in
+    rw (← c.find_address-found.ensures.0, ← c.check_remove.ensures c.find_address-found.ensures.0) (was_refused _ _ _ _ _ _ _ p.1 p.2 c.in_err-check_remove.was)
 
 pub returns : goal.returns
 unfolding removed freed
 returns c =
-    let k = c in
-    c.changed.ensures ∙ ap₂ (λ (x : Checked) (f : Found). changed x f k.args.t.now freed) (checked (goal.at.returns k).After-check_remove-checked) k.find_address-found.ensures.0
+    rw (← c.find_address-found.ensures.0, ← c.check_remove.ensures c.find_address-found.ensures.0)
+    (c.put_at.ensures ∙ went_on _ _ _ _ c.in_ok-check_remove.was)

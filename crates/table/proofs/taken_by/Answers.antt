@@ -7,6 +7,6 @@ pub returns-then-job-eq0 : goal.returns-then-job-eq0
 unfolding taken
 returns-then-job-eq0 c = rw (eq-eqb _ _ c.if-job-eq0.true)
 
-pub returns : goal.returns
+pub returns-else-job-eq0 : goal.returns-else-job-eq0
 unfolding taken
-returns c = rw (ne_eqb _ _ c.if-job-eq0.false)
+returns-else-job-eq0 c = rw (ne_eqb _ _ c.if-job-eq0.false)

@@ -5,26 +5,18 @@ use Rattle.table.proofs.way.Goals as goal
 
 pub returns-then-s : goal.returns-then-s
 returns-then-s c =
-    let p = c in
-    sym (way_broadcast _ _ _ (sym p.is_broadcast.ensures ∙ p.if-is_broadcast.true) c.if-s.true)
+    sym (way_broadcast _ _ _ (sym c.is_broadcast.ensures ∙ c.if-is_broadcast.true) c.if-s.true)
 
 pub returns-then-is_broadcast : goal.returns-then-is_broadcast
 returns-then-is_broadcast c =
-    let p = c in
-    c.otherwise_way.ensures ∙ sym (way_unbroadcast _ _ _ (sym p.is_broadcast.ensures ∙ p.if-is_broadcast.true) c.if-s.false)
+    c.otherwise_way.ensures ∙ sym (way_unbroadcast _ _ _ (sym c.is_broadcast.ensures ∙ c.if-is_broadcast.true) c.if-s.false)
 
 pub returns-then-to : goal.returns-then-to
 returns-then-to c =
-    let p = c in
-    sym (way-own _ _ _ (sym p.is_broadcast.ensures ∙ p.if-is_broadcast.false) (sym c.to.ensures ∙ c.if-to.true))
-
-pub entry_way-requires : goal.entry_way-requires
-entry_way-requires c = c.find_from-found.ensures.1
+    sym (way-own _ _ _ (sym c.is_broadcast.ensures ∙ c.if-is_broadcast.false) (sym c.to.ensures ∙ c.if-to.true))
 
 pub returns : goal.returns
 returns c =
-    let q = c in
-    let p = q in
-    let apart = sym p.is_broadcast.ensures ∙ p.if-is_broadcast.false in
+    let apart = sym c.is_broadcast.ensures ∙ c.if-is_broadcast.false in
     c.entry_way.ensures
-    ∙ way-listed _ _ _ apart (sym q.to.ensures ∙ q.if-to.false) _ c.find_from-found.ensures.0
+    ∙ way-listed _ _ _ apart (sym c.to.ensures ∙ c.if-to.false) _ c.find_from-found.ensures.0

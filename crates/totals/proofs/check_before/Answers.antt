@@ -1,7 +1,7 @@
 -- `totals::check_before` meets its contract: each way out passes the rows that did not hold and stops at the one that did. Assumes nothing.
+use Rattle.std.specs.Prelude.{Err, Ok}
 use mathlib.Core.Path.{sym, ◌∙◌}
 use Rattle.line.proofs.Tables.{first-here, first_next, first-other}
-use Rattle.station.specs.declared.Checked.TheVariants.{Fine, Refused}
 use Rattle.station.specs.declared.Refusal.TheVariants.{BadBuffers, BadPlace, WrongTotals, HighTotal}
 use Rattle.totals.specs.Totals.{before_refusals}
 use Rattle.totals.proofs.Tests.{same_length}
@@ -9,46 +9,37 @@ use Rattle.totals.proofs.check_before.Goals as goal
 
 pub returns-then-bad_buffers : goal.returns-then-bad_buffers
 unfolding before_refusals
-returns-then-bad_buffers c = sym (first-here (Refused BadBuffers) _ (sym c.bad_buffers.ensures ∙ c.if-bad_buffers.true))
+returns-then-bad_buffers c = sym (first-here (Err BadBuffers) _ (sym c.bad_buffers.ensures ∙ c.if-bad_buffers.true))
 
 pub returns-then-bad_place : goal.returns-then-bad_place
 unfolding before_refusals
 returns-then-bad_place c =
-    let p1 = c in
-    sym (first_next (Refused BadBuffers) _ (sym p1.bad_buffers.ensures ∙ p1.if-bad_buffers.false)
-    ∙ first-here (Refused BadPlace) _ (sym c.bad_place.ensures ∙ c.if-bad_place.true))
+    sym (first_next (Err BadBuffers) _ (sym c.bad_buffers.ensures ∙ c.if-bad_buffers.false)
+    ∙ first-here (Err BadPlace) _ (sym c.bad_place.ensures ∙ c.if-bad_place.true))
 
 pub wrong_totals-requires : goal.wrong_totals-requires
-wrong_totals-requires c = let p1 = c in (same_length _ _ (sym p1.bad_buffers.ensures ∙ p1.if-bad_buffers.false)).1
+wrong_totals-requires c = (same_length _ _ (sym c.bad_buffers.ensures ∙ c.if-bad_buffers.false)).1
 
 pub returns-then-wrong_totals : goal.returns-then-wrong_totals
 unfolding before_refusals
 returns-then-wrong_totals c =
-    let p2 = c in
-    let p1 = p2 in
-    sym (first_next (Refused BadBuffers) _ (sym p1.bad_buffers.ensures ∙ p1.if-bad_buffers.false)
-    ∙ first_next (Refused BadPlace) _ (sym p2.bad_place.ensures ∙ p2.if-bad_place.false)
-    ∙ first-here (Refused WrongTotals) _ (sym c.wrong_totals.ensures ∙ c.if-wrong_totals.true))
+    sym (first_next (Err BadBuffers) _ (sym c.bad_buffers.ensures ∙ c.if-bad_buffers.false)
+    ∙ first_next (Err BadPlace) _ (sym c.bad_place.ensures ∙ c.if-bad_place.false)
+    ∙ first-here (Err WrongTotals) _ (sym c.wrong_totals.ensures ∙ c.if-wrong_totals.true))
 
 pub returns-then-high_total : goal.returns-then-high_total
 unfolding before_refusals
 returns-then-high_total c =
-    let p3 = c in
-    let p2 = p3 in
-    let p1 = p2 in
-    sym (first_next (Refused BadBuffers) _ (sym p1.bad_buffers.ensures ∙ p1.if-bad_buffers.false)
-    ∙ first_next (Refused BadPlace) _ (sym p2.bad_place.ensures ∙ p2.if-bad_place.false)
-    ∙ first_next (Refused WrongTotals) _ (sym p3.wrong_totals.ensures ∙ p3.if-wrong_totals.false)
-    ∙ first-here (Refused HighTotal) _ (sym c.high_total.ensures ∙ c.if-high_total.true))
+    sym (first_next (Err BadBuffers) _ (sym c.bad_buffers.ensures ∙ c.if-bad_buffers.false)
+    ∙ first_next (Err BadPlace) _ (sym c.bad_place.ensures ∙ c.if-bad_place.false)
+    ∙ first_next (Err WrongTotals) _ (sym c.wrong_totals.ensures ∙ c.if-wrong_totals.false)
+    ∙ first-here (Err HighTotal) _ (sym c.high_total.ensures ∙ c.if-high_total.true))
 
 pub returns : goal.returns
 unfolding before_refusals
 returns c =
-    let p3 = c in
-    let p2 = p3 in
-    let p1 = p2 in
-    sym (first_next (Refused BadBuffers) _ (sym p1.bad_buffers.ensures ∙ p1.if-bad_buffers.false)
-    ∙ first_next (Refused BadPlace) _ (sym p2.bad_place.ensures ∙ p2.if-bad_place.false)
-    ∙ first_next (Refused WrongTotals) _ (sym p3.wrong_totals.ensures ∙ p3.if-wrong_totals.false)
-    ∙ first_next (Refused HighTotal) _ (sym c.high_total.ensures ∙ c.if-high_total.false)
-    ∙ first-other Fine)
+    sym (first_next (Err BadBuffers) _ (sym c.bad_buffers.ensures ∙ c.if-bad_buffers.false)
+    ∙ first_next (Err BadPlace) _ (sym c.bad_place.ensures ∙ c.if-bad_place.false)
+    ∙ first_next (Err WrongTotals) _ (sym c.wrong_totals.ensures ∙ c.if-wrong_totals.false)
+    ∙ first_next (Err HighTotal) _ (sym c.high_total.ensures ∙ c.if-high_total.false)
+    ∙ first-other (Ok tt))

@@ -1,7 +1,7 @@
 -- `totals::check_fill` meets its contract: each way out passes the rows that did not hold and stops at the one that did. Assumes nothing.
+use Rattle.std.specs.Prelude.{Err, Ok}
 use mathlib.Core.Path.{sym, ◌∙◌}
 use Rattle.line.proofs.Tables.{first-here, first_next, first-other}
-use Rattle.station.specs.declared.Checked.TheVariants.{Fine, Refused}
 use Rattle.station.specs.declared.Refusal.TheVariants.{BadBuffers, WrongTotals}
 use Rattle.totals.specs.Totals.{fill_refusals}
 use Rattle.totals.proofs.Tests.{same_length}
@@ -9,7 +9,7 @@ use Rattle.totals.proofs.check_fill.Goals as goal
 
 pub returns-then-bad_buffers : goal.returns-then-bad_buffers
 unfolding fill_refusals
-returns-then-bad_buffers c = sym (first-here (Refused BadBuffers) _ (sym c.bad_buffers.ensures ∙ c.if-bad_buffers.true))
+returns-then-bad_buffers c = sym (first-here (Err BadBuffers) _ (sym c.bad_buffers.ensures ∙ c.if-bad_buffers.true))
 
 pub wrong_totals-requires : goal.wrong_totals-requires
 wrong_totals-requires c = (same_length _ _ (sym c.bad_buffers.ensures ∙ c.if-bad_buffers.false)).1
@@ -17,14 +17,12 @@ wrong_totals-requires c = (same_length _ _ (sym c.bad_buffers.ensures ∙ c.if-b
 pub returns-then-wrong_totals : goal.returns-then-wrong_totals
 unfolding fill_refusals
 returns-then-wrong_totals c =
-    let b = c in
-    sym (first_next (Refused BadBuffers) _ (sym b.bad_buffers.ensures ∙ b.if-bad_buffers.false)
-    ∙ first-here (Refused WrongTotals) _ (sym c.wrong_totals.ensures ∙ c.if-wrong_totals.true))
+    sym (first_next (Err BadBuffers) _ (sym c.bad_buffers.ensures ∙ c.if-bad_buffers.false)
+    ∙ first-here (Err WrongTotals) _ (sym c.wrong_totals.ensures ∙ c.if-wrong_totals.true))
 
 pub returns : goal.returns
 unfolding fill_refusals
 returns c =
-    let b = c in
-    sym (first_next (Refused BadBuffers) _ (sym b.bad_buffers.ensures ∙ b.if-bad_buffers.false)
-    ∙ first_next (Refused WrongTotals) _ (sym c.wrong_totals.ensures ∙ c.if-wrong_totals.false)
-    ∙ first-other Fine)
+    sym (first_next (Err BadBuffers) _ (sym c.bad_buffers.ensures ∙ c.if-bad_buffers.false)
+    ∙ first_next (Err WrongTotals) _ (sym c.wrong_totals.ensures ∙ c.if-wrong_totals.false)
+    ∙ first-other (Ok tt))

@@ -1,14 +1,10 @@
 -- `totals::recount` meets its contract. The invariant: the blocks up to k are counted anew, and no other (`turn` of Laws). Assumes nothing.
 use mathlib.Core.Path.{◌≡◌}
-use Prim.Native.Nat.{◌-◌, ◌*◌, ◌/◌, ◌≤◌}
+use Prim.Native.Nat.{◌*◌}
 use Rattle.line.specs.Limits.{block_size}
 use Rattle.line.specs.Line.{capture}
 use Rattle.totals.specs.Totals.{recounted}
 use Rattle.totals.proofs.recount.Given as goal
 
 abbrev pub invariant-loop-k : goal.invariant-loop-k
-invariant-loop-k l =
-    (l.from / block_size ≤ l.k) × (l.k ≤ l.end) × (l.totals ≡ recounted (capture l.octets l.marks) l.from (block_size * l.k) l.initial.totals)
-
-abbrev pub decreases-loop-k : goal.decreases-loop-k
-decreases-loop-k l = l.end - l.k
+invariant-loop-k l = l.totals ≡ recounted (capture l.octets l.marks) l.from (block_size * l.k) l.initial.totals

@@ -1,7 +1,6 @@
 -- `totals::starts_in` meets its contract: the Starts of a stretch are those of its two parts together. Assumes nothing.
-use Prim.Native.Nat.{ℕ, ◌+◌}
+use Prim.Native.Nat.{◌+◌}
 use native.Mathlib.Omega.{arith}
-use mathlib.Core.Path.{sym, ap₂, ◌∙◌}
 use Rattle.line.specs.Line.{capture}
 use Rattle.totals.proofs.Laws.{in_two}
 use Rattle.totals.proofs.starts_in.Goals as goal
@@ -9,5 +8,5 @@ use Rattle.totals.proofs.starts_in.Goals as goal
 pub returns : goal.returns
 returns c =
     let a = c.args in
-    ap₂ (λ (m n : ℕ). m + n) c.starts_in_half-front.ensures c.starts_in_half-rest.ensures
-    ∙ sym (in_two (capture a.octets.now a.marks.now) a.from (a.from + 128) a.to (omega arith) (omega arith))
+    let t = in_two (capture a.octets.now a.marks.now) a.from (a.from + 128) a.to (omega arith) (omega arith) in
+    omega arith

@@ -7,7 +7,4 @@ use Rattle.totals.proofs.starts_in_half.Given as goal
 
 abbrev pub invariant-loop-i : goal.invariant-loop-i
 invariant-loop-i l =
-    (l.from ≤ l.i) × (l.i ≤ l.to) × (l.n ≤ l.i - l.from) × (l.n + starts_in (capture l.octets l.marks) l.i l.to ≡ starts_in (capture l.octets l.marks) l.from l.to)
-
-abbrev pub decreases-loop-i : goal.decreases-loop-i
-decreases-loop-i l = l.to - l.i
+    (l.n ≤ l.i - l.from) × (l.n + starts_in (capture l.octets l.marks) l.i l.to ≡ starts_in (capture l.octets l.marks) l.from l.to)

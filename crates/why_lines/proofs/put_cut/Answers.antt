@@ -7,8 +7,7 @@ use Rattle.why_lines.proofs.put_cut.Goals as goal
 pub returns : goal.returns
 unfolding reason_text
 returns c =
-    let z = c in
-    let y = z in
-    let x = y in
-    let w = x in
-    record { put = w.put_number-i.ensures.put ⨾ x.put-j.ensures ⨾ y.put_hex-k.ensures.put ⨾ z.put_name.ensures.put; upper_bound = omega (arith, x.put-j.ensures.goes) }
+    record {
+      put = c.put_number-i.ensures.put ⨾ c.put-j.ensures ⨾ c.put_hex-k.ensures.put ⨾ c.put_name.ensures.put;
+      upper_bound = omega (arith, c.put-j.ensures.goes);
+    }

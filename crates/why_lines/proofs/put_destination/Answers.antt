@@ -7,7 +7,4 @@ use Rattle.why_lines.proofs.put_destination.Goals as goal
 pub returns : goal.returns
 unfolding reason_text
 returns c =
-    let y = c in
-    let x = y in
-    let w = x in
-    record { put = w.put-i.ensures ⨾ x.put_three-j.ensures.put ⨾ y.put_three.ensures.put; upper_bound = omega (arith, w.put-i.ensures.goes) }
+    record { put = c.put-i.ensures ⨾ c.put_three-j.ensures.put ⨾ c.put_three.ensures.put; upper_bound = omega (arith, c.put-i.ensures.goes) }

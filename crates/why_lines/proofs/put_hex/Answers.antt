@@ -11,7 +11,5 @@ use Rattle.why_lines.proofs.put_hex.Goals as goal
 pub returns : goal.returns
 unfolding hex_octet
 returns c =
-    let x = c in
-    let w = x in
-    let d = w in
-    let is = ap₂ (λ (a b : ℕ). a ∷ b ∷ []) d.hex_digit-high.ensures d.hex_digit-low.ensures in record { put = put_as is (w.put_octet-a.ensures ⨾ x.put_octet.ensures); value = omega (arith, w.put_octet-a.ensures.goes, x.put_octet.ensures.goes) }
+    let is = ap₂ (λ (a b : ℕ). a ∷ b ∷ []) c.hex_digit-high.ensures c.hex_digit-low.ensures in
+    record { put = put_as is (c.put_octet-a.ensures ⨾ c.put_octet.ensures); value = omega (arith, c.put_octet-a.ensures.goes, c.put_octet.ensures.goes) }

@@ -7,6 +7,4 @@ use Rattle.why_lines.proofs.put_hex16.Goals as goal
 pub returns : goal.returns
 unfolding hex16
 returns c =
-    let x = c in
-    let w = x in
-    record { put = w.put_hex-a.ensures.put ⨾ x.put_hex.ensures.put; value = omega arith }
+    record { put = c.put_hex-a.ensures.put ⨾ c.put_hex.ensures.put; value = omega arith }

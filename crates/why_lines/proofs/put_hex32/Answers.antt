@@ -7,6 +7,4 @@ use Rattle.why_lines.proofs.put_hex32.Goals as goal
 pub returns : goal.returns
 unfolding hex32
 returns c =
-    let x = c in
-    let w = x in
-    record { put = w.put_hex16-a.ensures.put ⨾ x.put_hex16.ensures.put; value = omega arith }
+    record { put = c.put_hex16-a.ensures.put ⨾ c.put_hex16.ensures.put; value = omega arith }

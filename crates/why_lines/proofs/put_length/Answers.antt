@@ -7,7 +7,4 @@ use Rattle.why_lines.proofs.put_length.Goals as goal
 pub returns : goal.returns
 unfolding reason_text
 returns c =
-    let y = c in
-    let x = y in
-    let w = x in
-    record { put = w.put_words16-i.ensures.put ⨾ x.put_number-j.ensures.put ⨾ y.put_octet.ensures; upper_bound = omega (arith, y.put_octet.ensures.goes) }
+    record { put = c.put_words16-i.ensures.put ⨾ c.put_number-j.ensures.put ⨾ c.put_octet.ensures; upper_bound = omega (arith, c.put_octet.ensures.goes) }

@@ -10,37 +10,27 @@ use Rattle.why_lines.proofs.put_name.Goals as goal
 pub returns-then-v-eq7 : goal.returns-then-v-eq7
 unfolding end_name
 returns-then-v-eq7 c =
-    let p = c in
-    let t = p in
-    record { put = put_as (sym (first-here _ _ (eq-eqb _ _ t.if-v-eq7.true))) p.put.ensures; upper_bound = omega (arith, p.put.ensures.goes) }
+    record { put = put_as (sym (first-here _ _ (eq-eqb _ _ c.if-v-eq7.true))) c.put.ensures; upper_bound = omega (arith, c.put.ensures.goes) }
 
 pub returns-then-v-eq251 : goal.returns-then-v-eq251
 unfolding end_name
 returns-then-v-eq251 c =
-    let p = c in
-    let t = p in
-    let is = first_next _ _ (ne_eqb _ _ t.if-v-eq7.false) ∙ first-here _ _ (eq-eqb _ _ t.if-v-eq251.true) in
-    record { put = put_as (sym is) p.put-then-v-eq251.ensures; upper_bound = omega (arith, p.put-then-v-eq251.ensures.goes) }
+    let is = first_next _ _ (ne_eqb _ _ c.if-v-eq7.false) ∙ first-here _ _ (eq-eqb _ _ c.if-v-eq251.true) in
+    record { put = put_as (sym is) c.put-then-v-eq251.ensures; upper_bound = omega (arith, c.put-then-v-eq251.ensures.goes) }
 
 pub returns-then-v-eq254 : goal.returns-then-v-eq254
 unfolding end_name
 returns-then-v-eq254 c =
-    let p = c in
-    let t = p in
-    let d = t in
-    let is = first_next _ _ (ne_eqb _ _ d.if-v-eq7.false) ∙ first_next _ _ (ne_eqb _ _ d.if-v-eq251.false) ∙ first-here _ _ (eq-eqb _ _ t.if-v-eq254.true) in
-    record { put = put_as (sym is) p.put-then-v-eq254.ensures; upper_bound = omega (arith, p.put-then-v-eq254.ensures.goes) }
+    let is = first_next _ _ (ne_eqb _ _ c.if-v-eq7.false) ∙ first_next _ _ (ne_eqb _ _ c.if-v-eq251.false) ∙ first-here _ _ (eq-eqb _ _ c.if-v-eq254.true) in
+    record { put = put_as (sym is) c.put-then-v-eq254.ensures; upper_bound = omega (arith, c.put-then-v-eq254.ensures.goes) }
 
 pub returns : goal.returns
 unfolding end_name
 returns c =
-    let p = c in
-    let t = p in
-    let d = t in
     let is =
-    first_next _ _ (ne_eqb _ _ d.if-v-eq7.false)
-    ∙ first_next _ _ (ne_eqb _ _ d.if-v-eq251.false)
-    ∙ first_next _ _ (ne_eqb _ _ t.if-v-eq254.false)
+    first_next _ _ (ne_eqb _ _ c.if-v-eq7.false)
+    ∙ first_next _ _ (ne_eqb _ _ c.if-v-eq251.false)
+    ∙ first_next _ _ (ne_eqb _ _ c.if-v-eq254.false)
     ∙ first-other _
     in
-    record { put = put_as (sym is) p.put-2.ensures; upper_bound = omega (arith, p.put-2.ensures.goes) }
+    record { put = put_as (sym is) c.put-2.ensures; upper_bound = omega (arith, c.put-2.ensures.goes) }

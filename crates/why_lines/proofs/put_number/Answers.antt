@@ -8,11 +8,12 @@ use Rattle.why_lines.proofs.put_number.Goals as goal
 
 pub put_decimal-requires : goal.put_decimal-requires
 put_decimal-requires c =
-    let w = c in
-    omega (arith, w.put-a.ensures.goes, decimal_64 w.args.n (search rules))
+    omega (arith, c.put-a.ensures.goes, decimal_64 c.args.n (search rules))
 
 pub returns : goal.returns
 unfolding with_number
 returns c =
-    let x = c in
-    let w = x in record { put = w.put-a.ensures ⨾ x.put_decimal.ensures; upper_bound = omega (arith, w.put-a.ensures.goes, x.put_decimal.ensures.goes, decimal_64 w.args.n (search rules)) }
+    record {
+      put = c.put-a.ensures ⨾ c.put_decimal.ensures;
+      upper_bound = omega (arith, c.put-a.ensures.goes, c.put_decimal.ensures.goes, decimal_64 c.args.n (search rules));
+    }

@@ -7,6 +7,4 @@ use Rattle.why_lines.proofs.put_short_run.Goals as goal
 pub returns : goal.returns
 unfolding reason_text
 returns c =
-    let x = c in
-    let w = x in
-    record { put = w.put_number-i.ensures.put ⨾ x.put_octet.ensures; upper_bound = omega (arith, x.put_octet.ensures.goes) }
+    record { put = c.put_number-i.ensures.put ⨾ c.put_octet.ensures; upper_bound = omega (arith, c.put_octet.ensures.goes) }

@@ -7,6 +7,4 @@ use Rattle.why_lines.proofs.put_then.Goals as goal
 pub returns : goal.returns
 unfolding hex_then
 returns c =
-    let x = c in
-    let w = x in
-    record { put = w.put_hex-a.ensures.put ⨾ x.put_octet.ensures; value = omega (arith, x.put_octet.ensures.goes) }
+    record { put = c.put_hex-a.ensures.put ⨾ c.put_octet.ensures; value = omega (arith, c.put_octet.ensures.goes) }

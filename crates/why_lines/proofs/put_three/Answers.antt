@@ -7,7 +7,4 @@ use Rattle.why_lines.proofs.put_three.Goals as goal
 pub returns : goal.returns
 unfolding three_octets
 returns c =
-    let y = c in
-    let x = y in
-    let w = x in
-    record { put = w.put_then-i.ensures.put ⨾ x.put_then-j.ensures.put ⨾ y.put_then.ensures.put; value = omega arith }
+    record { put = c.put_then-i.ensures.put ⨾ c.put_then-j.ensures.put ⨾ c.put_then.ensures.put; value = omega arith }

@@ -7,6 +7,4 @@ use Rattle.why_lines.proofs.put_why.Goals as goal
 pub returns : goal.returns
 unfolding why_line
 returns c =
-    let x = c in
-    let w = x in
-    record { put = w.put_followed-i.ensures.put ⨾ x.put_reason.ensures.put; upper_bound = omega arith }
+    record { put = c.put_followed-i.ensures.put ⨾ c.put_reason.ensures.put; upper_bound = omega arith }

@@ -7,6 +7,4 @@ use Rattle.why_lines.proofs.put_words16.Goals as goal
 pub returns : goal.returns
 unfolding with_hex16
 returns c =
-    let x = c in
-    let w = x in
-    record { put = w.put-a.ensures ⨾ x.put_hex16.ensures.put; value = omega (arith, w.put-a.ensures.goes) }
+    record { put = c.put-a.ensures ⨾ c.put_hex16.ensures.put; value = omega (arith, c.put-a.ensures.goes) }

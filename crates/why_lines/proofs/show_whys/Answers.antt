@@ -1,9 +1,8 @@
--- `why_lines::show_whys` meets its contract. The invariant: with the lines of the calls left, the output is whole. The measure is how many are
--- left. Assumes nothing.
+-- `show_whys` meets its contract: with the lines of the calls left, the output is whole. Assumes nothing.
 use native.Mathlib.Omega.{arith}
-use mathlib.Core.Path.{◌≡◌, refl, sym, ap, ap₂, ◌∙◌}
+use mathlib.Core.Path.{◌≡◌, sym, ap, ap₂, ◌∙◌}
 use mathlib.Core.List.{List}
-use Prim.Native.Nat.{ℕ, ◌+◌, ◌<◌}
+use Prim.Native.Nat.{ℕ, ◌+◌, ◌-◌, ◌<◌}
 use borrow.Author.Rules.{rules}
 use lib.ListN.{length}
 use Rattle.station.specs.declared.Settings.{Settings}
@@ -15,42 +14,42 @@ use Rattle.why_lines.proofs.Laws.{no_reason, whys_given, whys_ended, whys_none, 
 use borrow.Enum.Refused.{opened}
 use Rattle.why_lines.proofs.show_whys.Goals as goal
 
-pub loop-left-init : goal.loop-left-init
-loop-left-init c =
+pub loop-n-init : goal.loop-n-init
+loop-n-init c =
     let a = c.args in
     let os = a.octets.now in
-    let ms = a.marks.now in (
-      refl,
-      search rules,
-      search rules,
+    let ms = a.marks.now in
+    let e : length os + 1 - 0 ≡ length os + 1 = omega arith in (
+      omega arith,
       left-start
-          (ap₂ (λ (s : Settings) (t : List ℕ). whys_of 0 (explained_from (length os + 1) s 0 (entries_of t) os ms 0)) c.settings-s.ensures c.empty-none.ensures
+          (ap (λ (k : ℕ). whys_of 0 (explained_from k c.settings-s.result 0 (entries_of c.empty-none.result) os ms 0)) e
+          ∙ ap₂ (λ (s : Settings) (t : List ℕ). whys_of 0 (explained_from (length os + 1) s 0 (entries_of t) os ms 0)) c.settings-s.ensures c.empty-none.ensures
           ∙ whys_all os ms),
     )
 
 pub returns-in_default : goal.returns-in_default
 returns-in_default c =
-    let more : 0 < c.loop-left.left = omega arith in
+    let more : 0 < length c.args.octets.now + 1 - c.loop-n.n = omega arith in
     let refused = let h = c.in_default in no_reason c.explain-e.result.answer (search (rules, opened)) in
     let is = whys_ended _ _ _ _ _ _ _ _ more _ c.explain-e.ensures refused in
     record {
-      shown = left-last c.loop-left.invariant.3 c.show_last.ensures.shown (is ∙ ap (last_line c.loop-left.n) (sym c.open_number-opened.ensures));
-      upper_bound = omega (arith, c.show_last.ensures.upper_bound, c.loop-left.invariant.1, c.requires);
+      shown = left-last c.loop-n.invariant.1 c.show_last.ensures.shown (is ∙ ap (last_line c.loop-n.n) (sym c.open_number-opened.ensures));
+      upper_bound = omega (arith, c.show_last.ensures.upper_bound, c.loop-n.invariant.0, c.requires);
     }
 
-pub overflow_add-n : goal.overflow_add-n
-overflow_add-n c = omega arith
-
-pub loop-left-preserved : goal.loop-left-preserved
-loop-left-preserved c =
-    let more : 0 < c.loop-left.left = omega arith in (
-      search rules,
+pub loop-n-preserved : goal.loop-n-preserved
+loop-n-preserved c =
+    let os = c.args.octets.now in
+    let n = c.loop-n.n in
+    let more : 0 < length os + 1 - n = omega arith in
+    let next : length os + 1 - n - 1 ≡ length os + 1 - (n + 1) = omega arith in (
       omega arith,
-      omega arith,
-      left_more c.loop-left.invariant.3 c.show_why-at.ensures.shown (whys_given _ _ _ _ _ _ _ _ more _ c.explain-e.ensures _ c.in-Because.is),
+      rw next at (left_more c.loop-n.invariant.1 c.show_why-at.ensures.shown (whys_given _ _ _ _ _ _ _ _ more _ c.explain-e.ensures _ c.in-Because.is)),
     )
 
-pub returns : goal.returns
-returns c =
-    let none : c.loop-left.left ≡ 0 = omega arith in
-    record { shown = left-last c.loop-left.invariant.3 c.show_last-2.ensures.shown (rw none (whys_none _ _ _ _ _ _ _)); upper_bound = omega arith }
+pub returns-clause-shown : goal.returns-clause-shown
+returns-clause-shown c =
+    let os = c.args.octets.now in
+    let none : length os + 1 - c.loop-n.n ≡ 0 = omega arith in
+    let all : length os + 1 ≡ c.loop-n.n = omega arith in
+    left-last c.loop-n.invariant.1 c.show_last-2.ensures.shown (rw (none, all) (whys_none _ _ _ _ _ _ _))

@@ -14,11 +14,8 @@ same_end idles h g p = rw (h, g) at p
 
 pub returns : goal.returns
 returns c =
-    let end = c in
-    let marks = end in
-    let a = marks.args in
-    let m = marks_size a.idles (a.at + (a.idles + 5)) (omega arith) in
-    let e = end_size a.idles a.octets.now a.at in
-    let last : a.at + (a.idles + 5) ≡ end.put_end.result = omega arith in
-    let same : marks.put_marks.result ≡ end.put_end.result = omega arith in
-    record { octets = end.put_end.ensures; marks = same_end a.idles last same marks.put_marks.ensures }
+    let m = marks_size c.args.idles (c.args.at + (c.args.idles + 5)) (omega arith) in
+    let e = end_size c.args.idles c.args.octets.now c.args.at in
+    let last : c.args.at + (c.args.idles + 5) ≡ c.put_end.result = omega arith in
+    let same : c.put_marks.result ≡ c.put_end.result = omega arith in
+    record { octets = c.put_end.ensures; marks = same_end c.args.idles last same c.put_marks.ensures }

@@ -1,4 +1,4 @@
--- `writing::put_data` meets its contract: two writes, by `◌⨾◌`, with what `padding` ensures put into the second. Assumes nothing.
+-- `writing::put_data` meets its contract: two writes, by `◌⨾◌`. Assumes nothing.
 use native.Mathlib.Omega.{arith}
 use Rattle.splice.proofs.Laws.{◌⨾◌}
 use Rattle.writing.specs.Frames.{padded}
@@ -13,7 +13,4 @@ fill-requires c = omega (arith, padded_size c.args.d.now)
 
 pub returns : goal.returns
 unfolding padded
-returns c =
-    let f = c in
-    let p = f in
-    p.put-a.ensures ⨾ rw p.padding-zeros.ensures at f.fill.ensures
+returns c = c.put-a.ensures ⨾ rw c.saturating_sub.ensures at c.fill.ensures

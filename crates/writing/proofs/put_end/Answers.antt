@@ -9,9 +9,4 @@ use Rattle.writing.proofs.put_end.Goals as goal
 
 pub returns : goal.returns
 unfolding end_of between
-returns c =
-    let g = c in
-    let p = g in
-    let o = p in
-    let check = o.octets-check.ensures ∙ ap fcs_octets o.check.ensures ∙ fcs-is _ in
-    put_as check p.put-a.ensures ⨾ g.put_gap.ensures
+returns c = put_as (c.octets-check.ensures ∙ ap fcs_octets c.check.ensures ∙ fcs-is _) c.put-a.ensures ⨾ c.put_gap.ensures

@@ -14,10 +14,7 @@ as-asked v n idles e p = rw e p
 
 pub returns-then-idles-eq-PLAIN_IDLES : goal.returns-then-idles-eq-PLAIN_IDLES
 unfolding gap_octets
-returns-then-idles-eq-PLAIN_IDLES c =
-    let f = c in
-    let p = f in
-    p.put-a.ensures ⨾ as-asked _ _ p.args.idles f.if-idles-eq-PLAIN_IDLES.true f.fill.ensures
+returns-then-idles-eq-PLAIN_IDLES c = c.put-a.ensures ⨾ as-asked _ _ c.args.idles c.if-idles-eq-PLAIN_IDLES.true c.fill.ensures
 
 pub returns : goal.returns
 unfolding gap_octets

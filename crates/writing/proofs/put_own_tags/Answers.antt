@@ -15,4 +15,4 @@ unfolding tag_octets
 none l i n ts e = rw e (record { goes = omega arith; holds = refl })
 
 pub returns-then-client-eq0 : goal.returns-then-client-eq0
-returns-then-client-eq0 c = let a = c.args in none a.octets.now a.at a.client.count a.client.tags c.if-client-eq0.true
+returns-then-client-eq0 c = none _ _ c.args.client.count c.args.client.tags c.if-client-eq0.true

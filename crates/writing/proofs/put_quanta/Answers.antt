@@ -1,36 +1,30 @@
--- `writing::put_quanta` meets its contract. The invariant: what is still to be written over what is written gives the whole. Assumes nothing.
+-- `writing::put_quanta` meets its contract: a turn is `quanta_turn`. Assumes nothing.
 use native.Mathlib.Omega.{arith}
-use Prim.Native.Nat.{◌+◌, ◌*◌}
-use mathlib.Core.Path.{◌≡◌, refl, sym, ◌∙◌}
+use mathlib.Core.Path.{◌≡◌, sym, ◌∙◌}
 use lib.ListN.{length}
-use Rattle.writing.proofs.Pieces.{quanta_begin, quanta_turn, quanta_end}
+use Rattle.line.specs.Octets.{high_first}
+use Rattle.splice.proofs.Laws.{put-length}
+use Rattle.writing.proofs.Pieces.{quanta_turn, quanta_end}
 use Rattle.writing.proofs.Sizes.{quanta_size}
 use borrow.Author.Rules.{rules}
 use Rattle.writing.proofs.put_quanta.Goals as goal
 
-pub loop-k-init : goal.loop-k-init
-loop-k-init c = (search rules, refl, quanta_begin _ _ _ _)
-
-pub loop-k-preserved : goal.loop-k-preserved
-loop-k-preserved c =
-    let w = c in
-    let t = w in
-    let l = t.loop-k in
-    let a = t.args in
-    let k = l.k in
-    let eight : length a.quanta ≡ 8 = search rules in
-    let on : a.at + 2 * (k + 1) ≡ a.at + 2 * k + 2 = omega arith in (
-      search rules,
-      search rules,
-      rw on (quanta_turn l.left k a.quanta (record { 0 = 0 }) (omega arith) w.quanta_sent.ensures w.put_number.ensures) ∙ l.invariant.2,
-    )
+pub loop-q-preserved : goal.loop-q-preserved
+unfolding high_first
+loop-q-preserved c =
+    let eight : length c.args.quanta ≡ 8 = search rules in
+    record {
+      long = omega (arith, put-length c.put_number-next.ensures);
+      goes = omega (arith, c.put_number-next.ensures.goes);
+      whole =
+          quanta_turn c.loop-q.left c.loop-q.q-index c.args.quanta (record { 0 = 0 }) (omega arith) c.quanta_sent.ensures c.put_number-next.ensures
+          ∙ c.loop-q.invariant.whole;
+    }
 
 pub returns : goal.returns
 returns c =
-    let l = c.loop-k in
-    let a = c.args in
-    let eight : length a.quanta ≡ 8 = search rules in
+    let eight : length c.args.quanta ≡ 8 = search rules in
     record {
-      goes = omega (arith, quanta_size a.named a.quanta);
-      holds = sym (quanta_end l.octets (a.at + 2 * l.k) l.left l.k a.quanta (omega arith)) ∙ l.invariant.2;
+      goes = omega (arith, quanta_size c.args.named c.args.quanta);
+      holds = sym (quanta_end _ _ c.loop-q.left c.loop-q.q-index c.args.quanta (omega arith)) ∙ c.loop-q.invariant.whole;
     }

@@ -7,10 +7,7 @@ use Rattle.writing.proofs.Sizes.{two}
 use Rattle.writing.proofs.put_tag.Goals as goal
 
 pub put_number-requires : goal.put_number-requires
-put_number-requires c = let next = rw two at c.put_number-a.ensures.goes in omega arith
+put_number-requires c = omega (arith, rw two at c.put_number-a.ensures.goes)
 
 pub returns : goal.returns
-returns c =
-    let n = c in
-    let k = n in
-    put_as (ap high_first k.kind_field.ensures) k.put_number-a.ensures ⨾ n.put_number.ensures
+returns c = put_as (ap high_first c.from.ensures) c.put_number-a.ensures ⨾ c.put_number.ensures

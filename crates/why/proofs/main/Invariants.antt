@@ -1,9 +1,0 @@
--- The parts lie inside all that is printed. The measure is what is left of that, and the part before.
-use Rattle.std.proofs.Common.{◌+◌, ◌-◌, ◌≤◌}
-use Rattle.why.proofs.main.Given as goal
-
-abbrev pub invariant-loop-k : goal.invariant-loop-k
-invariant-loop-k l = l.from ≤ 3145920
-
-abbrev pub decreases-loop-k : goal.decreases-loop-k
-decreases-loop-k l = 3145920 - l.from + l.k
