@@ -53,7 +53,11 @@ fn block_total(octets: &[u8], marks: &[u8], k: usize) -> u16
 {
     let from = BLOCK_SIZE * k;
     let left = octets.len() - from;
-    starts_in(octets, marks, from, from + left.min(BLOCK_SIZE))
+    // two calls: a whole block ends so far behind its beginning that its halves are unrolled, of a third fewer instructions than with `left.min(BLOCK_SIZE)`
+    if left < BLOCK_SIZE {
+        return starts_in(octets, marks, from, from + left);
+    }
+    starts_in(octets, marks, from, from + BLOCK_SIZE)
 }
 
 // Counts the blocks anew that hold places from `from` up to `to`, and touches no other total. Public for this repository's crates only, since it
