@@ -10,7 +10,7 @@ ghost use Rattle.printing.specs.Parts.{part};
 ghost use Rattle.printing.specs.Shown.{Shown};
 
 use kept::Told;
-use printing::Output;
+use printing::{Output, Program};
 
 // A part of the output of a whole input of at most 32,768 records, and how long that output is: a line at each symbol that ends a run.
 fn show_steps(input: &[u8], from: usize, out: &mut [u8]) -> usize
@@ -64,4 +64,10 @@ pub fn print_plain(input: &[u8], from: usize, out: &mut [u8; 131072]) -> usize
     ensures input_len_bound { length (printed input.now) ≤ 2752680 }
 {
     printing::print_part::<PlainReadings>(input, from, out)
+}
+
+impl Program for PlainReadings {
+    fn print(input: &[u8], from: usize, out: &mut [u8; 131072]) -> usize {
+        print_plain(input, from, out)
+    }
 }

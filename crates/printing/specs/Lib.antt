@@ -1,4 +1,5 @@
 pub mod Decimal
 pub mod Lines
 pub mod Parts
+pub mod Runs
 pub mod Shown

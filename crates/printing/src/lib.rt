@@ -1,7 +1,7 @@
 // What the printing program prints (document 01, "The printing program"). Meaning: specs/.
 #![tactic(auto)]
 
-ghost use Rattle.std.specs.Prelude.{◌≡◌, ℕ, true, false, List, [], ◌∷◌, ◌+◌, ◌-◌, ◌*◌, ◌/◌, ◌≤◌, min, length};
+ghost use Rattle.std.specs.Prelude.{◌≡◌, ℕ, true, false, List, [], ◌∷◌, ◌+◌, ◌-◌, ◌*◌, ◌/◌, ◌≤◌, min, length, OnOk};
 ghost use Rattle.std.proofs.Math.Dec.{lit≤};
 ghost use Rattle.line.specs.Line.{overwrite};
 ghost use Rattle.station.specs.Numbers.{outcome_number};
@@ -9,6 +9,7 @@ ghost use Rattle.printing.specs.Decimal.{decimal};
 ghost use Rattle.printing.specs.Lines.{program_settings, followed, four_numbers, last_line, capture_lines, bad_input, printed, printed_bad, record_octets};
 ghost use Rattle.printing.specs.Lines.{record_marks};
 ghost use Rattle.printing.specs.Parts.{part};
+ghost use Rattle.printing.specs.Runs.{Ran};
 ghost use Rattle.printing.specs.Shown.{Shown, open_number};
 ghost use Rattle.splice.specs.Written.{Put};
 
@@ -17,7 +18,7 @@ use receive::Answer;
 use splice::put;
 use station::{Address, Flow, Outcome, Settings};
 use std::io;
-use std::io::Read;
+use std::io::{Read, Write};
 
 // ---- writers: each gives the place behind what it wrote, and asks for the room; those that are public are so for this repository's crates only
 
@@ -318,6 +319,15 @@ pub fn print_part<P: Output>(input: &[u8], from: usize, out: &mut [u8; 131072]) 
     part_length(total, from)
 }
 
+// A program that prints such a text, part after part. `print` is the function that the program asks for each part.
+pub trait Program: Output {
+    // Of all of the text the octets from `from` on, as many as `out` has room for, over the front of `out`; how many that is.
+    fn print(input: &[u8], from: usize, out: &mut [u8; 131072]) -> usize
+        ensures value { result ≡ length (part 131072 from (Self.text input.now)) }
+        ensures out_after { out.new ≡ overwrite out.old 0 (part 131072 from (Self.text input.now)) }
+        ensures input_len_bound { length (Self.text input.now) ≤ Self.most };
+}
+
 // The part of the lines of readings: 84 octets for each of 32,768 lines and more for the last are enough.
 pub fn print_lines(input: &[u8], from: usize, out: &mut [u8; 131072]) -> usize
     ensures value { result ≡ length (part 131072 from (printed input.now)) }
@@ -327,17 +337,25 @@ pub fn print_lines(input: &[u8], from: usize, out: &mut [u8; 131072]) -> usize
     print_part::<Readings>(input, from, out)
 }
 
-// A whole program: reads its input, and prints all that it prints of it, part by part: a part that does not fill the room is the last. One octet more
-// than the longest input is read, so that a longer one shows.
-pub fn run<P: Output>(reader: &mut impl Read, output: &impl Print) -> io::Result<()> {
+impl Program for Readings {
+    fn print(input: &[u8], from: usize, out: &mut [u8; 131072]) -> usize {
+        print_lines(input, from, out)
+    }
+}
+
+// A whole program: reads its input, and writes all that it prints of it, part by part: a part that does not fill the room is the last. One octet more
+// than the longest input is read, so that a longer one shows. After an `Err` some may have been read or written.
+pub fn run<P: Program, R: Read, W: Write>(reader: &mut R, writer: &mut W) -> io::Result<()>
+    ensures { OnOk result (Ran P.text (R.remaining reader.old) (R.remaining reader.new) (W.contents writer.old) (W.contents writer.new)) }
+{
     let mut input = [0u8; 65537];
     let mut out = [0u8; 131072];
     let n = limited_input::read_full(reader, &mut input)?;
     let mut from: usize = 0;
     let mut k: usize = 131072;
     while k == 131072 {
-        k = print_part::<P>(&input[..n], from, &mut out);
-        output.write_all(&out[..k])?;
+        k = P::print(&input[..n], from, &mut out);
+        writer.write_all(&out[..k])?;
         from += k;
     }
     Ok(())

@@ -1,9 +1,10 @@
 // The program `why` (document 02, item 8): standard input is records of mark then octet, standard output why each Start of that capture has its
-// outcome. What is printed is `why_lines::Whys`, part by part, as `why_lines::print_whys` gives them, whose contract says it all.
+// outcome. It is `printing::run` of `why_lines::Whys`, whose contract says what is read and what is written; each part is what `why_lines::print_whys`
+// gives.
 #![tactic(auto)]
 
 use std::io;
 
 fn main(rt: HostRuntime) -> io::Result<()> {
-    printing::run::<why_lines::Whys>(&mut rt.stdin(), &rt)
+    printing::run::<why_lines::Whys, _, _>(&mut rt.stdin(), &mut rt.stdout())
 }

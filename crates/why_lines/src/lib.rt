@@ -13,7 +13,7 @@ ghost use Rattle.why_lines.specs.Ended.{open_number};
 ghost use Rattle.why_lines.specs.Whys.{with_number, with_hex16, with_hex32, hex_then, three_octets, end_name, sizes, opcode_text, reason_text, why_line};
 ghost use Rattle.why_lines.specs.Whys.{capture_whys, printed_whys, printed_whys_bad};
 
-use printing::{CaptureLines, Output, put_decimal, put_followed, put_octet, show, show_last};
+use printing::{CaptureLines, Output, Program, put_decimal, put_followed, put_octet, show, show_last};
 use reason::{Reason, Why};
 use splice::put;
 use station::Address;
@@ -335,4 +335,10 @@ pub fn print_whys(input: &[u8], from: usize, out: &mut [u8; 131072]) -> usize
     ensures input_len_bound { length (printed_whys input.now) ≤ 3145920 }
 {
     printing::print_part::<Whys>(input, from, out)
+}
+
+impl Program for Whys {
+    fn print(input: &[u8], from: usize, out: &mut [u8; 131072]) -> usize {
+        print_whys(input, from, out)
+    }
 }
