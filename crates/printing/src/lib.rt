@@ -230,7 +230,7 @@ pub trait CaptureLines {
     // No capture has more octets of lines.
     ghost most_octets: { ℕ };
 
-    // A part of the lines, and how long they are.
+    // A part of the lines of at most 32,768 octets, and how long they are.
     fn show_lines(octets: &[u8], marks: &[u8], from: usize, out: &mut [u8]) -> usize
         requires { length octets.now ≤ 32768 }
         ensures shown { Shown from out.old 0 (lines octets.now marks.now) result out.new }

@@ -13,7 +13,9 @@ ghost use Rattle.why_lines.specs.Ended.{open_number};
 ghost use Rattle.why_lines.specs.Whys.{with_number, with_hex16, with_hex32, hex_then, three_octets, end_name, sizes, opcode_text, reason_text, why_line};
 ghost use Rattle.why_lines.specs.Whys.{capture_whys, printed_whys, printed_whys_bad};
 
-use printing::{CaptureLines, Output, Program, put_decimal, put_followed, put_octet, show, show_last};
+use printing::{
+    CaptureLines, Output, Program, put_decimal, put_followed, put_octet, show, show_last,
+};
 use reason::{Reason, Why};
 use splice::put;
 use station::Address;
