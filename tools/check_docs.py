@@ -4,8 +4,8 @@ made in them: links, tables, the picture, lines of the changelog.
 
 - docs/DEFINITIONS.md: every definition and record of crates/*/specs is named there with its file, but for files whose first line says `Internal`, and
   every name and theorem there stands in the file of its row (tools/pages/files.py).
-- docs/PROMISES.md: every public function and no other is there, each with two must-fail edits or more, which exist and are told in their own words
-  (tools/pages/ruled_out.py).
+- docs/PROMISES.md: every public function and every `impl From` of a library, and no other, is there, each with two must-fail edits or more, which exist
+  and are told in their own words (tools/pages/ruled_out.py).
 - docs/ARCHITECTURE.md has every crate on its floor, and docs/crates.svg shows who uses whom (tools/pages/picture.py).
 - CHANGELOG.md has a line for each landing note (tools/pages/changelog.py).
 - docs/TRUST.md tells how many lines one has to believe (tools/pages/trust.py).
@@ -47,10 +47,10 @@ for name in sorted(named):
     if re.fullmatch(r"[A-Za-z][\w-]*", name) and name not in words:
         missing.append(f"docs/DEFINITIONS.md: `{name}` is nowhere in crates/")
 promises = (root / "docs" / "PROMISES.md").read_text()
-promised = set(re.findall(r"`(\w+::\w+)`", promises))
+promised = set(re.findall(r"`(\w+::\w+(?:<[^>]+> for \w+)?)`", promises))
 public = set()
 for path in root.glob("crates/*/src/lib.rt"):
-    for name in re.findall(r"^pub fn (\w+)", path.read_text(), re.M):
+    for name in re.findall(r"^(?:pub fn |impl (?=From<))(\w+(?:<[^>]+> for \w+)?)", path.read_text(), re.M):
         public.add(f"{path.parent.parent.name}::{name}")
 missing += [f"docs/PROMISES.md: `{name}` is not there" for name in sorted(public - promised)]
 missing += [f"docs/PROMISES.md: there is no public `{name}`" for name in sorted(promised - public)]

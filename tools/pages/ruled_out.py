@@ -92,7 +92,7 @@ def groups(text):
 
 
 def function_of(row):
-    found = re.match(r"`(\w+::\w+)`", row[0])
+    found = re.match(r"`(\w+::\w+(?:<[^>]+> for \w+)?)`", row[0])
     return found.group(1) if found else None
 
 
@@ -120,7 +120,7 @@ def wrong():
         found += [f"docs/PROMISES.md: no edit {crate}/{edit}" for crate, edit in there if path_of((crate, edit)) is None]
         if "Ruled out" in header and len(there) < 2:
             found.append(f"docs/PROMISES.md: fewer than two edits: {row[0]}")
-        if len(re.findall(r"`\w+::\w+`", row[0])) > 1:
+        if len(re.findall(r"`\w+::\w+(?:<[^>]+> for \w+)?`", row[0])) > 1:
             found.append(f"docs/PROMISES.md: a row for each function: {row[0]}")
     return found + long_rows(page)
 
