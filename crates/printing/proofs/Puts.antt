@@ -5,7 +5,7 @@ use mathlib.Core.List.{List, [], ◌∷◌}
 use native.Mathlib.Numerals.{add-one}
 use native.Mathlib.Omega.{arith}
 use lib.ListN.{length, take, drop, set, length-append}
-use lib.Seq.{sets, sets-eq, take-append_seam}
+use lib.Seq.{sets, take-append_seam}
 use Rattle.line.specs.Line.{overwrite}
 use Rattle.splice.specs.Written.{Put}
 use Rattle.splice.proofs.Laws.{put-overwrite}
@@ -44,17 +44,19 @@ rest_done {old} {whole} {held} {rest} {at} p e =
       holds = ap (sets held at) (sym e) ∙ p.holds;
     }
 
--- what was written from the start on is the front
-pub put_front : {old new held : List ℕ} {next : ℕ} → Put old 0 new next held → next ≤ length old → take next held ≡ new
-put_front {old} {new} {held} {next} p h =
-    let e : next ≡ length new = omega (arith, p.goes) in
-    ap₂ take e (p.holds ∙ sets-eq new old 0 (omega (arith, p.goes))) ∙ take-append_seam new (drop (0 + length new) old)
-
 -- the reader's form, of what was written from the start on
 pub put_whole : {old new held : List ℕ} {next : ℕ} → Put old 0 new next held → next ≤ length old → (next ≡ length new) × (held ≡ overwrite old 0 new)
 put_whole {old} {new} {held} {next} p h = (omega (arith, p.goes), put-overwrite p (omega (arith, p.goes)))
 
--- so it lies inside: a caller that takes as many octets from the front has them
+-- so it is the front
+pub front_written : (old new held : List ℕ) (n : ℕ) → n ≡ length new → held ≡ overwrite old 0 new → take n held ≡ new
+unfolding overwrite
+front_written old new held n e h = ap₂ take e h ∙ take-append_seam new (drop (0 + length new) old)
+
+pub put_front : {old new held : List ℕ} {next : ℕ} → Put old 0 new next held → next ≤ length old → take next held ≡ new
+put_front {old} {new} {held} {next} p h = let w = put_whole p h in front_written old new held next w.0 w.1
+
+-- and lies inside: a caller that takes as many octets from the front has them
 pub front-inside : (old new held : List ℕ) (n : ℕ) → n ≡ length new → held ≡ overwrite old 0 new → n ≤ length held
 unfolding overwrite
 front-inside old new held n e h = rw (h, length-append) (omega arith)

@@ -1,10 +1,11 @@
 -- The parts of a text, one after the other, as a writer gets them. Assumes nothing.
-use Rattle.std.proofs.Common.{◌≡◌, ◌≢◌, ℕ, ◌+◌, ◌≤◌, List, ◌++◌, Option, length, take, drop, take-append-drop, take_all, take-add, sym, ap, ap₂, ◌∙◌, subst, arith}
+use Rattle.std.proofs.Common.{◌≡◌, ◌≢◌, ℕ, ◌+◌, ◌≤◌, List, ◌++◌, Option, length, take, drop, take-append-drop, take_all, take-add, sym, ap, ◌∙◌, subst, arith}
 use Rattle.std.proofs.Math.Seq.{take-append_seam}
 use Rattle.std.specs.Io.KnownBytes.{Appends}
 use Rattle.std.proofs.KnownBytes.{Appends-trans}
 use Rattle.line.specs.Line.{overwrite}
 use Rattle.printing.specs.Parts.{part}
+use Rattle.printing.proofs.Puts.{front_written}
 use Rattle.printing.proofs.Shows.{part-long}
 
 -- a part is as long as it is
@@ -17,11 +18,6 @@ part_itself room from text =
 front_more : (room from k : ℕ) (text : List ℕ) → k ≡ length (part room from text) → take (from + k) text ≡ take from text ++ part room from text
 front_more room from k text e =
     take-add from k text ∙ ap (λ (l : List ℕ). take from text ++ l) (ap (λ (n : ℕ). take n (drop from text)) e ∙ part_itself room from text)
-
--- what was written over the front of a buffer
-front_written : (old new held : List ℕ) (k : ℕ) → k ≡ length new → held ≡ overwrite old 0 new → take k held ≡ new
-unfolding overwrite
-front_written old new held k e h = ap₂ take e h ∙ take-append_seam new (drop (0 + length new) old)
 
 -- a writer that got the front of a text gets the part behind it, out of the buffer
 pub writes_more : (a b c : Option (List ℕ)) (room from k : ℕ) (text old held : List ℕ) → k ≡ length (part room from text) → held ≡ overwrite old 0 (part room from text)
