@@ -68,17 +68,17 @@ EXPORTS = "fenhamper_c"  # its functions are those of another crate, with the sa
 
 
 def sources(programs):
-    """The code of libraries, or of programs."""
+    """The code of libraries, or of programs, without tests."""
     names = "main.rt" if programs else "lib.rt"
     crates = [path.parent for path in sorted(root.glob(f"crates/*/src/{names}"))]
-    return {path: lines(path.read_text(), "//") for crate in crates for path in sorted(crate.glob("*.rt"))}
+    return {path: lines(path.read_text(), "//") for crate in crates for path in sorted(crate.glob("*.rt")) if path.name != "tests.rt"}
 
 
 def contracts():
-    """The lines of the contracts of public functions."""
+    """How many public functions there are, and the lines of their contracts; one of a single line, up to its `{`, has none."""
     text = "\n".join("\n".join(code) for path, code in sources(False).items() if path.parent.parent.name != EXPORTS)
-    public = re.findall(r"^pub fn \w+.*?^\{", text, re.M | re.S)
-    clauses = "\n".join(re.sub(r"\A.*?(?=^ +(?:requires|ensures))", "", one, flags=re.M | re.S) for one in public)
+    public = re.findall(r"^pub fn (?:[^\n]*\{$|\w+.*?^\{)", text, re.M | re.S)
+    clauses = "\n".join(re.sub(r"\A.*?(?=^ +(?:requires|ensures))", "", one, flags=re.M | re.S) for one in public if "\n" in one)
     return len(public), len([line for line in clauses.split("\n") if line.strip() not in ("", "{")])
 
 

@@ -19,6 +19,7 @@ use splice::put;
 use station::{Address, Flow, Outcome, Settings};
 use std::io;
 use std::io::{Read, Write};
+use std::marker::PhantomData;
 
 // ---- writers: each gives the place behind what it wrote, and asks for the room; those that are public are so for this repository's crates only
 
@@ -345,7 +346,7 @@ impl Program for Readings {
 
 // A whole program: reads its input, and writes all that it prints of it, part by part: a part that does not fill the room is the last. One octet more
 // than the longest input is read, so that a longer one shows. After an `Err` some may have been read or written.
-pub fn run<P: Program, R: Read, W: Write>(reader: &mut R, writer: &mut W) -> io::Result<()>
+pub fn run_into<P: Program, R: Read, W: Write>(reader: &mut R, writer: &mut W) -> io::Result<()>
     ensures { OnOk result (Ran P.text (R.remaining reader.old) (R.remaining reader.new) (W.contents writer.old) (W.contents writer.new)) }
 {
     let mut input = [0u8; 65537];
@@ -360,3 +361,59 @@ pub fn run<P: Program, R: Read, W: Write>(reader: &mut R, writer: &mut W) -> io:
     }
     Ok(())
 }
+
+// ---- the same of any `Output`, over any `Print`
+
+// A text as a program: each part as `print_part` gives it.
+struct Parts<P> {
+    of: PhantomData<P>,
+}
+
+impl<P: Output> Output for Parts<P> {
+    ghost text = { P.text };
+
+    ghost most = { P.most };
+
+    ghost told_bad = { P.told_bad };
+
+    ghost bounded = { P.bounded };
+
+    fn show_good(input: &[u8], from: usize, out: &mut [u8]) -> usize {
+        P::show_good(input, from, out)
+    }
+}
+
+impl<P: Output> Program for Parts<P> {
+    fn print(input: &[u8], from: usize, out: &mut [u8; 131072]) -> usize {
+        print_part::<P>(input, from, out)
+    }
+}
+
+// A `Print` as a writer: what it is given, nobody knows.
+#[derive(Drop)]
+struct Printed<'a, T> {
+    output: &'a T,
+}
+
+impl<'a, T: Print> Write for Printed<'a, T> {
+    fn write(&mut self, buf: &[u8]) -> io::Result<usize> {
+        self.output.write_some(buf)
+    }
+
+    fn flush(&mut self) -> io::Result<()> {
+        Ok(())
+    }
+
+    fn write_all(&mut self, buf: &[u8]) -> io::Result<()> {
+        self.output.write_all(buf)
+    }
+}
+
+// A whole program over a `Print`, such as the runtime itself: it is given each part whole, one after the other. No clause, since none can name an
+// `impl Read` or an `impl Print`.
+pub fn run<P: Output>(reader: &mut impl Read, output: &impl Print) -> io::Result<()> {
+    run_into::<Parts<P>, _, _>(reader, &mut Printed { output })
+}
+
+#[cfg(test)]
+mod tests;

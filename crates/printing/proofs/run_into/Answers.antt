@@ -5,7 +5,7 @@ use Rattle.std.proofs.KnownBytes.{Appends-nil}
 use Rattle.printing.proofs.Puts.{front-inside}
 use Rattle.printing.proofs.Shows.{part-inside}
 use Rattle.printing.proofs.Runs.{writes_more, last_ends, writes_all}
-use Rattle.printing.proofs.run.Goals as goal
+use Rattle.printing.proofs.run_into.Goals as goal
 
 pub slice_bounds-out-end : goal.slice_bounds-out-end
 slice_bounds-out-end g c = let p = c.print-k.ensures in front-inside _ _ _ _ p.value p.out_after

@@ -2,7 +2,7 @@
 -- left, and the part before.
 use Rattle.std.proofs.Common.{◌≢◌, ◌+◌, ◌-◌, ◌≤◌, length, take}
 use Rattle.std.specs.Io.KnownBytes.{Appends}
-use Rattle.printing.proofs.run.Given as goal
+use Rattle.printing.proofs.run_into.Given as goal
 
 abbrev pub invariant-loop-k : goal.invariant-loop-k
 invariant-loop-k g l =
